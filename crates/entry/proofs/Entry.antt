@@ -1,0 +1,110 @@
+-- Entries by masks are entries by arithmetic, what the fields of a made entry are, and what the indices of an address say of it.
+use Prim.Native.Nat.{ℕ, zero, suc, _+_, _*_, _/_, _%_, _^_, _<_}
+use mathlib.Core.Path.{_≡_, refl, sym, _∙_, ap, ap₂}
+use mathlib.Core.Bool.{Bool, true, false}
+use native.Mathlib.Nat.{add-zero}
+use native.Mathlib.Omega.{arith}
+use lib.Dec.{eqb, lit<}
+use lib.ListN.{length, getD}
+use lib.Bits.{bitAnd, bitOr, and-high, or-block, or-zero-l, or-shifted-r}
+use lib.Pow.{pow-pos, mod-pow-add, shr-shr}
+use Rattle.bits.specs.Bit.{one, bit, flag}
+use Rattle.bits.proofs.Single.{bit-zero}
+use Rattle.entry.specs.Entry.{frameOf, addrOf, entryOf, hugeEntryOf, index, indices}
+
+-- a choice as a bit
+pub one-lt : (t : Bool) → one t < 2
+one-lt true = lit< tt
+one-lt false = lit< tt
+
+pub flag-is : (k e : ℕ) (t : Bool) → bit k e ≡ one t → flag k e ≡ t
+flag-is k e true h = ap (λ (n : ℕ). eqb n 1) h
+flag-is k e false h = ap (λ (n : ℕ). eqb n 1) h
+
+-- ADDR_MASK
+abbrev pub addrMask : ℕ
+addrMask = 0x000F_FFFF_FFFF_F000
+
+pub addr-mask : (x : ℕ) → bitAnd x addrMask ≡ addrOf x
+addr-mask x = and-high x 40 12
+
+-- the masked address joined with a word whose bits 12 to 62 are clear is a sum
+pub joined : (x f : ℕ) → f % 2 ^ 63 < 2 ^ 12 → bitOr (bitAnd x addrMask) f ≡ addrOf x + f
+joined x f h =
+    let low : ℕ = f % 2 ^ 63 in
+    let high : ℕ = f / 2 ^ 63 in
+    let a : bitAnd x addrMask ≡ frameOf x * 2 ^ 12 + 0 = addr-mask x ∙ sym (add-zero (addrOf x)) in
+    let b : f ≡ high * 2 ^ 51 * 2 ^ 12 + low = omega arith in
+    let above : bitOr (frameOf x) (high * 2 ^ 51) ≡ high * 2 ^ 51 + frameOf x = or-shifted-r high 51 (frameOf x) (omega arith) in
+    ap₂ bitOr a b ∙ or-block 12 (frameOf x) (high * 2 ^ 51) 0 low (pow-pos 12) h ∙ rw (above, or-zero-l low) (omega arith)
+
+-- the same for the flags of two choices beside those in b
+pub joined-flags : (x f b : ℕ) (w u : Bool) → f ≡ b + 2 * one w + 4 * one u → b < 256 → bitOr (bitAnd x addrMask) f ≡ addrOf x + (b + 2 * one w + 4 * one u)
+joined-flags x f b w u e h = rw e (joined x (b + 2 * one w + 4 * one u) (omega (arith, one-lt w, one-lt u)))
+
+-- the address field is a whole number of frames
+pub frame-of-addr : (e : ℕ) → addrOf e / 4096 ≡ frameOf e
+frame-of-addr e = omega arith
+
+-- the frame at an address of 52 bits
+pub frame-of-place : (f : ℕ) → f < 2 ^ 40 → frameOf (f * 2 ^ 12) ≡ f
+frame-of-place f h = omega arith
+
+-- an empty entry has no flag
+pub flag-zero : (k : ℕ) → flag k 0 ≡ false
+flag-zero k = ap (λ (n : ℕ). eqb n 1) (bit-zero k)
+
+-- The fields of a word that maps address a: present, the two choices, HUGE or not, and the address's frame.
+pub record Maps (e a : ℕ) (w u h : Bool) : Type 0 where
+  pub present : flag 0 e ≡ true
+  pub writable : flag 1 e ≡ w
+  pub user : flag 2 e ≡ u
+  pub huge : flag 7 e ≡ h
+  pub frame : frameOf e ≡ frameOf a
+
+maps : (a : ℕ) (w u h : Bool) → Maps (addrOf a + (128 * one h + 1 + 2 * one w + 4 * one u)) a w u h
+maps a w u h =
+    let e : ℕ = addrOf a + (128 * one h + 1 + 2 * one w + 4 * one u) in
+    let ow : one w < 2 = one-lt w in
+    let ou : one u < 2 = one-lt u in
+    let oh : one h < 2 = one-lt h in
+    record {
+      present = flag-is 0 e true (omega arith);
+      writable = flag-is 1 e w (omega arith);
+      user = flag-is 2 e u (omega arith);
+      huge = flag-is 7 e h (omega arith);
+      frame = omega arith;
+    }
+
+pub maps-entry : (a : ℕ) (w u : Bool) → Maps (entryOf a w u) a w u false
+maps-entry a w u = maps a w u false
+
+pub maps-huge : (a : ℕ) (w u : Bool) → Maps (hugeEntryOf a w u) a w u true
+maps-huge a w u = maps a w u true
+
+-- the frame that an entry for frame f names is f
+pub frame-entry : (f : ℕ) (w u : Bool) → f < 2 ^ 40 → frameOf (entryOf (f * 2 ^ 12) w u) ≡ f
+frame-entry f w u h = maps-entry (f * 2 ^ 12) w u .frame ∙ frame-of-place f h
+
+-- each index of an address is below 512
+pub indices-lt : (n v k : ℕ) → getD (indices n v) k 0 < 512
+indices-lt zero v k = lit< tt
+indices-lt (suc n) v zero = omega arith
+indices-lt (suc n) v (suc k) = indices-lt n v k
+
+pub length-indices : (n v : ℕ) → length (indices n v) ≡ n
+length-indices zero v = refl
+length-indices (suc n) v = ap suc (length-indices n v)
+
+-- the low bits of a page number, put together from the indices
+page-of : (n v : ℕ) → v / 2 ^ 12 % 2 ^ (9 + 9 * n) ≡ index n v * 2 ^ (9 * n) + v / 2 ^ 12 % 2 ^ (9 * n)
+page-of n v = mod-pow-add (v / 2 ^ 12) 9 (9 * n) ∙ rw (shr-shr v 12 (9 * n))
+
+-- the indices say which page it is
+pub indices-inj : (n v v′ : ℕ) → indices n v ≡ indices n v′ → v / 2 ^ 12 % 2 ^ (9 * n) ≡ v′ / 2 ^ 12 % 2 ^ (9 * n)
+indices-inj zero v v′ h = omega arith
+indices-inj (suc n) v v′ h =
+    let top : index n v ≡ index n v′ = cc in
+    let rest : v / 2 ^ 12 % 2 ^ (9 * n) ≡ v′ / 2 ^ 12 % 2 ^ (9 * n) = indices-inj n v v′ (cc) in
+    let width : 9 * suc n ≡ 9 + 9 * n = omega arith in
+    rw width (page-of n v ∙ rw (top, rest) (sym (page-of n v′)))

@@ -1,0 +1,39 @@
+// Page-table entries: 64-bit words of a masked address joined with flag bits.
+pub mod page_handler;
+pub mod paging;
+
+use address::VirtAddr;
+ghost use mathlib.Core.Path.{_≡_};
+ghost use Prim.Native.Nat.{ℕ, _<_};
+ghost use lib.ListN.{getD};
+ghost use Rattle.entry.specs.Entry.{indices, entryOfTable};
+use paging::PageTableEntry;
+
+// A table's entry by index.
+pub enum EntryAnswer {
+    AtEntry(PageTableEntry),
+    NoEntry(u64),
+}
+
+// A page address's four indices, the top level's first: bits 47-39, 38-30, 29-21, 20-12.
+pub fn page_indices(virt: VirtAddr) -> [usize; 4]
+    ensures { λ r. ⌜ r ≡ indices 4 (virt .0) ⌝ }
+    ensures { λ r. ⌜ ((k : ℕ) → getD r k 0 < 512) ⌝ }
+{
+    let addr = virt.0;
+    [
+        ((addr >> 39) & 0x1FF) as usize,
+        ((addr >> 30) & 0x1FF) as usize,
+        ((addr >> 21) & 0x1FF) as usize,
+        ((addr >> 12) & 0x1FF) as usize,
+    ]
+}
+
+pub fn get_entry(table: &[u64; 512], index: usize) -> EntryAnswer
+    ensures { λ r. ⌜ r ≡ entryOfTable (now (table .entry)) index ⌝ }
+{
+    if index < 512 {
+        return EntryAnswer::AtEntry(PageTableEntry(table[index]));
+    }
+    EntryAnswer::NoEntry(answer::NOT_MAPPED)
+}

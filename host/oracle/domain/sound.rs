@@ -1,0 +1,37 @@
+//! Which records document 01 does not answer with 10.
+
+use crate::state::{State, BITMAP_WORDS, SLOTS};
+use crate::{LAST, PAGE};
+
+/// The highest frame number plus one: physical addresses have 52 bits.
+const FRAMES_END: u64 = 1 << 40;
+
+/// Whether the parts are large enough to be read at all.
+pub fn has_shape(state: &State) -> bool {
+    state.total <= BITMAP_WORDS as u64 * 64
+        && state.words.len() as u64 >= state.total * 512
+        && state.vmalloc_count <= SLOTS
+}
+
+/// Whether no part of the record is broken. Slots past the vmalloc count are left out:
+/// that they are zero is an addition, and the Rust leaves old regions there.
+pub fn is_sound(state: &State) -> bool {
+    has_shape(state)
+        && state.start_frame.checked_add(state.total).is_some_and(|end| end <= FRAMES_END)
+        && state.lent(state.root).is_some()
+        && state.allocated == state.marked_frames()
+        && state.vmalloc().iter().all(|slot| is_region(slot.start, slot.size))
+        && state.regions.len() <= SLOTS
+        && state.regions.is_sorted_by(|a, b| a.start < b.start)
+        && state.regions.iter().all(|region| is_region(region.start, region.size))
+        && state.next_addr.is_multiple_of(PAGE)
+        && state.marked.len() <= SLOTS
+        && state.marked.is_sorted_by(|a, b| a < b)
+}
+
+/// Aligned, not empty, and ending at or below the last page address.
+fn is_region(start: u64, size: u64) -> bool {
+    let end = start.checked_add(size);
+    let aligned = start.is_multiple_of(PAGE) && size.is_multiple_of(PAGE);
+    aligned && size > 0 && end.is_some_and(|end| end <= LAST)
+}
