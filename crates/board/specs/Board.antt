@@ -1,0 +1,60 @@
+-- The board, all of its parts together, and its start.
+use Prim.Native.Nat.{ℕ, _+_, _-_, _*_, _/_}
+use mathlib.Core.Bool.{Bool, true, false}
+use mathlib.Core.List.{List, [], _∷_, _++_}
+use lib.Dec.{leb, eqb}
+use lib.ListN.{length, replicate}
+use Rattle.bits.specs.Bit.{pick}
+use Rattle.answer.specs.Numbers.{brokenRecord, noFreeFrame}
+use Rattle.answer.specs.declared.Answer.{Answer}
+use Rattle.answer.specs.declared.Answer.the-variants.{Met, Refused}
+use Rattle.frame.specs.Frames.{Frames, init, withMark}
+use Rattle.paging.specs.declared.Walked.{Walked}
+use Rattle.paging.specs.declared.Walked.the-variants.{At, Stop}
+use Rattle.paging.specs.Map.{Memory, memory, startOf, totalOf, zeroFrame}
+use Rattle.slots.specs.Slots.{Slots}
+use Rattle.vmalloc.specs.Regions.{window}
+use Rattle.vmalloc.specs.Regions.{noSlot as noVmSlot}
+use Rattle.vmalloc.specs.declared.VMRegion.{VMRegion}
+use Rattle.mmap.specs.Regions.{userStart}
+use Rattle.mmap.specs.Regions.{noSlot as noMmapSlot}
+use Rattle.mmap.specs.declared.MappedRegion.{MappedRegion}
+
+-- the lent words with the frame allocator, the root's frame number, the vmalloc list, the mmap list with next_addr, and the copy-on-write pages
+pub record Board : Type 0 where
+  pub mem : Memory
+  pub root : ℕ
+  pub kernel : Slots VMRegion
+  pub user : Slots MappedRegion
+  pub next : ℕ
+  pub marked : Slots ℕ
+
+pub record Did : Type 0 where
+  pub answer : Walked
+  pub board : Board
+
+abbrev pub did : Walked → Board → Did
+did a b = record { answer = a; board = b }
+
+-- the board once the allocator fr is ready: the lowest frame is the root, zeroed; the window is one free region; the other lists are empty, all their slots zero
+abbrev pub begun : Board → Frames → Board
+begun b fr = record {
+  mem = memory (zeroFrame (b .mem .words) (fr .fa .start) (fr .fa .start)) (withMark fr 0);
+  root = fr .fa .start;
+  kernel = record { slots = window ∷ replicate 255 noVmSlot; count = 1 };
+  user = record { slots = replicate 256 noMmapSlot; count = 0 };
+  next = userStart;
+  marked = record { slots = replicate 256 0; count = 0 };
+}
+
+-- 'runs `FrameAllocator::init`, takes the lowest frame as root (11 if total is 0), zeroes it, and makes the vmalloc window one free region'; 10 also for 'fewer lent
+-- words than total × 512'. A refused start changes nothing
+abbrev pub ready : Board → Answer → Frames → Did
+ready b (Refused n) fr = did (Stop n) b
+ready b Met fr =
+    pick (leb (fr .fa .total * 512) (length (b .mem .words)))
+    (pick (eqb (fr .fa .total) 0) (did (Stop noFreeFrame) b) (did (At 0) (begun b fr)))
+    (did (Stop brokenRecord) b)
+
+unfoldable pub start : Board → ℕ → ℕ → Did
+start b from to = ready b (init (b .mem .frames) from to .answer) (init (b .mem .frames) from to .frames)

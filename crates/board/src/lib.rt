@@ -1,0 +1,1 @@
+// The board: all that is lent to a run of calls, and its start.

@@ -1,0 +1,109 @@
+// Steps on a record that was tested: callers that take or give many frames test it once.
+use crate::Allocated;
+use crate::Found;
+use crate::FrameAllocator;
+use crate::Given;
+use address::Frame;
+use address::FrameAnswer;
+ghost use mathlib.Core.Path.{_≡_};
+ghost use Prim.Native.Nat.{_+_, _-_, _^_, _<_, _≤_};
+ghost use Rattle.bitmap.specs.Bitmap.{marked};
+ghost use Rattle.frame.specs.Frames.{frames as framesOf, inside, withMark, Held, frameMarked, markFrame, takeFrame, giveFrame};
+ghost use Rattle.frame.specs.Results.{allocated as allocatedOf, given as givenOf};
+
+// Whether frame `number` is one of the `total` from `start` on: one comparison, since a difference that wraps is at least `total`.
+pub fn is_inside(start: u64, total: u64, number: u64) -> bool
+    requires { ⌜ start + total ≤ 2 ^ 64 ⌝ }
+    ensures { λ r. ⌜ r ≡ inside start total number ⌝ }
+{
+    std::num::wrapping_sub_u64(number, start) < total
+}
+
+pub fn frame_marked(bitmap: &[u64; 128], frames: FrameAllocator, number: u64) -> bool
+    requires { ⌜ Held frames 0 ⌝ }
+    ensures { λ r. ⌜ r ≡ frameMarked (framesOf (now (bitmap .entry)) frames) number ⌝ }
+{
+    if !is_inside(frames.start, frames.total, number) {
+        return true;
+    }
+    bitmap::is_marked(bitmap, (number - frames.start) as usize)
+}
+
+// The free frame at slot i, marked and counted.
+fn mark_slot(bitmap: &mut [u64; 128], mut frames: FrameAllocator, i: usize) -> FrameAllocator
+    requires { ⌜ i < 8192 ⌝ }
+    requires { ⌜ marked (now bitmap) i ≡ 0 ⌝ }
+    requires { ⌜ Held frames 1 ⌝ }
+    ensures { λ r. ⌜ r ≡ withMark (framesOf (now (bitmap .entry)) frames) i .fa ⌝ }
+    ensures { λ r. ⌜ now (bitmap .exit) ≡ withMark (framesOf (now (bitmap .entry)) frames) i .bits ⌝ }
+{
+    bitmap::mark(bitmap, i);
+    frames.allocated += 1;
+    frames
+}
+
+pub fn mark_frame(bitmap: &mut [u64; 128], frames: FrameAllocator, number: u64) -> FrameAllocator
+    requires { ⌜ Held frames 1 ⌝ }
+    ensures { λ r. ⌜ r ≡ markFrame (framesOf (now (bitmap .entry)) frames) number .fa ⌝ }
+    ensures { λ r. ⌜ now (bitmap .exit) ≡ markFrame (framesOf (now (bitmap .entry)) frames) number .bits ⌝ }
+{
+    if frame_marked(bitmap, frames, number) {
+        return frames;
+    }
+    mark_slot(bitmap, frames, (number - frames.start) as usize)
+}
+
+pub fn take_frame(bitmap: &mut [u64; 128], frames: FrameAllocator) -> Allocated
+    requires { ⌜ Held frames 1 ⌝ }
+    ensures { λ r. ⌜ r ≡ allocatedOf (takeFrame (framesOf (now (bitmap .entry)) frames)) ⌝ }
+    ensures { λ r. ⌜ now (bitmap .exit) ≡ takeFrame (framesOf (now (bitmap .entry)) frames) .frames .bits ⌝ }
+{
+    let total = frames.total as usize;
+    let i = bitmap::lowest_free(bitmap, total);
+    if i >= total {
+        return Allocated {
+            answer: FrameAnswer::NoFrame(answer::NO_FREE_FRAME),
+            frames,
+        };
+    }
+    Allocated {
+        answer: FrameAnswer::AtFrame(Frame(frames.start + i as u64)),
+        frames: mark_slot(bitmap, frames, i),
+    }
+}
+
+pub fn give_frame(bitmap: &mut [u64; 128], mut frames: FrameAllocator, frame: Frame) -> Given
+    requires { ⌜ Held frames 0 ⌝ }
+    ensures { λ r. ⌜ r ≡ givenOf (giveFrame (framesOf (now (bitmap .entry)) frames) (frame .0)) ⌝ }
+    ensures { λ r. ⌜ now (bitmap .exit) ≡ giveFrame (framesOf (now (bitmap .entry)) frames) (frame .0) .frames .bits ⌝ }
+{
+    if !is_inside(frames.start, frames.total, frame.0) {
+        return Given {
+            found: Found::NotHere,
+            frames,
+        };
+    }
+    let i = (frame.0 - frames.start) as usize;
+    if !bitmap::is_marked(bitmap, i) {
+        return Given {
+            found: Found::AlreadyFree,
+            frames,
+        };
+    }
+    bitmap::unmark(bitmap, i);
+    frames.allocated = one_less(frames.allocated);
+    Given {
+        found: Found::Freed,
+        frames,
+    }
+}
+
+// The source's saturating_sub(1).
+fn one_less(n: u64) -> u64
+    ensures { λ r. ⌜ r ≡ n - 1 ⌝ }
+{
+    if n == 0 {
+        return 0;
+    }
+    n - 1
+}

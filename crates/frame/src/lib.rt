@@ -1,0 +1,195 @@
+// The frame allocator of frame.rs: a small record beside the bitmap words lent to it. Each call tests the record first and answers 10 if it is broken.
+pub mod inner;
+
+use address::Frame;
+use address::FrameAnswer;
+use answer::Answer;
+use answer::CountAnswer;
+use answer::FlagAnswer;
+ghost use mathlib.Core.Path.{_≡_};
+ghost use Prim.Native.Nat.{min};
+ghost use Rattle.frame.specs.Frames.{frames as framesOf, sound, init as initOf, isAllocated, markAllocated, allocate, deallocate, freeFrames, allocatedFrames, totalFrames};
+ghost use Rattle.frame.specs.Results.{changed, allocated as allocatedOf};
+
+pub const FRAME_SIZE: u64 = 4096;
+
+// The most frames that a bitmap tracks.
+pub const MAX_FRAMES: u64 = 8192;
+
+// Frames end at most at address 2^52.
+pub const LAST_FRAME: u64 = 0x100_0000_0000;
+
+// The `total` frames from number `start` on, `allocated` of them marked.
+pub struct FrameAllocator {
+    pub start: u64,
+    pub total: u64,
+    pub allocated: u64,
+}
+
+// An answer beside the record that the call leaves.
+pub struct Changed {
+    pub answer: Answer,
+    pub frames: FrameAllocator,
+}
+
+pub struct Allocated {
+    pub answer: FrameAnswer,
+    pub frames: FrameAllocator,
+}
+
+// What a frame that is given back was found to be.
+pub enum Found {
+    Freed,
+    AlreadyFree,
+    NotHere,
+}
+
+pub struct Given {
+    pub found: Found,
+    pub frames: FrameAllocator,
+}
+
+impl FrameAllocator {
+    pub fn new() -> Self
+        ensures { λ r. ⌜ (r .start ≡ 0) × (r .total ≡ 0) × (r .allocated ≡ 0) ⌝ }
+    {
+        FrameAllocator {
+            start: 0,
+            total: 0,
+            allocated: 0,
+        }
+    }
+
+    // Whether the record is not broken.
+    pub fn is_sound(self, bitmap: &[u64; 128]) -> bool
+        ensures { λ r. ⌜ r ≡ sound (framesOf (now (bitmap .entry)) self) ⌝ }
+    {
+        let total = self.total;
+        if total > MAX_FRAMES {
+            return false;
+        }
+        if self.start > LAST_FRAME - total {
+            return false;
+        }
+        self.allocated == bitmap::count(bitmap, total as usize) as u64
+    }
+
+    pub fn init(self, bitmap: &mut [u64; 128], from: u64, to: u64) -> Changed
+        ensures { λ r. ⌜ r ≡ changed (initOf (framesOf (now (bitmap .entry)) self) from to) ⌝ }
+        ensures { λ r. ⌜ now (bitmap .exit) ≡ initOf (framesOf (now (bitmap .entry)) self) from to .frames .bits ⌝ }
+    {
+        if from > to {
+            return Changed {
+                answer: Answer::Refused(answer::BROKEN_RECORD),
+                frames: self,
+            };
+        }
+        if to > 0x10_0000_0000_0000 {
+            return Changed {
+                answer: Answer::Refused(answer::BROKEN_RECORD),
+                frames: self,
+            };
+        }
+        bitmap::clear_all(bitmap);
+        Changed {
+            answer: Answer::Met,
+            frames: FrameAllocator {
+                start: from / FRAME_SIZE,
+                total: at_most((to - from) / FRAME_SIZE, MAX_FRAMES),
+                allocated: 0,
+            },
+        }
+    }
+
+    pub fn is_allocated(self, bitmap: &[u64; 128], number: u64) -> FlagAnswer
+        ensures { λ r. ⌜ r ≡ isAllocated (framesOf (now (bitmap .entry)) self) number ⌝ }
+    {
+        if !self.is_sound(bitmap) {
+            return FlagAnswer::NoFlag(answer::BROKEN_RECORD);
+        }
+        FlagAnswer::Flag(inner::frame_marked(bitmap, self, number))
+    }
+
+    pub fn mark_allocated(self, bitmap: &mut [u64; 128], number: u64) -> Changed
+        ensures { λ r. ⌜ r ≡ changed (markAllocated (framesOf (now (bitmap .entry)) self) number) ⌝ }
+        ensures { λ r. ⌜ now (bitmap .exit) ≡ markAllocated (framesOf (now (bitmap .entry)) self) number .frames .bits ⌝ }
+    {
+        if !self.is_sound(bitmap) {
+            return Changed {
+                answer: Answer::Refused(answer::BROKEN_RECORD),
+                frames: self,
+            };
+        }
+        Changed {
+            answer: Answer::Met,
+            frames: inner::mark_frame(bitmap, self, number),
+        }
+    }
+
+    pub fn allocate_frame(self, bitmap: &mut [u64; 128]) -> Allocated
+        ensures { λ r. ⌜ r ≡ allocatedOf (allocate (framesOf (now (bitmap .entry)) self)) ⌝ }
+        ensures { λ r. ⌜ now (bitmap .exit) ≡ allocate (framesOf (now (bitmap .entry)) self) .frames .bits ⌝ }
+    {
+        if !self.is_sound(bitmap) {
+            return Allocated {
+                answer: FrameAnswer::NoFrame(answer::BROKEN_RECORD),
+                frames: self,
+            };
+        }
+        inner::take_frame(bitmap, self)
+    }
+
+    pub fn deallocate_frame(self, bitmap: &mut [u64; 128], frame: Frame) -> Changed
+        ensures { λ r. ⌜ r ≡ changed (deallocate (framesOf (now (bitmap .entry)) self) (frame .0)) ⌝ }
+        ensures { λ r. ⌜ now (bitmap .exit) ≡ deallocate (framesOf (now (bitmap .entry)) self) (frame .0) .frames .bits ⌝ }
+    {
+        if !self.is_sound(bitmap) {
+            return Changed {
+                answer: Answer::Refused(answer::BROKEN_RECORD),
+                frames: self,
+            };
+        }
+        let given = inner::give_frame(bitmap, self, frame);
+        let left = given.frames;
+        Changed {
+            answer: Answer::Met,
+            frames: left,
+        }
+    }
+
+    pub fn free_frames(self, bitmap: &[u64; 128]) -> CountAnswer
+        ensures { λ r. ⌜ r ≡ freeFrames (framesOf (now (bitmap .entry)) self) ⌝ }
+    {
+        if !self.is_sound(bitmap) {
+            return CountAnswer::NoCount(answer::BROKEN_RECORD);
+        }
+        CountAnswer::Count(self.total - self.allocated)
+    }
+
+    pub fn allocated_frames(self, bitmap: &[u64; 128]) -> CountAnswer
+        ensures { λ r. ⌜ r ≡ allocatedFrames (framesOf (now (bitmap .entry)) self) ⌝ }
+    {
+        if !self.is_sound(bitmap) {
+            return CountAnswer::NoCount(answer::BROKEN_RECORD);
+        }
+        CountAnswer::Count(self.allocated)
+    }
+
+    pub fn total_frames(self, bitmap: &[u64; 128]) -> CountAnswer
+        ensures { λ r. ⌜ r ≡ totalFrames (framesOf (now (bitmap .entry)) self) ⌝ }
+    {
+        if !self.is_sound(bitmap) {
+            return CountAnswer::NoCount(answer::BROKEN_RECORD);
+        }
+        CountAnswer::Count(self.total)
+    }
+}
+
+fn at_most(n: u64, limit: u64) -> u64
+    ensures { λ r. ⌜ r ≡ min n limit ⌝ }
+{
+    if n > limit {
+        return limit;
+    }
+    n
+}

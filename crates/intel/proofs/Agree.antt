@@ -1,0 +1,231 @@
+-- This project's `translate` is Intel's 4-level paging: for canonical addresses, over tables with no HUGE entry, while the walk stays in lent frames. The
+-- statements come first, with the definitions that they name. What leads to them stands below, and that they are not empty in Examples.antt.
+use Prim.Native.Nat.{ℕ, zero, suc, _+_, _*_, _%_, _^_, _<_, _≤_}
+use mathlib.Core.Path.{_≡_, refl, sym, _∙_, ap}
+use mathlib.Core.Bool.{Bool, true, false, true≢false}
+use mathlib.Core.List.{List, [], _∷_}
+use mathlib.Core.Logic.{_⊎_, _↔_, ⊎-elim}
+use native.Mathlib.Omega.{arith}
+use lib.ListN.{length, getD, take}
+use Rattle.bits.specs.Bit.{flag}
+use Rattle.answer.specs.Numbers.{notMapped, outside}
+use Rattle.entry.specs.Entry.{frameOf, addrOf, index, indices}
+use Rattle.frame.specs.Frames.{inside}
+use Rattle.paging.specs.declared.Walked.{Walked}
+use Rattle.paging.specs.declared.Walked.the-variants.{At, Stop}
+use Rattle.paging.specs.declared.Leaf.{Leaf}
+use Rattle.paging.specs.Walk.{place, entryAt, reach, judge, leaf, address, lent}
+use Rattle.paging.specs.Calls.{translate}
+use Rattle.paging.proofs.Walk.{present-yes, present-no, entry-out, entry-in, reach-end, reach-stop, reach-on, leaf-stop, leaf-on}
+use Rattle.paging.proofs.Calls.{translate-is}
+use Rattle.intel.specs.Sdm.{bits, Memory, Translation, physical, notPresent, reserved, large, choose, p, ps, pageAt, throughPte, throughPde, throughPdpte, throughPml4e, canonical, linear}
+use Rattle.intel.proofs.Steps.{no-address, not-outside, judge-plain, entry-outcomes, leaf-plain, outcomes}
+
+-- ---- what the statements name
+
+-- Physical memory holds the lent words: entry i of lent frame t stands at address t × 4096 + i × 8.
+pub record Holds (mem : Memory) (ws : List ℕ) (start total : ℕ) : Type 0 where
+  pub word : (t i : ℕ) → inside start total t ≡ true → i < 512 → mem (t * 2 ^ 12 + i * 2 ^ 3) ≡ getD ws (place start t i) 0
+
+-- No HUGE entry: a table to which fewer than `up` indices lead from the root has no present entry with bit 7. With 3 these are all tables above the last level.
+pub record NoHuge (ws : List ℕ) (start total up root : ℕ) : Type 0 where
+  pub plain : (is : List ℕ) (t i e : ℕ) → length is < up → reach ws start total root is ≡ At t → entryAt ws start total t i ≡ At e → flag 7 e ≡ false
+
+-- The manual's word for our answer.
+abbrev pub verdict : Walked → Translation
+verdict (At a) = physical a
+verdict (Stop n) = notPresent
+
+-- What the statements ask: a record that is not broken (10), CR3 that names the root, memory that holds the words, no HUGE entry, and a canonical address.
+pub record Setting (mem : Memory) (cr3 : ℕ) (ws : List ℕ) (start total root v : ℕ) : Type 0 where
+  pub whole : lent (length ws) start total root ≡ true
+  pub base : bits 51 12 cr3 ≡ root
+  pub holds : Holds mem ws start total
+  pub noHuge : NoHuge ws start total 3 root
+  pub form : canonical v ≡ true
+
+-- ---- the statements
+
+-- While the walk stays in lent frames, the manual's outcome is ours.
+abbrev pub Agrees : Type 0
+Agrees =
+    (mem : Memory) (cr3 : ℕ) (ws : List ℕ) (start total root v : ℕ) → Setting mem cr3 ws start total root v
+    → (translate 3 ws start total root v ≡ Stop outside → ⊥)
+    → linear mem cr3 v ≡ verdict (translate 3 ws start total root v)
+
+-- So there we give an address exactly where the manual does, and the same one,
+abbrev pub SamePages : Type 0
+SamePages =
+    (mem : Memory) (cr3 : ℕ) (ws : List ℕ) (start total root v : ℕ) → Setting mem cr3 ws start total root v
+    → (translate 3 ws start total root v ≡ Stop outside → ⊥)
+    → (a : ℕ) → (translate 3 ws start total root v ≡ At a) ↔ (linear mem cr3 v ≡ physical a)
+
+-- and 14, not mapped, exactly where the manual says that an entry is not present.
+abbrev pub SameAbsent : Type 0
+SameAbsent =
+    (mem : Memory) (cr3 : ℕ) (ws : List ℕ) (start total root v : ℕ) → Setting mem cr3 ws start total root v
+    → (translate 3 ws start total root v ≡ Stop outside → ⊥)
+    → (translate 3 ws start total root v ≡ Stop notMapped) ↔ (linear mem cr3 v ≡ notPresent)
+
+-- No other number occurs: on a record that is not broken the answer is an address, 14 or 19, whatever the words are.
+abbrev pub ThreeOutcomes : Type 0
+ThreeOutcomes =
+    (ws : List ℕ) (start total root v : ℕ) → lent (length ws) start total root ≡ true
+    → ((a : ℕ) × (translate 3 ws start total root v ≡ At a))
+    ⊎ (translate 3 ws start total root v ≡ Stop notMapped)
+    ⊎ (translate 3 ws start total root v ≡ Stop outside)
+
+-- It is 19 exactly where the walk comes to a table outside the lent frames, whose entries the words do not hold.
+abbrev pub OffBoard : Type 0
+OffBoard =
+    (ws : List ℕ) (start total root v : ℕ) → lent (length ws) start total root ≡ true → NoHuge ws start total 3 root
+    → (translate 3 ws start total root v ≡ Stop outside)
+    ↔ ((k : ℕ) × (t : ℕ) × (k ≤ 3) × (reach ws start total root (take k (indices 4 v)) ≡ At t) × (inside start total t ≡ false))
+
+-- ---- no HUGE entry in a table, and none below it
+
+module _ (ws : List ℕ) (start total : ℕ) where
+  plain-here : {up t : ℕ} (i e : ℕ) → NoHuge ws start total (suc up) t → entryAt ws start total t i ≡ At e → flag 7 e ≡ false
+  plain-here {up} {t} i e h k = h .plain [] t i e (omega arith) (reach-end ws start total t refl) k
+
+  plain-below : {up t : ℕ} (i e : ℕ) → NoHuge ws start total (suc up) t → entryAt ws start total t i ≡ At e → NoHuge ws start total up (frameOf e)
+  plain-below {up} {t} i e h k = record { plain = λ is s j x l r. h .plain (i ∷ is) s j x (omega arith) (reach-on ws start total t refl e k ∙ r) }
+
+-- ---- one table after the other, from the last level up
+
+-- an outcome of the manual's is one of ours, unless ours is off the board
+abbrev Same : Translation → Walked → Type 0
+Same m w = (w ≡ Stop outside → ⊥) → m ≡ verdict w
+
+module _ (mem : Memory) (ws : List ℕ) (start total v : ℕ) (holds : Holds mem ws start total) where
+  -- At entry i of table t. `through e` is the manual's outcome from an entry e on, and `on e` the one behind it where it is present.
+  step : (through on : ℕ → Translation) (t i : ℕ) (is : List ℕ) → ((e : ℕ) → through e ≡ choose (p e) (on e) notPresent) → i < 512
+      → ((e : ℕ) → entryAt ws start total t i ≡ At e → Same (on e) (address v (judge is e (leaf ws start total (frameOf e) is))))
+      → Same (through (mem (t * 2 ^ 12 + i * 2 ^ 3))) (address v (leaf ws start total t (i ∷ is)))
+  step through on t i is law small behind stays = by-table (inside start total t) refl
+    where
+      w : ℕ
+      w = getD ws (place start t i) 0
+
+      by-flag : inside start total t ≡ true → (x : Bool) → flag 0 w ≡ x → choose x (on w) notPresent ≡ verdict (address v (leaf ws start total t (i ∷ is)))
+      by-flag h true k =
+          let e : entryAt ws start total t i ≡ At w = entry-in ws start total t i h small ∙ present-yes w k in
+          let l : leaf ws start total t (i ∷ is) ≡ judge is w (leaf ws start total (frameOf w) is) = leaf-on ws start total t refl w e in
+          behind w e (λ z. stays (ap (address v) l ∙ z)) ∙ ap (λ (x : Leaf). verdict (address v x)) (sym l)
+      by-flag h false k = rw (leaf-stop ws start total t {is = is} refl notMapped (entry-in ws start total t i h small ∙ present-no w k))
+
+      by-table : (x : Bool) → inside start total t ≡ x → through (mem (t * 2 ^ 12 + i * 2 ^ 3)) ≡ verdict (address v (leaf ws start total t (i ∷ is)))
+      by-table true h = ap through (holds .word t i h small) ∙ law w ∙ by-flag h (flag 0 w) refl
+      by-table false h = absurd (stays (ap (address v) (leaf-stop ws start total t refl outside (entry-out ws start total t i h))))
+
+  -- a page table, whose entries map pages
+  page-table : (t : ℕ) → Same (throughPte v (mem (t * 2 ^ 12 + bits 20 12 v * 2 ^ 3))) (address v (leaf ws start total t (indices 1 v)))
+  unfolding throughPte
+  page-table t =
+      step (throughPte v) _ t (index 0 v) [] (λ e. refl) (omega arith)
+      (λ e _ _. let same : pageAt e v ≡ addrOf e + v % 2 ^ 12 = omega arith in ap physical same)
+
+  -- a table above, n levels over a page table: an entry with bit 7 is `other`, and any other one names a table below, for which the two are the same
+  above : (through below : ℕ → Translation) (other : Translation) (n t : ℕ)
+      → ((e : ℕ) → through e ≡ choose (p e) (choose (ps e) other (below (frameOf e))) notPresent)
+      → ((s : ℕ) → NoHuge ws start total n s → Same (below s) (address v (leaf ws start total s (indices (suc n) v))))
+      → NoHuge ws start total (suc n) t
+      → Same (through (mem (t * 2 ^ 12 + index (suc n) v * 2 ^ 3))) (address v (leaf ws start total t (indices (suc (suc n)) v)))
+  above through below other n t law behind h =
+      step through _ t (index (suc n) v) (indices (suc n) v) law (omega arith) (λ e k.
+      let plain : ps e ≡ false = plain-here ws start total _ e h k in
+      rw (plain, judge-plain (index n v) (indices n v) e _ plain) (behind (frameOf e) (plain-below ws start total _ e h k)))
+
+  directory : (t : ℕ) → NoHuge ws start total 1 t → Same (throughPde mem v (mem (t * 2 ^ 12 + bits 29 21 v * 2 ^ 3))) (address v (leaf ws start total t (indices 2 v)))
+  unfolding throughPde
+  directory t = above (throughPde mem v) (λ s. throughPte v (mem (s * 2 ^ 12 + bits 20 12 v * 2 ^ 3))) large 0 t (λ e. refl) (λ s _. page-table s)
+
+  pointers : (t : ℕ) → NoHuge ws start total 2 t → Same (throughPdpte mem v (mem (t * 2 ^ 12 + bits 38 30 v * 2 ^ 3))) (address v (leaf ws start total t (indices 3 v)))
+  unfolding throughPdpte
+  pointers t = above (throughPdpte mem v) (λ s. throughPde mem v (mem (s * 2 ^ 12 + bits 29 21 v * 2 ^ 3))) large 1 t (λ e. refl) directory
+
+  pml4 : (t : ℕ) → NoHuge ws start total 3 t → Same (throughPml4e mem v (mem (t * 2 ^ 12 + bits 47 39 v * 2 ^ 3))) (address v (leaf ws start total t (indices 4 v)))
+  unfolding throughPml4e
+  pml4 t = above (throughPml4e mem v) (λ s. throughPdpte mem v (mem (s * 2 ^ 12 + bits 38 30 v * 2 ^ 3))) reserved 2 t (λ e. refl) pointers
+
+-- ---- a walk that leaves the board
+
+module _ (ws : List ℕ) (start total v : ℕ) where
+  -- a table outside, along a path
+  abbrev Off : ℕ → List ℕ → Type 0
+  Off t is = (k : ℕ) × (s : ℕ) × (k < length is) × (reach ws start total t (take k is) ≡ At s) × (inside start total s ≡ false)
+
+  abbrev Leaves : ℕ → List ℕ → Type 0
+  Leaves t is = (address v (leaf ws start total t is) ≡ Stop outside) ↔ Off t is
+
+  -- it is not the first table if that is inside
+  off-past : (t i : ℕ) (is : List ℕ) → inside start total t ≡ true → Off t (i ∷ is)
+      → (k : ℕ) × (s : ℕ) × (k < length is) × (reach ws start total t (i ∷ take k is) ≡ At s) × (inside start total s ≡ false)
+  off-past t i is h (zero, s, l, r, o) =
+      let e : At t ≡ At s = sym (reach-end ws start total t refl) ∙ r in
+      let same : t ≡ s = cc in
+      absurd (true≢false (sym h ∙ ap (inside start total) same ∙ o))
+  off-past t i is h (suc k, s, l, r, o) = (k, s, omega arith, r, o)
+
+  -- by the first entry, given the case that it is present
+  off-entry : (t i : ℕ) (is : List ℕ) → (inside start total t ≡ true → (w : ℕ) → entryAt ws start total t i ≡ At w → Leaves t (i ∷ is)) → Leaves t (i ∷ is)
+  off-entry t i is there =
+      entry-outcomes ws start total t i (λ (w : Walked). entryAt ws start total t i ≡ w → Leaves t (i ∷ is))
+      (λ h e. (λ _. (0, t, omega arith, reach-end ws start total t refl, h), λ _. ap (address v) (leaf-stop ws start total t refl outside e)))
+      (λ h e. (
+        λ z. absurd (not-outside (sym (ap (address v) (leaf-stop ws start total t refl notMapped e)) ∙ z)),
+        λ o. let q = off-past t i is h o in absurd (no-address (sym (q .3) ∙ reach-stop ws start total t refl notMapped e)),
+      ))
+      (λ h. there h (getD ws (place start t i) 0))
+      refl
+
+  off : (i : ℕ) (is : List ℕ) (t : ℕ) → NoHuge ws start total (length is) t → Leaves t (i ∷ is)
+  off i [] t _ =
+      off-entry t i [] (λ h w e. (
+        λ z. absurd (no-address (sym (ap (address v) (leaf-on ws start total t refl w e)) ∙ z)),
+        λ o. let q = off-past t i [] h o in absurd (omega (arith, q .2)),
+      ))
+  off i (j ∷ js) t n =
+      off-entry t i (j ∷ js) (λ h w e.
+      let same : address v (leaf ws start total t (i ∷ j ∷ js)) ≡ _ = ap (address v) (leaf-plain ws start total t i j js w e (plain-here ws start total i w n e)) in
+      let next : Leaves (frameOf w) (j ∷ js) = off j js (frameOf w) (plain-below ws start total i w n e) in (
+        λ z. let q = next .0 (sym same ∙ z) in (suc (q .0), q .1, omega (arith, q .2), reach-on ws start total t refl w e ∙ q .3, q .4),
+        λ o. let q = off-past t i (j ∷ js) h o in same ∙ next .1 (q .0, q .1, q .2, sym (reach-on ws start total t refl w e) ∙ q .3, q .4),
+      ))
+
+-- ---- the proofs
+
+pub agrees : Agrees
+unfolding linear
+agrees mem cr3 ws start total root v h stays =
+    let ours : translate 3 ws start total root v ≡ address v (leaf ws start total root (indices 4 v)) = translate-is 3 ws start total root v (h .whole) in
+    rw (h .form, ours, h .base) (pml4 mem ws start total v (h .holds) root (h .noHuge) (λ z. stays (ours ∙ z)))
+
+pub three-outcomes : ThreeOutcomes
+three-outcomes ws start total root v h = rw (translate-is 3 ws start total root v h) (outcomes ws start total v root (indices 4 v))
+
+pub same-pages : SamePages
+same-pages mem cr3 ws start total root v h stays a =
+    let same : linear mem cr3 v ≡ verdict (translate 3 ws start total root v) = agrees mem cr3 ws start total root v h stays in
+    (λ e. same ∙ ap verdict e, λ e. back (translate 3 ws start total root v) (sym same ∙ e))
+  where
+    back : (w : Walked) → verdict w ≡ physical a → w ≡ At a
+    back (At b) e = let x : b ≡ a = cc in ap At x
+    back (Stop n) e = let z : _≡_ {A = ℕ} 0 1 = cc in absurd (omega arith)
+
+pub same-absent : SameAbsent
+same-absent mem cr3 ws start total root v h stays =
+    let same : linear mem cr3 v ≡ verdict (translate 3 ws start total root v) = agrees mem cr3 ws start total root v h stays in (
+      λ e. same ∙ ap verdict e,
+      λ e. ⊎-elim (λ (x : (a : ℕ) × (translate 3 ws start total root v ≡ At a)). absurd (mapped (x .0) (sym (ap verdict (x .1)) ∙ sym same ∙ e)))
+          (⊎-elim (λ x. x) (λ x. absurd (stays x))) (three-outcomes ws start total root v (h .whole)),
+    )
+  where
+    mapped : (a : ℕ) → physical a ≡ notPresent → ⊥
+    mapped a e = let z : _≡_ {A = ℕ} 0 1 = cc in omega arith
+
+pub off-board : OffBoard
+off-board ws start total root v h n =
+    let e : Leaves ws start total v root (indices 4 v) = off ws start total v (index 3 v) (indices 3 v) root n in
+    rw (translate-is 3 ws start total root v h)
+    (λ z. let q = e .0 z in (q .0, q .1, omega (arith, q .2), q .3, q .4), λ q. e .1 (q .0, q .1, omega (arith, q .2), q .3, q .4))

@@ -1,0 +1,77 @@
+-- Ordinary 4-level paging for 4-KByte pages, from the Intel SDM, volume 3A, chapter 'Paging': 'Linear-Address Translation with 4-Level Paging and 5-Level Paging'
+-- and the tables of entry formats. It speaks of physical memory, CR3 and a linear address, and of nothing else in this project. MAXPHYADDR is 52 and IA32_EFER.NXE
+-- is 1, so that no address bit of an entry is reserved, nor bit 63. Access rights and cached translations are the manual's next sections, and not part of this.
+use Prim.Native.Nat.{ℕ, _+_, _-_, _*_, _/_, _%_, _^_}
+use mathlib.Core.Bool.{Bool, true, false}
+use lib.Dec.{eqb}
+
+-- 'bits hi:lo' of x
+abbrev pub bits : ℕ → ℕ → ℕ → ℕ
+bits hi lo x = x / 2 ^ lo % 2 ^ (hi + 1 - lo)
+
+-- physical memory: the 64-bit entry at a physical address, which is a multiple of 8
+abbrev pub Memory : Type 0
+Memory = ℕ → ℕ
+
+-- What a translation comes to. `notPresent` and `reserved` are page faults. `large` is a 1-GByte or a 2-MByte page: this definition goes no further there.
+pub data Translation : Type 0 where
+  physical : ℕ → Translation
+  notPresent reserved large notCanonical : Translation
+
+-- the one choice by a flag
+abbrev pub choose : Bool → Translation → Translation → Translation
+choose true a b = a
+choose false a b = b
+
+-- bit 0 (P), 'Present': an entry whose P flag is 0 'is used neither to reference another paging-structure entry nor to map a page'
+abbrev pub p : ℕ → Bool
+p e = eqb (bits 0 0 e) 1
+
+-- bit 7 (PS), 'Page size', of a PDPTE or a PDE: it 'maps a 1-GByte page' or 'maps a 2-MByte page'. Of a PML4E it is 'Reserved (must be 0)'. Of a PTE it is PAT.
+abbrev pub ps : ℕ → Bool
+ps e = eqb (bits 7 7 e) 1
+
+-- 'Bits 51:12 are from CR3. Bits 11:3 are bits 47:39 of the linear address. Bits 2:0 are all 0.'
+abbrev pub pml4eAt : ℕ → ℕ → ℕ
+pml4eAt cr3 v = bits 51 12 cr3 * 2 ^ 12 + bits 47 39 v * 2 ^ 3
+
+-- 'Bits 51:12 are from the PML4E. Bits 11:3 are bits 38:30 of the linear address. Bits 2:0 are all 0.'
+abbrev pub pdpteAt : ℕ → ℕ → ℕ
+pdpteAt pml4e v = bits 51 12 pml4e * 2 ^ 12 + bits 38 30 v * 2 ^ 3
+
+-- 'Bits 51:12 are from the PDPTE. Bits 11:3 are bits 29:21 of the linear address. Bits 2:0 are all 0.'
+abbrev pub pdeAt : ℕ → ℕ → ℕ
+pdeAt pdpte v = bits 51 12 pdpte * 2 ^ 12 + bits 29 21 v * 2 ^ 3
+
+-- 'Bits 51:12 are from the PDE. Bits 11:3 are bits 20:12 of the linear address. Bits 2:0 are all 0.'
+abbrev pub pteAt : ℕ → ℕ → ℕ
+pteAt pde v = bits 51 12 pde * 2 ^ 12 + bits 20 12 v * 2 ^ 3
+
+-- 'Bits 51:12 are from the PTE. Bits 11:0 are from the original linear address.'
+abbrev pub pageAt : ℕ → ℕ → ℕ
+pageAt pte v = bits 51 12 pte * 2 ^ 12 + bits 11 0 v
+
+-- the translation of linear address v from one of its four entries on
+unfoldable pub throughPte : ℕ → ℕ → Translation
+throughPte v pte = choose (p pte) (physical (pageAt pte v)) notPresent
+
+unfoldable pub throughPde : Memory → ℕ → ℕ → Translation
+throughPde mem v pde = choose (p pde) (choose (ps pde) large (throughPte v (mem (pteAt pde v)))) notPresent
+
+unfoldable pub throughPdpte : Memory → ℕ → ℕ → Translation
+throughPdpte mem v pdpte = choose (p pdpte) (choose (ps pdpte) large (throughPde mem v (mem (pdeAt pdpte v)))) notPresent
+
+unfoldable pub throughPml4e : Memory → ℕ → ℕ → Translation
+throughPml4e mem v pml4e = choose (p pml4e) (choose (ps pml4e) reserved (throughPdpte mem v (mem (pdpteAt pml4e v)))) notPresent
+
+abbrev pub or : Bool → Bool → Bool
+or true b = true
+or false b = b
+
+-- 'canonical' with 48-bit linear addresses: bits 63:47 are identical
+abbrev pub canonical : ℕ → Bool
+canonical v = or (eqb (bits 63 47 v) 0) (eqb (bits 63 47 v) (2 ^ 17 - 1))
+
+-- the translation of linear address v
+unfoldable pub linear : Memory → ℕ → ℕ → Translation
+linear mem cr3 v = choose (canonical v) (throughPml4e mem v (mem (pml4eAt cr3 v))) notCanonical

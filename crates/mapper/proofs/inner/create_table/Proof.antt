@@ -1,0 +1,82 @@
+-- `create_table`: the lowest free frame, zeroed and entered, or 11.
+use mathlib.Core.Path.{_≡_}
+use mathlib.Core.Bool.{true}
+use native.Mathlib.Omega.{arith}
+use Rattle.frame.specs.Frames.{inside}
+use Rattle.frame.proofs.Laws.{inside-from, inside-under}
+use Rattle.mapper.proofs.Laws.{place-asks, taken-lent, create-made, create-none}
+use borrow.Author.Needs.{needs}
+use Rattle.mapper.proofs.inner.create_table.Statement.{statement}
+use Rattle.mapper.proofs.inner.create_table.Tie as tie
+
+take-frame-requires : tie.Need-take-frame-requires
+take-frame-requires c κs = search needs
+
+-- the frame that was taken is lent
+lent : (c : tie.After-answer2) → let a = c .before .before .before .before .before .before .args in
+    inside (a .frames .start) (a .frames .total) (c .answer2 .given .0 .0 .0) ≡ true
+lent c = taken-lent _ _ (c .before .before .before .take-frame .ensures .0) _ (c .answer2 .given .1)
+
+enum-known-answer : tie.Need-enum-known-answer
+enum-known-answer c = search needs
+
+enum-known-answer-2 : tie.Need-enum-known-answer-2
+enum-known-answer-2 c = search needs
+
+entry-place-requires : tie.Need-entry-place-requires
+entry-place-requires c κs =
+    let a = c .before .before in
+    let s = a .before .before .before .before .before .before in
+    place-asks (s .args .frames .start) (s .args .frames .total) (a .answer2 .given .0 .0 .0) 0 (s .pre .0 .held .few) (lent a) (search needs)
+
+zero-frame-requires : tie.Need-zero-frame-requires
+zero-frame-requires c κs =
+    let a = c .before .before .before in
+    let s = a .before .before .before .before .before .before in
+    let h = lent a in
+    omega (arith, c .entry-place .ensures, s .pre .0 .enough, inside-from (s .args .frames .start) (s .args .frames .total) (a .answer2 .given .0 .0 .0) h, inside-under (s .args .frames .start) (s .args .frames .total) (a .answer2 .given .0 .0 .0) h)
+
+start-address-requires : tie.Need-start-address-requires
+start-address-requires c κs = search needs
+
+set-requires : tie.Need-set-requires
+set-requires c κs = search needs
+
+mul-words : tie.Need-mul-words
+mul-words c = search needs
+
+slice-write-words : tie.Need-slice-write-words
+slice-write-words c = search needs
+
+returns : tie.Need-returns
+returns c =
+    let f = c .before .before .before .before in
+    create-none _ _ _ _ _ (f .take-frame .ensures .0) (f .take-frame .ensures .1) _ (c .before .answer .given .1)
+
+same-length : tie.Need-same-length
+same-length c = search needs
+
+returns-2 : tie.Need-returns-2
+returns-2 c =
+    let a = c .before .before .before .before .before .before .before .before in
+    let f = a .before .before .before in
+    create-made _ _ _ _ _ (f .take-frame .ensures .0) (f .take-frame .ensures .1) _ (a .answer2 .given .1) (f .before .before .before .pre .0 .held .low)
+    _ _ (c .before .before .before .before .zero-frame .ensures) (c .before .before .before .before .before .entry-place .ensures)
+    _ _ (c .set .ensures) (c .before .start-address .ensures)
+
+pub create-table-spec : {M : Type 1} → statement M
+create-table-spec =
+    tie.close
+    (tie.spec
+    take-frame-requires
+    enum-known-answer
+    enum-known-answer-2
+    entry-place-requires
+    zero-frame-requires
+    start-address-requires
+    set-requires
+    mul-words
+    slice-write-words
+    returns
+    same-length
+    returns-2)

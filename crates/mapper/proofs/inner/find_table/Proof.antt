@@ -1,0 +1,85 @@
+-- `find_table`: the way to the last table. The invariant: what is left to walk from `t`, along the indices left, comes where the whole walk comes.
+use Prim.Native.Nat.{_≤_, _-_, _+_}
+use mathlib.Core.Path.{_≡_, sym, _∙_}
+use mathlib.Core.List.{_∷_}
+use lib.ListN.{getD, take, drop}
+use borrow.Author.Needs.{needs}
+use Rattle.entry.proofs.Entry.{frame-of-addr}
+use Rattle.paging.specs.Walk.{reach}
+use Rattle.paging.proofs.Walk.{next-upper, none-upper, reach-end, reach-stop, reach-on}
+use Rattle.mapper.proofs.inner.find_table.Statement.{statement}
+use Rattle.mapper.proofs.inner.find_table.Tie as tie
+
+abbrev Inv-loop : tie.InvT-loop
+Inv-loop words start total indices t₀ level₀ t level =
+    (level ≤ 3) × (reach words start total t₀ (take 3 indices) ≡ reach words start total t (drop level (take 3 indices)))
+
+abbrev μ-loop : tie.MeasureT-loop
+μ-loop words start total indices t₀ level₀ t level = 3 - level
+
+loop-holds : tie.Need-loop-holds Inv-loop μ-loop
+loop-holds c = search needs
+
+-- one more index is left
+more : (c : tie.In-loop Inv-loop μ-loop) → let l = c .before in let is = l .before .before .args .t5 in
+    drop (l .loop .level) (take 3 is) ≡ getD is (l .loop .level) 0 ∷ drop (l .loop .level + 1) (take 3 is)
+more c = let l = c .before in next-upper 3 (l .before .before .args .t5) (l .loop .level) (c .loop-test .taken) (search needs)
+
+mul-entry-at : tie.Need-mul-entry-at Inv-loop μ-loop
+mul-entry-at c = search needs
+
+array-read-entry-at : tie.Need-array-read-entry-at Inv-loop μ-loop
+array-read-entry-at c = search needs
+
+entry-at-requires : tie.Need-entry-at-requires Inv-loop μ-loop
+entry-at-requires c κs = let s = c .before .before .before in (s .pre .0, s .pre .1 _)
+
+enum-known-n : tie.Need-enum-known-n Inv-loop μ-loop
+enum-known-n c = search needs
+
+returns : tie.Need-returns Inv-loop μ-loop
+returns c =
+    let i = c .before .before .before .before in
+    sym (i .before .loop .inv .1 ∙ reach-stop _ _ _ _ (more i) _ (sym (c .before .before .before .entry-at .ensures) ∙ c .before .n .given .1))
+
+enum-known-e : tie.Need-enum-known-e Inv-loop μ-loop
+enum-known-e c = search needs
+
+addr-requires : tie.Need-addr-requires Inv-loop μ-loop
+addr-requires c κs = search needs
+
+add-level : tie.Need-add-level Inv-loop μ-loop
+add-level c = search needs
+
+loop-less : tie.Need-loop-less Inv-loop μ-loop
+loop-less c = search needs
+
+loop-again : tie.Need-loop-again Inv-loop μ-loop
+loop-again c =
+    let i = c .before .before .before .before .before .before in (
+      search needs,
+      rw (c .before .addr .ensures, frame-of-addr)
+          (i .before .loop .inv .1 ∙ reach-on _ _ _ _ (more i) _ (sym (c .before .before .before .before .before .entry-at .ensures) ∙ c .before .before .before .e .given .1)),
+    )
+
+returns-2 : tie.Need-returns-2 Inv-loop μ-loop
+returns-2 c = sym (c .before .loop .inv .1 ∙ reach-end _ _ _ _ (none-upper 3 (c .before .before .before .args .t5) (c .before .loop .level) (c .loop-test .left)))
+
+pub find-table-spec : {M : Type 1} → statement M
+find-table-spec =
+    tie.close
+    (tie.spec
+    Inv-loop
+    μ-loop
+    loop-holds
+    mul-entry-at
+    array-read-entry-at
+    entry-at-requires
+    enum-known-n
+    returns
+    enum-known-e
+    addr-requires
+    add-level
+    loop-less
+    loop-again
+    returns-2)

@@ -1,0 +1,61 @@
+-- `unmap_page`: 10, or the leaf cleared.
+use mathlib.Core.Path.{_≡_, sym, _∙_, ap}
+use Rattle.paging.specs.declared.Walked.{Walked}
+use Rattle.paging.specs.Calls.{asFrame, unmapPage}
+use Rattle.paging.proofs.Walk.{lent-words}
+use Rattle.paging.proofs.Calls.{told-left, unmap-broken, unmap-is}
+use Rattle.frame.proofs.Laws.{passed, failed}
+use borrow.Author.Needs.{needs}
+use Rattle.mapper.proofs.unmap_page.Statement.{statement}
+use Rattle.mapper.proofs.unmap_page.Tie as tie
+
+is-lent-requires : tie.Need-is-lent-requires
+is-lent-requires c κs = search needs
+
+returns : tie.Need-returns
+returns c =
+    let e = told-left (unmap-broken _ _ _ _ _ _ (failed (c .before .is-lent .ensures) (c .if1 .taken))) in
+    (ap asFrame (e .0), e .1)
+
+unmap-leaf-requires : tie.Need-unmap-leaf-requires
+unmap-leaf-requires c κs = lent-words _ _ _ _ (passed (c .before .before .is-lent .ensures) (c .before .if1 .left))
+
+-- the answer from where the step came
+from : (c : tie.After-unmap-leaf) → {w : Walked} → c .unmap-leaf .result ≡ w → let a = c .before .before .before .before .before .args in
+    let d = unmapPage 3 (a .words .now) (a .start) (a .total) (a .root .0) (a .virt .0) in
+    (asFrame w ≡ asFrame (d .walked)) × (c .unmap-leaf .last .0 ≡ d .words)
+from c h =
+    let e = told-left (unmap-is _ _ _ _ _ _ (passed (c .before .before .before .is-lent .ensures) (c .before .before .if1 .left))) in
+    (ap asFrame (sym h ∙ c .unmap-leaf .ensures .0 ∙ e .0), c .unmap-leaf .ensures .1 ∙ e .1)
+
+enum-known-f : tie.Need-enum-known-f
+enum-known-f c = search needs
+
+enum-known-n : tie.Need-enum-known-n
+enum-known-n c = search needs
+
+same-length : tie.Need-same-length
+same-length c = search needs
+
+returns-2 : tie.Need-returns-2
+returns-2 c = from (c .before .before .before .before .before) (c .before .f .given .1)
+
+same-length-2 : tie.Need-same-length-2
+same-length-2 c = search needs
+
+returns-3 : tie.Need-returns-3
+returns-3 c = from (c .before .before .before .before .before) (c .before .n .given .1)
+
+pub unmap-page-spec : {M : Type 1} → statement M
+unmap-page-spec =
+    tie.close
+    (tie.spec
+    is-lent-requires
+    returns
+    unmap-leaf-requires
+    enum-known-f
+    enum-known-n
+    same-length
+    returns-2
+    same-length-2
+    returns-3)

@@ -1,0 +1,301 @@
+// Steps down the tables on a record that was tested.
+use address::Frame;
+use address::FrameAnswer;
+use address::PhysAddr;
+use address::PhysAnswer;
+use address::VirtAddr;
+use answer::Answer;
+use entry::paging::PageTableEntry;
+use frame::Changed;
+use frame::FrameAllocator;
+use paging::Entered;
+use paging::HugePageSize;
+use paging::Leaf;
+use paging::Walked;
+ghost use mathlib.Core.Path.{_≡_};
+ghost use Prim.Native.Nat.{ℕ, _+_, _-_, _<_, _≤_};
+ghost use lib.ListN.{length, getD, take};
+ghost use Rattle.entry.specs.Entry.{indices as indicesOf};
+ghost use Rattle.frame.specs.Frames.{frames as framesOf};
+ghost use Rattle.paging.specs.Walk.{place, entryAt, reach, leaf, address, Lent};
+ghost use Rattle.paging.specs.Map.{memory, out, clear, create, enter as entered, putEntry, takeLeaf, unmapEntry, Roomy};
+ghost use Rattle.paging.specs.Calls.{asAnswer, asPhys, changed, mapAt, userLeaf, tablesAbove};
+
+// The word number of entry i of table t, which is lent.
+fn entry_place(start: u64, t: u64, i: usize) -> usize
+    requires { ⌜ start ≤ t ⌝ }
+    requires { ⌜ t - start < 8192 ⌝ }
+    requires { ⌜ i < 512 ⌝ }
+    ensures { λ r. ⌜ r ≡ place start t i ⌝ }
+{
+    ((t - start) as usize) * 512 + i
+}
+
+// The present word at entry i of table t.
+pub fn entry_at(words: &[u64], start: u64, total: u64, t: u64, i: usize) -> Walked
+    requires { ⌜ Lent (now words) start total ⌝ }
+    requires { ⌜ i < 512 ⌝ }
+    ensures { λ r. ⌜ r ≡ entryAt (now (words .entry)) start total t i ⌝ }
+{
+    if !frame::inner::is_inside(start, total, t) {
+        return Walked::Stop(answer::OUTSIDE);
+    }
+    let e = words[entry_place(start, t, i)];
+    if PageTableEntry(e).is_present() {
+        return Walked::At(e);
+    }
+    Walked::Stop(answer::NOT_MAPPED)
+}
+
+// The entry that a translation ends at. Only the third level looks at HUGE.
+pub fn find_leaf(words: &[u64], start: u64, total: u64, root: Frame, virt: VirtAddr) -> Leaf
+    requires { ⌜ Lent (now words) start total ⌝ }
+    ensures { λ r. ⌜ r ≡ leaf (now (words .entry)) start total (root .0) (indicesOf 4 (virt .0)) ⌝ }
+{
+    let indices = entry::page_indices(virt);
+    let mut t = root.0;
+    for level in 0..4 {
+        match entry_at(words, start, total, t, indices[level]) {
+            Walked::Stop(n) => return Leaf::NoLeaf(n),
+            Walked::At(e) => {
+                if level == 3 {
+                    return Leaf::Page(e);
+                }
+                if level == 2 && PageTableEntry(e).is_huge() {
+                    return Leaf::Large(e);
+                }
+                t = PageTableEntry(e).addr().0 >> 12;
+            }
+        }
+    }
+    Leaf::NoLeaf(answer::NOT_MAPPED)
+}
+
+// From a virtual address to the physical one.
+pub fn walk(words: &[u64], start: u64, total: u64, root: Frame, virt: VirtAddr) -> PhysAnswer
+    requires { ⌜ Lent (now words) start total ⌝ }
+    ensures { λ r. ⌜ r ≡ asPhys (address (virt .0) (leaf (now (words .entry)) start total (root .0) (indicesOf 4 (virt .0)))) ⌝ }
+{
+    let v = virt.0;
+    match find_leaf(words, start, total, root, virt) {
+        Leaf::Page(e) => PhysAnswer::AtPhys(PhysAddr(PageTableEntry(e).addr().0 + (v & 0xFFF))),
+        Leaf::Large(e) => PhysAnswer::AtPhys(PhysAddr(
+            PageTableEntry(e).addr().0 + (v & 0x1F_FFFF),
+        )),
+        Leaf::NoLeaf(n) => PhysAnswer::NoPhys(n),
+    }
+}
+
+// Whether a leaf lets user code read, or write.
+pub fn user_entry(e: PageTableEntry, write: bool) -> bool
+    ensures { λ r. ⌜ r ≡ userLeaf write (Leaf.Page (e .0)) ⌝ }
+{
+    if !e.is_user() {
+        return false;
+    }
+    if write {
+        return e.is_writable();
+    }
+    true
+}
+
+// All 512 words of a frame, from word `at` on.
+pub fn zero_frame(words: &mut [u64], at: usize)
+    requires { ⌜ at + 512 ≤ length (now words) ⌝ }
+    ensures { λ _. ⌜ now (words .exit) ≡ clear (now (words .entry)) at 512 ⌝ }
+{
+    for i in 0..512 {
+        words[at + i] = 0;
+    }
+}
+
+// A new table in the lowest free frame, entered at word `at`.
+fn create_table(
+    words: &mut [u64],
+    bitmap: &mut [u64; 128],
+    frames: FrameAllocator,
+    at: usize,
+    user: bool,
+) -> Entered
+    requires { ⌜ Roomy (memory (now words) (framesOf (now bitmap) frames)) 1 ⌝ }
+    requires { ⌜ at < length (now words) ⌝ }
+    ensures { λ r. ⌜ out (r .walked) (memory (now (words .exit)) (framesOf (now (bitmap .exit)) (r .frames))) ≡ create user (memory (now (words .entry)) (framesOf (now (bitmap .entry)) frames)) at ⌝ }
+{
+    let taken = frame::inner::take_frame(bitmap, frames);
+    let answer = taken.answer;
+    let left = taken.frames;
+    match answer {
+        FrameAnswer::NoFrame(n) => Entered {
+            walked: Walked::Stop(n),
+            frames: left,
+        },
+        FrameAnswer::AtFrame(f) => {
+            zero_frame(words, entry_place(frames.start, f.0, 0));
+            words[at] = PageTableEntry::set(PhysAddr(f.start_address()), true, user).0;
+            Entered {
+                walked: Walked::At(f.0),
+                frames: left,
+            }
+        }
+    }
+}
+
+// The table below entry i of table t, made if there is none.
+pub fn enter(
+    words: &mut [u64],
+    bitmap: &mut [u64; 128],
+    frames: FrameAllocator,
+    t: u64,
+    i: usize,
+    user: bool,
+) -> Entered
+    requires { ⌜ Roomy (memory (now words) (framesOf (now bitmap) frames)) 1 ⌝ }
+    requires { ⌜ i < 512 ⌝ }
+    ensures { λ r. ⌜ out (r .walked) (memory (now (words .exit)) (framesOf (now (bitmap .exit)) (r .frames))) ≡ entered user (memory (now (words .entry)) (framesOf (now (bitmap .entry)) frames)) t i ⌝ }
+{
+    if !frame::inner::is_inside(frames.start, frames.total, t) {
+        return Entered {
+            walked: Walked::Stop(answer::OUTSIDE),
+            frames,
+        };
+    }
+    let at = entry_place(frames.start, t, i);
+    let e = words[at];
+    if PageTableEntry(e).is_present() {
+        return Entered {
+            walked: Walked::At(PageTableEntry(e).addr().0 >> 12),
+            frames,
+        };
+    }
+    create_table(words, bitmap, frames, at, user)
+}
+
+// The word e at entry i of table t.
+pub fn put_entry(words: &mut [u64], start: u64, total: u64, t: u64, i: usize, e: u64) -> Walked
+    requires { ⌜ Lent (now words) start total ⌝ }
+    requires { ⌜ i < 512 ⌝ }
+    ensures { λ r. ⌜ r ≡ putEntry (now (words .entry)) start total t i e .walked ⌝ }
+    ensures { λ r. ⌜ now (words .exit) ≡ putEntry (now (words .entry)) start total t i e .words ⌝ }
+{
+    if !frame::inner::is_inside(start, total, t) {
+        return Walked::Stop(answer::OUTSIDE);
+    }
+    let at = entry_place(start, t, i);
+    if PageTableEntry(words[at]).is_present() {
+        return Walked::Stop(answer::ALREADY_MAPPED);
+    }
+    words[at] = e;
+    Walked::At(0)
+}
+
+fn as_answer(walked: Walked) -> Answer
+    ensures { λ r. ⌜ r ≡ asAnswer walked ⌝ }
+{
+    match walked {
+        Walked::At(_) => Answer::Met,
+        Walked::Stop(n) => Answer::Refused(n),
+    }
+}
+
+// The tables that are passed on the way to a huge page's entry.
+pub fn tables_above(size: HugePageSize) -> usize
+    ensures { λ r. ⌜ r ≡ tablesAbove 3 size ⌝ }
+{
+    match size {
+        HugePageSize::Size2MB => 3,
+        HugePageSize::Size1GB => 2,
+    }
+}
+
+// The word e for an address, below k tables from the root on; absent tables are made.
+pub fn map_entry(
+    words: &mut [u64],
+    bitmap: &mut [u64; 128],
+    frames: FrameAllocator,
+    root: Frame,
+    virt: VirtAddr,
+    k: usize,
+    user: bool,
+    e: u64,
+) -> Changed
+    requires { ⌜ Roomy (memory (now words) (framesOf (now bitmap) frames)) 3 ⌝ }
+    requires { ⌜ k ≤ 3 ⌝ }
+    ensures { λ r. ⌜ r ≡ changed (mapAt 3 k user (memory (now (words .entry)) (framesOf (now (bitmap .entry)) frames)) (root .0) (virt .0) e) ⌝ }
+    ensures { λ r. ⌜ now (words .exit) ≡ mapAt 3 k user (memory (now (words .entry)) (framesOf (now (bitmap .entry)) frames)) (root .0) (virt .0) e .mem .words ⌝ }
+    ensures { λ r. ⌜ now (bitmap .exit) ≡ mapAt 3 k user (memory (now (words .entry)) (framesOf (now (bitmap .entry)) frames)) (root .0) (virt .0) e .mem .frames .bits ⌝ }
+{
+    let indices = entry::page_indices(virt);
+    let mut t = root.0;
+    let mut left = frames;
+    for level in 0..k {
+        let r = enter(words, bitmap, left, t, indices[level], user);
+        let walked = r.walked;
+        left = r.frames;
+        match walked {
+            Walked::Stop(n) => {
+                return Changed {
+                    answer: Answer::Refused(n),
+                    frames: left,
+                };
+            }
+            Walked::At(f) => {
+                t = f;
+            }
+        }
+    }
+    let put = put_entry(words, left.start, left.total, t, indices[k], e);
+    Changed {
+        answer: as_answer(put),
+        frames: left,
+    }
+}
+
+// The last table on the way to a page.
+pub fn find_table(words: &[u64], start: u64, total: u64, root: Frame, indices: [usize; 4]) -> Walked
+    requires { ⌜ Lent (now words) start total ⌝ }
+    requires { ⌜ ((k : ℕ) → getD indices k 0 < 512) ⌝ }
+    ensures { λ r. ⌜ r ≡ reach (now (words .entry)) start total (root .0) (take 3 indices) ⌝ }
+{
+    let mut t = root.0;
+    for level in 0..3 {
+        match entry_at(words, start, total, t, indices[level]) {
+            Walked::Stop(n) => return Walked::Stop(n),
+            Walked::At(e) => {
+                t = PageTableEntry(e).addr().0 >> 12;
+            }
+        }
+    }
+    Walked::At(t)
+}
+
+// The leaf at entry i of table t, cleared; it comes to the frame that the leaf named.
+pub fn take_leaf(words: &mut [u64], start: u64, total: u64, t: u64, i: usize) -> Walked
+    requires { ⌜ Lent (now words) start total ⌝ }
+    requires { ⌜ i < 512 ⌝ }
+    ensures { λ r. ⌜ r ≡ takeLeaf (now (words .entry)) start total t i .walked ⌝ }
+    ensures { λ r. ⌜ now (words .exit) ≡ takeLeaf (now (words .entry)) start total t i .words ⌝ }
+{
+    if !frame::inner::is_inside(start, total, t) {
+        return Walked::Stop(answer::OUTSIDE);
+    }
+    let at = entry_place(start, t, i);
+    let e = words[at];
+    if !PageTableEntry(e).is_present() {
+        return Walked::Stop(answer::NOT_MAPPED);
+    }
+    words[at] = 0;
+    Walked::At(PageTableEntry(e).addr().0 >> 12)
+}
+
+// A page's leaf, cleared.
+pub fn unmap_leaf(words: &mut [u64], start: u64, total: u64, root: Frame, virt: VirtAddr) -> Walked
+    requires { ⌜ Lent (now words) start total ⌝ }
+    ensures { λ r. ⌜ r ≡ unmapEntry (now (words .entry)) start total (root .0) (take 3 (indicesOf 4 (virt .0))) (getD (indicesOf 4 (virt .0)) 3 0) .walked ⌝ }
+    ensures { λ r. ⌜ now (words .exit) ≡ unmapEntry (now (words .entry)) start total (root .0) (take 3 (indicesOf 4 (virt .0))) (getD (indicesOf 4 (virt .0)) 3 0) .words ⌝ }
+{
+    let indices = entry::page_indices(virt);
+    match find_table(words, start, total, root, indices) {
+        Walked::Stop(n) => Walked::Stop(n),
+        Walked::At(t) => take_leaf(words, start, total, t, indices[3]),
+    }
+}

@@ -1,0 +1,136 @@
+-- What mmap and munmap come to, by the outcomes that document 01 names.
+use Prim.Native.Nat.{ℕ, _+_, _/_, _%_, _<_, _≤_}
+use mathlib.Core.Path.{_≡_, refl, sym, _∙_, ap, subst}
+use mathlib.Core.Bool.{Bool, true, false, not}
+use mathlib.Core.Logic.{_⊎_, inl, inr, ⊎-elim}
+use mathlib.Core.List.{List}
+use native.Mathlib.Omega.{arith}
+use lib.IntN.{ℤ}
+use lib.Dec.{eqb, leb}
+use lib.ListN.{length}
+use borrow.Author.Tests.{eqb-true, eqb-false, ne-eqb, leb-true, leb-false}
+use Rattle.bits.specs.Bit.{pick, both}
+use Rattle.frame.proofs.Laws.{pick-cases, both-true}
+use Rattle.allocator.specs.Round.{rounded, roundUp, lastPage}
+use Rattle.answer.specs.Numbers.{sizeZero, unaligned, tooLarge, brokenRecord, noFreeFrame, mapFailed, regionNotFound, listFull}
+use Rattle.answer.specs.declared.CountAnswer.the-variants.{Count, NoCount}
+use Rattle.paging.specs.declared.Walked.{Walked}
+use Rattle.paging.specs.declared.Walked.the-variants.{At, Stop}
+use Rattle.paging.specs.Map.{Memory}
+use Rattle.paging.specs.Pages.{clearPages, freePages}
+use Rattle.slots.specs.Slots.{live, store}
+use Rattle.vmalloc.proofs.Calls.{positive, walked-cases}
+use Rattle.mmap.specs.declared.MappedRegion.{MappedRegion}
+use Rattle.mmap.specs.Regions.{userEnd, fixed, noSlot, inTheWay, clearFrom, findFree, starts, holds, remove}
+use Rattle.mmap.specs.Calls.{User, user, Did, did, soundUser, Wish, anywhere, wished, aligned, inRange, chosen, full, userPages, leftover, mapped, placed, sized, mmap, unmapped, munmap}
+use Rattle.mmap.proofs.Rising.{Rising}
+use Rattle.mmap.proofs.Search.{search-place}
+
+-- the list has room for a new region, or the region replaces one
+pub room : (s : User) (a : ℕ) → full s a ≡ false → (length (live (s .regions)) < 256) ⊎ (starts a (live (s .regions)) ≡ true)
+room s a h = by (leb 256 (length (live (s .regions)))) refl (starts a (live (s .regions))) refl h
+  where
+    by : (x : Bool) → leb 256 (length (live (s .regions))) ≡ x → (y : Bool) → starts a (live (s .regions)) ≡ y → both x (not y) ≡ false
+        → (length (live (s .regions)) < 256) ⊎ (starts a (live (s .regions)) ≡ true)
+    by x e true f g = inr f
+    by true e false f g = let z : _≡_ {A = Bool} true false = g in let y : _≡_ {A = ℕ} 0 1 = cc in absurd (omega arith)
+    by false e false f g = inl (leb-false _ _ e)
+
+module _ (up : ℕ) (s : User) (root : ℕ) where
+  -- every outcome of an mmap
+  pub mmap-cases : (wish : Wish) (size : ℕ) (prot flags : ℤ) (P : Did → Type 0)
+      → (soundUser s root ≡ false → P (did (Stop brokenRecord) s))
+      → P (did (Stop sizeZero) s)
+      → P (did (Stop tooLarge) s)
+      → ((e : ℕ) → chosen s wish (roundUp 12 size) flags ≡ Stop e → P (did (Stop e) s))
+      → P (did (Stop listFull) s)
+      → (soundUser s root ≡ true → 0 < size → size ≤ lastPage → (a : ℕ) → chosen s wish (roundUp 12 size) flags ≡ At a → full s a ≡ false
+      → P (mapped up s root a (roundUp 12 size) prot flags (userPages up (s .mem) root a (roundUp 12 size) prot .walked)
+      (userPages up (s .mem) root a (roundUp 12 size) prot .done) (userPages up (s .mem) root a (roundUp 12 size) prot .mem)))
+      → P (mmap up s root wish size prot flags)
+  unfolding mmap rounded
+  mmap-cases wish size prot flags P broken empty large none many fits =
+      pick-cases P (soundUser s root) _ _
+      (λ t. pick-cases P (eqb size 0) _ _ (λ _. empty) (λ z.
+      let pos : 0 < size = positive size (eqb-false size 0 z) in
+      pick-cases (λ c. P (sized up s root wish prot flags c)) (leb size lastPage) (Count (roundUp 12 size)) (NoCount tooLarge)
+      (λ l. walked-cases (λ w. P (placed up s root (roundUp 12 size) prot flags w)) (chosen s wish (roundUp 12 size) flags)
+      (λ a c. pick-cases P (full s a) _ _ (λ _. many) (λ f. fits t pos (leb-true _ _ l) a c f))
+      none)
+      (λ _. large)))
+      broken
+
+  -- every outcome of a munmap
+  pub munmap-cases : (a size : ℕ) (P : Did → Type 0)
+      → (soundUser s root ≡ false → P (did (Stop brokenRecord) s))
+      → ((e : ℕ) → ((n : ℕ) → rounded size ≡ Count n → aligned a ≡ true → 0 < size → holds a n (live (s .regions)) ≡ false) → P (did (Stop e) s))
+      → (soundUser s root ≡ true → 0 < size → size ≤ lastPage → holds a (roundUp 12 size) (live (s .regions)) ≡ true
+      → P (did (At 0) (user (freePages up (s .mem) root a (roundUp 12 size / 4096)) (store noSlot (remove a (live (s .regions))) (s .regions)) (s .next))))
+      → P (munmap up s root a size)
+  unfolding munmap rounded
+  munmap-cases a size P broken none met =
+      pick-cases P (soundUser s root) _ _
+      (λ t. pick-cases P (eqb size 0) _ _
+      (λ z. none sizeZero (λ n r e pos. absurd (omega (arith, eqb-true size 0 z))))
+      (λ z. pick-cases P (aligned a) _ _
+      (λ e. pick-cases (λ c. c ≡ rounded size → P (unmapped up s root a c)) (leb size lastPage) (Count (roundUp 12 size)) (NoCount tooLarge)
+      (λ l q. pick-cases P (holds a (roundUp 12 size) (live (s .regions))) _ _
+      (λ h. met t (positive size (eqb-false size 0 z)) (leb-true _ _ l) h)
+      (λ h. none regionNotFound (λ n r _ _. let m : roundUp 12 size ≡ n = cc in subst (λ (k : ℕ). holds a k (live (s .regions)) ≡ false) m h)))
+      (λ l q. none tooLarge (λ n r _ _. let y : _≡_ {A = ℕ} 0 1 = cc in absurd (omega arith)))
+      refl)
+      (λ e. none unaligned (λ n r f _. let y : _≡_ {A = ℕ} 0 1 = cc in absurd (omega arith)))))
+      broken
+
+-- where a chosen range lies: aligned, and ending at most at the last page
+pub chosen-place : (s : User) (wish : Wish) (n : ℕ) (flags : ℤ) (a : ℕ) → Rising 0 (live (s .regions)) → s .next % 4096 ≡ 0 → chosen s wish n flags ≡ At a
+    → (a % 4096 ≡ 0) × (a + n ≤ lastPage)
+unfolding chosen
+chosen-place s anywhere n flags a h e c = let r = search-place _ (live (s .regions)) n (s .next) a 0 h e c in (r .0, omega (arith, r .1))
+chosen-place s (wished v) n flags a h e c = one (fixed flags) c
+  where
+    found : findFree (live (s .regions)) (s .next) n ≡ At a → (a % 4096 ≡ 0) × (a + n ≤ lastPage)
+    found g = let r = search-place _ (live (s .regions)) n (s .next) a 0 h e g in (r .0, omega (arith, r .1))
+
+    here : aligned v ≡ true → (x : Bool) → leb (v + n) lastPage ≡ x → (w : Walked) → pick x w (Stop tooLarge) ≡ At a → (w ≡ At a → (v ≡ a) ⊎ (findFree (live (s .regions)) (s .next) n ≡ At a))
+        → (a % 4096 ≡ 0) × (a + n ≤ lastPage)
+    here f true l w g more =
+        ⊎-elim (λ q. (omega (arith, eqb-true (v % 4096) 0 f), omega (arith, leb-true (v + n) lastPage l))) found (more g)
+    here f false l w g more = let y : _≡_ {A = ℕ} 0 1 = cc in absurd (omega arith)
+
+    same : (x y : ℕ) → At x ≡ At y → x ≡ y
+    same x y q = cc
+
+    free : (w : Walked) → clearFrom w (At v) (λ _. findFree (live (s .regions)) (s .next) n) ≡ At a → (v ≡ a) ⊎ (findFree (live (s .regions)) (s .next) n ≡ At a)
+    free (At z) g = inr g
+    free (Stop z) g = inl (same v a g)
+
+    exact : (x : Bool) → aligned v ≡ x → pick x (inRange v n (At v)) (Stop unaligned) ≡ At a → (a % 4096 ≡ 0) × (a + n ≤ lastPage)
+    exact true f g = here f (leb (v + n) lastPage) refl (At v) g (λ q. inl (same v a q))
+    exact false f g = let y : _≡_ {A = ℕ} 0 1 = cc in absurd (omega arith)
+
+    hint : (x : Bool) → aligned v ≡ x
+        → pick x (inRange v n (clearFrom (inTheWay v n (live (s .regions))) (At v) (λ _. findFree (live (s .regions)) (s .next) n))) (findFree (live (s .regions)) (s .next) n) ≡ At a
+        → (a % 4096 ≡ 0) × (a + n ≤ lastPage)
+    hint true f g = here f (leb (v + n) lastPage) refl _ g (free (inTheWay v n (live (s .regions))))
+    hint false f g = found g
+
+    one : (x : Bool)
+        → pick x (pick (aligned v) (inRange v n (At v)) (Stop unaligned))
+        (pick (aligned v) (inRange v n (clearFrom (inTheWay v n (live (s .regions))) (At v) (λ _. findFree (live (s .regions)) (s .next) n))) (findFree (live (s .regions)) (s .next) n)) ≡ At a
+        → (a % 4096 ≡ 0) × (a + n ≤ lastPage)
+    one true g = exact (aligned v) refl g
+    one false g = hint (aligned v) refl g
+
+-- what a refused mmap leaves: after 11 the pages that were mapped stay, after 13 their leaves are cleared; frames stay marked in both
+pub left-by-11 : (up root a done : ℕ) (m : Memory) → leftover up root a noFreeFrame done m ≡ m
+left-by-11 up root a done m = refl
+
+pub left-by-13 : (up root a done : ℕ) (m : Memory) → leftover up root a mapFailed done m ≡ clearPages up m root a done
+left-by-13 up root a done m = refl
+
+-- a munmap that is met
+pub munmap-met : (up : ℕ) (s : User) (root a size n : ℕ) → soundUser s root ≡ true → 0 < size → aligned a ≡ true → rounded size ≡ Count n → holds a n (live (s .regions)) ≡ true
+    → munmap up s root a size ≡ did (At 0) (user (freePages up (s .mem) root a (n / 4096)) (store noSlot (remove a (live (s .regions))) (s .regions)) (s .next))
+unfolding munmap
+munmap-met up s root a size n t pos e r h = rw (t, ne-eqb size 0 (λ z. omega arith), e, r, h)

@@ -1,0 +1,102 @@
+-- What the mapper's calls come to: broken, or the step below.
+use Prim.Native.Nat.{ℕ, suc, _^_, _≤_}
+use mathlib.Core.Path.{_≡_, sym, ap}
+use mathlib.Core.Bool.{Bool, true, false}
+use mathlib.Core.List.{List}
+use native.Mathlib.Omega.{arith}
+use lib.ListN.{length, getD, take}
+use Rattle.answer.specs.Numbers.{brokenRecord, hugeUnaligned}
+use Rattle.answer.specs.declared.FlagAnswer.the-variants.{Flag, NoFlag}
+use Rattle.address.specs.Address.{aligned}
+use Rattle.entry.specs.Entry.{entryOf, hugeEntryOf, indices}
+use Rattle.frame.specs.Frames.{sound}
+use Rattle.frame.proofs.Laws.{both-true, sound-held}
+use Rattle.paging.specs.declared.Walked.the-variants.{Stop}
+use Rattle.paging.specs.declared.HugePageSize.{HugePageSize}
+use Rattle.paging.specs.declared.HugePageSize.the-variants.{Size2MB, Size1GB}
+use Rattle.paging.specs.Walk.{leaf, address, lent}
+use Rattle.paging.specs.Map.{Memory, startOf, totalOf, Out, out, Left, left, unmapEntry, Roomy}
+use Rattle.paging.specs.Calls.{changed, whole, translate, userLeaf, userMay, mapAt, mapPage, sizeOf, tablesAbove, mapHuge, unmapPage}
+use Rattle.paging.proofs.Walk.{lent-enough}
+
+-- what code says of an outcome, part by part
+pub told : {o p : Out} → o ≡ p → (changed p ≡ changed o) × ((p .mem .words ≡ o .mem .words) × (p .mem .frames .bits ≡ o .mem .frames .bits))
+told e = (ap changed (sym e), (ap (λ (x : Out). x .mem .words) (sym e), ap (λ (x : Out). x .mem .frames .bits) (sym e)))
+
+pub told-left : {l k : Left} → l ≡ k → (k .walked ≡ l .walked) × (k .words ≡ l .words)
+told-left e = (ap (λ (x : Left). x .walked) (sym e), ap (λ (x : Left). x .words) (sym e))
+
+-- ---- what the test of all that is lent says
+
+module _ (m : Memory) (root : ℕ) (h : whole m root ≡ true) where
+  pub whole-lent : lent (length (m .words)) (startOf m) (totalOf m) root ≡ true
+  whole-lent = both-true (lent (length (m .words)) (startOf m) (totalOf m) root) _ h .0
+
+  pub whole-sound : sound (m .frames) ≡ true
+  whole-sound = both-true (lent (length (m .words)) (startOf m) (totalOf m) root) _ h .1
+
+  pub whole-roomy : (n : ℕ) → n ≤ 2 ^ 63 → Roomy m n
+  whole-roomy n l = record { enough = lent-enough _ _ _ _ whole-lent; held = sound-held (m .frames) n l whole-sound }
+
+-- a huge page's entry stands below no more tables than a page's
+pub tables-few : (up : ℕ) (s : HugePageSize) → tablesAbove up s ≤ up
+tables-few up Size2MB = omega arith
+tables-few up Size1GB = omega arith
+
+-- ---- the calls
+
+module _ (up : ℕ) (ws : List ℕ) (start total root v : ℕ) where
+  pub translate-broken : lent (length ws) start total root ≡ false → translate up ws start total root v ≡ Stop brokenRecord
+  unfolding translate
+  translate-broken h = rw h
+
+  pub translate-is : lent (length ws) start total root ≡ true
+      → translate up ws start total root v ≡ address v (leaf ws start total root (indices (suc up) v))
+  unfolding translate
+  translate-is h = rw h
+
+  pub may-broken : (write : Bool) → lent (length ws) start total root ≡ false → userMay up ws start total root v write ≡ NoFlag brokenRecord
+  unfolding userMay
+  may-broken write h = rw h
+
+  pub may-is : (write : Bool) → lent (length ws) start total root ≡ true
+      → userMay up ws start total root v write ≡ Flag (userLeaf write (leaf ws start total root (indices (suc up) v)))
+  unfolding userMay
+  may-is write h = rw h
+
+  pub unmap-broken : lent (length ws) start total root ≡ false → unmapPage up ws start total root v ≡ left (Stop brokenRecord) ws
+  unfolding unmapPage
+  unmap-broken h = rw h
+
+  pub unmap-is : lent (length ws) start total root ≡ true
+      → unmapPage up ws start total root v ≡ unmapEntry ws start total root (take up (indices (suc up) v)) (getD (indices (suc up) v) up 0)
+  unfolding unmapPage
+  unmap-is h = rw h
+
+module _ (up : ℕ) (m : Memory) (root v p : ℕ) (w u : Bool) where
+  pub map-broken : whole m root ≡ false → mapPage up m root v p w u ≡ out (Stop brokenRecord) m
+  unfolding mapPage
+  map-broken h = rw h
+
+  pub map-is : whole m root ≡ true → mapPage up m root v p w u ≡ mapAt up up u m root v (entryOf p w u)
+  unfolding mapPage
+  map-is h = rw h
+
+  module _ (s : HugePageSize) where
+    pub huge-broken : whole m root ≡ false → mapHuge up m root v p s w u ≡ out (Stop brokenRecord) m
+    unfolding mapHuge
+    huge-broken h = rw h
+
+    module _ (h : whole m root ≡ true) where
+      pub huge-virt : aligned v (sizeOf s) ≡ false → mapHuge up m root v p s w u ≡ out (Stop hugeUnaligned) m
+      unfolding mapHuge
+      huge-virt a = rw (h, a)
+
+      pub huge-phys : aligned v (sizeOf s) ≡ true → aligned p (sizeOf s) ≡ false → mapHuge up m root v p s w u ≡ out (Stop hugeUnaligned) m
+      unfolding mapHuge
+      huge-phys a b = rw (h, a, b)
+
+      pub huge-is : aligned v (sizeOf s) ≡ true → aligned p (sizeOf s) ≡ true
+          → mapHuge up m root v p s w u ≡ mapAt up (tablesAbove up s) u m root v (hugeEntryOf p w u)
+      unfolding mapHuge
+      huge-is a b = rw (h, a, b)

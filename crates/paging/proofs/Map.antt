@@ -1,0 +1,263 @@
+-- What entering tables, mapping and unmapping come to, by the tests that code makes.
+use Prim.Native.Nat.{ℕ, zero, suc, _+_, _*_, _^_, _<_, _≤_}
+use mathlib.Core.Path.{_≡_, refl, sym, _∙_, subst}
+use mathlib.Core.Bool.{Bool, true, false}
+use mathlib.Core.List.{List, [], _∷_}
+use native.Mathlib.Omega.{arith}
+use native.Mathlib.Numerals.{add-one}
+use lib.ListN.{length, getD, set, length-set}
+use Rattle.bits.specs.Bit.{flag}
+use Rattle.answer.specs.Numbers.{noFreeFrame, alreadyMapped, notMapped, outside}
+use Rattle.address.specs.declared.Frame.{Frame}
+use Rattle.address.specs.declared.FrameAnswer.{FrameAnswer}
+use Rattle.address.specs.declared.FrameAnswer.the-variants.{AtFrame, NoFrame}
+use Rattle.bitmap.specs.Bitmap.{marked}
+use Rattle.entry.specs.Entry.{frameOf, entryOf}
+use Rattle.frame.specs.declared.FrameAllocator.{FrameAllocator}
+use Rattle.frame.specs.Frames.{Frames, frames, Did, inside, withMark, takeFrame}
+use Rattle.frame.proofs.Laws.{pick-cases, inside-yes, take-cases}
+use Rattle.paging.specs.declared.Walked.{Walked}
+use Rattle.paging.specs.declared.Walked.the-variants.{At, Stop}
+use Rattle.paging.specs.Walk.{place, reach, Lent}
+use Rattle.paging.specs.Map.{Memory, memory, startOf, totalOf, Out, out, onward, goOn, clear, zeroFrame, newTable, create, below, enter, make, Left, left, putEntry, withWords, mapEntry, takeLeaf, afterReach, unmapEntry, Roomy}
+
+-- a memory by its three parts
+pub memory-is : (ws bm : List ℕ) (fa : FrameAllocator) (m : Memory) → ws ≡ m .words → bm ≡ m .frames .bits → fa ≡ m .frames .fa → memory ws (frames bm fa) ≡ m
+memory-is ws bm fa m a b c = λ k. memory (a k) (frames (b k) (c k))
+
+-- both ways on from a step
+pub goOn-cases : (P : Out → Type 0) (o : Out) (k : ℕ → Memory → Out)
+    → ((n : ℕ) → o .walked ≡ Stop n → P (out (Stop n) (o .mem))) → ((x : ℕ) → o .walked ≡ At x → P (k x (o .mem))) → P (goOn o k)
+goOn-cases P o k a b = go (o .walked) refl
+  where
+    go : (w : Walked) → o .walked ≡ w → P (onward w (o .mem) k)
+    go (Stop n) e = a n e
+    go (At x) e = b x e
+
+-- ---- words set to 0
+
+pub clear-none : (ws : List ℕ) (at : ℕ) → clear ws at 0 ≡ ws
+unfolding clear
+clear-none ws at = refl
+
+pub clear-more : (ws : List ℕ) (at n : ℕ) → clear ws at (n + 1) ≡ set (clear ws at n) (at + n) 0
+unfolding clear
+clear-more ws at n = rw (add-one n)
+
+pub length-clear : (ws : List ℕ) (at n : ℕ) → length (clear ws at n) ≡ length ws
+unfolding clear
+length-clear ws at zero = refl
+length-clear ws at (suc n) = length-set (clear ws at n) (at + n) 0 ∙ length-clear ws at n
+
+-- ---- the table below an entry
+
+-- the words once frame f is zeroed and entered at word p as a table
+abbrev pub linked : Bool → List ℕ → ℕ → ℕ → ℕ → List ℕ
+linked u ws start p f = set (zeroFrame ws start f) p (entryOf (f * 2 ^ 12) true u)
+
+pub length-linked : (u : Bool) (ws : List ℕ) (start p f : ℕ) → length (linked u ws start p f) ≡ length ws
+length-linked u ws start p f = length-set (zeroFrame ws start f) p _ ∙ length-clear ws _ 512
+
+-- a frame that was taken is one of those lent
+pub taken-inside : (fr : Frames) (f : Frame) → takeFrame fr .answer ≡ AtFrame f → inside (fr .fa .start) (fr .fa .total) (f .0) ≡ true
+taken-inside fr f =
+    take-cases fr (λ (d : Did FrameAnswer). d .answer ≡ AtFrame f → inside (fr .fa .start) (fr .fa .total) (f .0) ≡ true)
+    (λ j h _ _ e. let n : fr .fa .start + j ≡ f .0 = cc in inside-yes (fr .fa .start) (fr .fa .total) (f .0) (omega arith) (omega arith))
+    (λ _ e. let z : _≡_ {A = ℕ} 0 1 = cc in absurd (omega arith))
+
+module _ (u : Bool) (m : Memory) (p : ℕ) where
+  pub create-new : (f : Frame) → takeFrame (m .frames) .answer ≡ AtFrame f
+      → create u m p ≡ out (At (f .0)) (memory (linked u (m .words) (startOf m) p (f .0)) (takeFrame (m .frames) .frames))
+  unfolding create
+  create-new f e = rw e
+
+  pub create-full : (n : ℕ) → takeFrame (m .frames) .answer ≡ NoFrame n → create u m p ≡ out (Stop n) (memory (m .words) (takeFrame (m .frames) .frames))
+  unfolding create
+  create-full n e = rw e
+
+module _ (u : Bool) (m : Memory) (t i : ℕ) where
+  pub enter-out : inside (startOf m) (totalOf m) t ≡ false → enter u m t i ≡ out (Stop outside) m
+  unfolding enter
+  enter-out h = rw h
+
+  module _ (h : inside (startOf m) (totalOf m) t ≡ true) where
+    pub enter-there : flag 0 (getD (m .words) (place (startOf m) t i) 0) ≡ true
+        → enter u m t i ≡ out (At (frameOf (getD (m .words) (place (startOf m) t i) 0))) m
+    unfolding enter below
+    enter-there k = rw (h, k)
+
+    pub enter-absent : flag 0 (getD (m .words) (place (startOf m) t i) 0) ≡ false → enter u m t i ≡ create u m (place (startOf m) t i)
+    unfolding enter below
+    enter-absent k = rw (h, k)
+
+  -- every outcome of an entered table: outside, there already, a new one in the lowest free frame, or no frame left
+  pub enter-cases : (P : Out → Type 0)
+      → (inside (startOf m) (totalOf m) t ≡ false → P (out (Stop outside) m))
+      → (inside (startOf m) (totalOf m) t ≡ true → flag 0 (getD (m .words) (place (startOf m) t i) 0) ≡ true → P (out (At (frameOf (getD (m .words) (place (startOf m) t i) 0))) m))
+      → (inside (startOf m) (totalOf m) t ≡ true → flag 0 (getD (m .words) (place (startOf m) t i) 0) ≡ false
+      → (j : ℕ) → j < totalOf m → marked (m .frames .bits) j ≡ 0 → ((k : ℕ) → k < j → marked (m .frames .bits) k ≡ 1)
+      → P (out (At (startOf m + j)) (memory (linked u (m .words) (startOf m) (place (startOf m) t i) (startOf m + j)) (withMark (m .frames) j))))
+      → (inside (startOf m) (totalOf m) t ≡ true → flag 0 (getD (m .words) (place (startOf m) t i) 0) ≡ false
+      → ((k : ℕ) → k < totalOf m → marked (m .frames .bits) k ≡ 1) → P (out (Stop noFreeFrame) m))
+      → P (enter u m t i)
+  unfolding enter below create
+  enter-cases P a b c d =
+      pick-cases P (inside (startOf m) (totalOf m) t) _ _
+      (λ h. pick-cases P (flag 0 (getD (m .words) (place (startOf m) t i) 0)) _ _ (b h)
+      (λ k. take-cases (m .frames) (λ (r : Did FrameAnswer). P (newTable u m (place (startOf m) t i) (r .answer) (r .frames))) (c h k) (d h k))) a
+
+-- ---- what no step changes: the frames lent, and the number of words
+
+pub record Kept (m m′ : Memory) : Type 0 where
+  pub start : startOf m′ ≡ startOf m
+  pub total : totalOf m′ ≡ totalOf m
+  pub words : length (m′ .words) ≡ length (m .words)
+
+kept-same : (m : Memory) → Kept m m
+kept-same m = record { start = refl; total = refl; words = refl }
+
+kept-then : {m₀ m₁ m₂ : Memory} → Kept m₀ m₁ → Kept m₁ m₂ → Kept m₀ m₂
+kept-then a b = record { start = b .start ∙ a .start; total = b .total ∙ a .total; words = b .words ∙ a .words }
+
+pub enter-kept : (u : Bool) (m : Memory) (t i : ℕ) → Kept m (enter u m t i .mem)
+unfolding withMark
+enter-kept u m t i =
+    enter-cases u m t i (λ (o : Out). Kept m (o .mem)) (λ _. kept-same m) (λ _ _. kept-same m)
+    (λ _ _ j _ _ _. record { start = refl; total = refl; words = length-linked u (m .words) (startOf m) _ _ }) (λ _ _ _. kept-same m)
+
+-- room for fewer frames
+pub roomy-less : {m : Memory} {n : ℕ} (k : ℕ) → k ≤ n → Roomy m n → Roomy m k
+roomy-less k l r = record { enough = r .enough; held = record { few = r .held .few; low = r .held .low; room = omega (arith, r .held .room) } }
+
+pub roomy-lent : {m : Memory} {n : ℕ} → Roomy m n → Lent (m .words) (startOf m) (totalOf m)
+roomy-lent r = record { few = r .held .few; enough = r .enough; low = r .held .low }
+
+-- a table that is entered takes at most one frame
+pub enter-roomy : (u : Bool) (m : Memory) (t i n : ℕ) → Roomy m (n + 1) → Roomy (enter u m t i .mem) n
+unfolding withMark
+enter-roomy u m t i n r =
+    enter-cases u m t i (λ (o : Out). Roomy (o .mem) n) (λ _. same) (λ _ _. same)
+    (λ _ _ j _ _ _. record {
+      enough = omega (arith, r .enough, length-linked u (m .words) (startOf m) (place (startOf m) t i) (startOf m + j));
+      held = record { few = r .held .few; low = r .held .low; room = omega (arith, r .held .room) };
+    })
+    (λ _ _ _. same)
+  where
+    same : Roomy m n
+    same = roomy-less n (omega arith) r
+
+-- ---- the tables along a path
+
+module _ (u : Bool) (m : Memory) (t : ℕ) {p : List ℕ} where
+  pub make-end : p ≡ [] → make u m t p ≡ out (At t) m
+  unfolding make
+  make-end c = rw c
+
+  module _ {i : ℕ} {is : List ℕ} (c : p ≡ i ∷ is) (m′ : Memory) where
+    pub make-stop : (n : ℕ) → enter u m t i ≡ out (Stop n) m′ → make u m t p ≡ out (Stop n) m′
+    unfolding make
+    make-stop n e = rw (c, e)
+
+    pub make-on : (f : ℕ) → enter u m t i ≡ out (At f) m′ → make u m t p ≡ make u m′ f is
+    unfolding make
+    make-on f e = rw (c, e)
+
+pub make-kept : (u : Bool) (p : List ℕ) (m : Memory) (t : ℕ) → Kept m (make u m t p .mem)
+unfolding make
+make-kept u [] m t = kept-same m
+make-kept u (i ∷ is) m t =
+    goOn-cases (λ (o : Out). Kept m (o .mem)) (enter u m t i) (λ f m′. make u m′ f is) (λ _ _. enter-kept u m t i)
+    (λ f _. kept-then (enter-kept u m t i) (make-kept u is (enter u m t i .mem) f))
+
+pub make-roomy : (u : Bool) (n : ℕ) (p : List ℕ) (m : Memory) (t : ℕ) → Roomy m (n + length p) → Roomy (make u m t p .mem) n
+unfolding make
+make-roomy u n [] m t r = roomy-less n (omega arith) r
+make-roomy u n (i ∷ is) m t r =
+    let q = enter-roomy u m t i (n + length is) (roomy-less _ (omega arith) r) in
+    goOn-cases (λ (o : Out). Roomy (o .mem) n) (enter u m t i) (λ f m′. make u m′ f is) (λ _ _. roomy-less n (omega arith) q)
+    (λ f _. make-roomy u n is (enter u m t i .mem) f q)
+
+-- ---- stores into one table
+
+module _ (ws : List ℕ) (start total t i e : ℕ) where
+  pub put-out : inside start total t ≡ false → putEntry ws start total t i e ≡ left (Stop outside) ws
+  unfolding putEntry
+  put-out h = rw h
+
+  pub put-full : inside start total t ≡ true → flag 0 (getD ws (place start t i) 0) ≡ true → putEntry ws start total t i e ≡ left (Stop alreadyMapped) ws
+  unfolding putEntry
+  put-full h k = rw (h, k)
+
+  pub put-free : inside start total t ≡ true → flag 0 (getD ws (place start t i) 0) ≡ false
+      → putEntry ws start total t i e ≡ left (At 0) (set ws (place start t i) e)
+  unfolding putEntry
+  put-free h k = rw (h, k)
+
+  pub put-length : length (putEntry ws start total t i e .words) ≡ length ws
+  unfolding putEntry
+  put-length =
+      pick-cases (λ (l : Left). length (l .words) ≡ length ws) (inside start total t) _ _
+      (λ _. pick-cases (λ (l : Left). length (l .words) ≡ length ws) (flag 0 (getD ws (place start t i) 0)) _ _ (λ _. refl) (λ _. length-set ws _ e)) (λ _. refl)
+
+module _ (ws : List ℕ) (start total t i : ℕ) where
+  pub take-leaf-out : inside start total t ≡ false → takeLeaf ws start total t i ≡ left (Stop outside) ws
+  unfolding takeLeaf
+  take-leaf-out h = rw h
+
+  pub take-leaf-none : inside start total t ≡ true → flag 0 (getD ws (place start t i) 0) ≡ false → takeLeaf ws start total t i ≡ left (Stop notMapped) ws
+  unfolding takeLeaf
+  take-leaf-none h k = rw (h, k)
+
+  pub take-leaf-there : inside start total t ≡ true → flag 0 (getD ws (place start t i) 0) ≡ true
+      → takeLeaf ws start total t i ≡ left (At (frameOf (getD ws (place start t i) 0))) (set ws (place start t i) 0)
+  unfolding takeLeaf
+  take-leaf-there h k = rw (h, k)
+
+  pub take-leaf-length : length (takeLeaf ws start total t i .words) ≡ length ws
+  unfolding takeLeaf
+  take-leaf-length =
+      pick-cases (λ (l : Left). length (l .words) ≡ length ws) (inside start total t) _ _
+      (λ _. pick-cases (λ (l : Left). length (l .words) ≡ length ws) (flag 0 (getD ws (place start t i) 0)) _ _ (λ _. length-set ws _ 0) (λ _. refl)) (λ _. refl)
+
+-- ---- a word for an address, and a leaf cleared
+
+module _ (u : Bool) (m : Memory) (root : ℕ) (path : List ℕ) (i e : ℕ) where
+  pub map-entry-stop : (n : ℕ) (m′ : Memory) → make u m root path ≡ out (Stop n) m′ → mapEntry u m root path i e ≡ out (Stop n) m′
+  unfolding mapEntry
+  map-entry-stop n m′ h = rw h
+
+  pub map-entry-put : (t : ℕ) (m′ : Memory) → make u m root path ≡ out (At t) m′
+      → mapEntry u m root path i e ≡ withWords m′ (putEntry (m′ .words) (startOf m′) (totalOf m′) t i e)
+  unfolding mapEntry
+  map-entry-put t m′ h = rw h
+
+  pub map-entry-kept : Kept m (mapEntry u m root path i e .mem)
+  unfolding mapEntry
+  map-entry-kept =
+      let k = make-kept u path m root in
+      goOn-cases (λ (o : Out). Kept m (o .mem)) (make u m root path) _ (λ _ _. k)
+      (λ t _. record { start = k .start; total = k .total; words = put-length _ _ _ t i e ∙ k .words })
+
+  pub map-entry-roomy : (n : ℕ) → Roomy m (n + length path) → Roomy (mapEntry u m root path i e .mem) n
+  unfolding mapEntry
+  map-entry-roomy n r =
+      let q = make-roomy u n path m root r in
+      goOn-cases (λ (o : Out). Roomy (o .mem) n) (make u m root path) _ (λ _ _. q)
+      (λ t _. record { enough = subst (λ (x : ℕ). totalOf (make u m root path .mem) * 512 ≤ x) (sym (put-length _ _ _ t i e)) (q .enough); held = q .held })
+
+module _ (ws : List ℕ) (start total root : ℕ) (path : List ℕ) (i : ℕ) where
+  pub unmap-entry-stop : (n : ℕ) → reach ws start total root path ≡ Stop n → unmapEntry ws start total root path i ≡ left (Stop n) ws
+  unfolding unmapEntry
+  unmap-entry-stop n h = rw h
+
+  pub unmap-entry-take : (t : ℕ) → reach ws start total root path ≡ At t → unmapEntry ws start total root path i ≡ takeLeaf ws start total t i
+  unfolding unmapEntry
+  unmap-entry-take t h = rw h
+
+  pub unmap-entry-length : length (unmapEntry ws start total root path i .words) ≡ length ws
+  unfolding unmapEntry
+  unmap-entry-length = go (reach ws start total root path)
+    where
+      go : (w : Walked) → length (afterReach w ws (λ t. takeLeaf ws start total t i) .words) ≡ length ws
+      go (At t) = take-leaf-length ws start total t i
+      go (Stop n) = refl

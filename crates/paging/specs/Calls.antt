@@ -1,0 +1,94 @@
+-- The mapper's calls, in document 01's order of checks: 10 first. A board has `up` levels above the last; document 01's has 3.
+use Prim.Native.Nat.{ℕ, suc, _+_, _-_, _^_}
+use mathlib.Core.Bool.{Bool, true, false}
+use mathlib.Core.List.{List}
+use lib.ListN.{length, getD, take}
+use Rattle.bits.specs.Bit.{pick, both, flag}
+use Rattle.answer.specs.Numbers.{brokenRecord, hugeUnaligned}
+use Rattle.answer.specs.declared.Answer.{Answer}
+use Rattle.answer.specs.declared.Answer.the-variants.{Met, Refused}
+use Rattle.answer.specs.declared.FlagAnswer.{FlagAnswer}
+use Rattle.answer.specs.declared.FlagAnswer.the-variants.{Flag, NoFlag}
+use Rattle.address.specs.Address.{aligned}
+use Rattle.address.specs.declared.PhysAnswer.{PhysAnswer}
+use Rattle.address.specs.declared.PhysAnswer.the-variants.{AtPhys, NoPhys}
+use Rattle.address.specs.declared.FrameAnswer.{FrameAnswer}
+use Rattle.address.specs.declared.FrameAnswer.the-variants.{AtFrame, NoFrame}
+use Rattle.entry.specs.Entry.{entryOf, hugeEntryOf, indices}
+use Rattle.frame.specs.Frames.{sound}
+use Rattle.frame.specs.declared.Changed.{Changed}
+use Rattle.paging.specs.declared.Walked.{Walked}
+use Rattle.paging.specs.declared.Walked.the-variants.{At, Stop}
+use Rattle.paging.specs.declared.Leaf.{Leaf}
+use Rattle.paging.specs.declared.Leaf.the-variants.{Page, Large, NoLeaf}
+use Rattle.paging.specs.declared.HugePageSize.{HugePageSize}
+use Rattle.paging.specs.declared.HugePageSize.the-variants.{Size2MB, Size1GB}
+use Rattle.paging.specs.Walk.{leaf, address, lent}
+use Rattle.paging.specs.Map.{Memory, startOf, totalOf, Out, out, Left, left, mapEntry, unmapEntry}
+
+-- where a step came, as the answer of each kind of call
+abbrev pub asAnswer : Walked → Answer
+asAnswer (At x) = Met
+asAnswer (Stop n) = Refused n
+
+abbrev pub asPhys : Walked → PhysAnswer
+asPhys (At a) = AtPhys (record { 0 = a })
+asPhys (Stop n) = NoPhys n
+
+abbrev pub asFrame : Walked → FrameAnswer
+asFrame (At f) = AtFrame (record { 0 = f })
+asFrame (Stop n) = NoFrame n
+
+-- the answer of a call that takes frames, beside the frame record that it leaves
+abbrev pub changed : Out → Changed
+changed o = record { answer = asAnswer (o .walked); frames = o .mem .frames .fa }
+
+-- not broken: what a walk needs, and the frame allocator's part
+abbrev pub whole : Memory → ℕ → Bool
+whole m root = both (lent (length (m .words)) (startOf m) (totalOf m) root) (sound (m .frames))
+
+unfoldable pub translate : ℕ → List ℕ → ℕ → ℕ → ℕ → ℕ → Walked
+translate up ws start total root v =
+    pick (lent (length ws) start total root) (address v (leaf ws start total root (indices (suc up) v))) (Stop brokenRecord)
+
+-- 'read if the leaf has USER, write if it has USER and WRITABLE; no where nothing translates or a third-level HUGE entry does'
+abbrev pub userLeaf : Bool → Leaf → Bool
+userLeaf write (Page e) = both (flag 2 e) (pick write (flag 1 e) true)
+userLeaf write (Large e) = false
+userLeaf write (NoLeaf n) = false
+
+unfoldable pub userMay : ℕ → List ℕ → ℕ → ℕ → ℕ → ℕ → Bool → FlagAnswer
+userMay up ws start total root v write =
+    pick (lent (length ws) start total root) (Flag (userLeaf write (leaf ws start total root (indices (suc up) v)))) (NoFlag brokenRecord)
+
+-- the entry e of address v below k tables
+abbrev pub mapAt : ℕ → ℕ → Bool → Memory → ℕ → ℕ → ℕ → Out
+mapAt up k u m root v e = mapEntry u m root (take k (indices (suc up) v)) (getD (indices (suc up) v) k 0) e
+
+-- '`map_page` walks three levels'
+unfoldable pub mapPage : ℕ → Memory → ℕ → ℕ → ℕ → Bool → Bool → Out
+mapPage up m root v p w u = pick (whole m root) (mapAt up up u m root v (entryOf p w u)) (out (Stop brokenRecord) m)
+
+abbrev pub sizeOf : HugePageSize → ℕ
+sizeOf Size2MB = 2 ^ 21
+sizeOf Size1GB = 2 ^ 30
+
+-- '`map_huge_page` writes a 1 GiB entry at the third level and a 2 MiB entry at the last'
+abbrev pub tablesAbove : ℕ → HugePageSize → ℕ
+tablesAbove up Size2MB = up
+tablesAbove up Size1GB = up - 1
+
+-- '4 huge addresses unaligned'
+unfoldable pub mapHuge : ℕ → Memory → ℕ → ℕ → ℕ → HugePageSize → Bool → Bool → Out
+mapHuge up m root v p s w u =
+    pick (whole m root)
+    (pick (both (aligned v (sizeOf s)) (aligned p (sizeOf s))) (mapAt up (tablesAbove up s) u m root v (hugeEntryOf p w u))
+    (out (Stop hugeUnaligned) m))
+    (out (Stop brokenRecord) m)
+
+-- '`unmap_page` clears the leaf and returns its frame without freeing it'
+unfoldable pub unmapPage : ℕ → List ℕ → ℕ → ℕ → ℕ → ℕ → Left
+unmapPage up ws start total root v =
+    pick (lent (length ws) start total root)
+    (unmapEntry ws start total root (take up (indices (suc up) v)) (getD (indices (suc up) v) up 0))
+    (left (Stop brokenRecord) ws)

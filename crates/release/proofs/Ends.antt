@@ -1,0 +1,154 @@
+-- Releasing all live regions: each release is met, and what it leaves is told, so that every two orders end in one board.
+use Prim.Native.Nat.{ℕ, zero, suc, _+_, _-_, _*_, _/_, _%_, _<_, _≤_}
+use mathlib.Core.Path.{_≡_, refl, sym, _∙_, ap, subst}
+use mathlib.Core.Bool.{Bool, true, false, true≢false, false≢true}
+use mathlib.Core.Logic.{_⊎_, inl, inr, ⊎-elim}
+use mathlib.Core.List.{List, [], _∷_, _++_, foldl, foldl-append, List·Memᴰ, List·Memᴰ·head, List·Memᴰ·not-nil, List·Permᴰ}
+use native.Mathlib.Omega.{arith}
+use lib.ListN.{length}
+use borrow.Author.Tests.{eq-eqb}
+use lib.Dec.{eqb}
+use Rattle.allocator.specs.Round.{rounded, roundUp, lastPage}
+use Rattle.allocator.proofs.Round.{rounded-met, rounded-above, round-pos}
+use Rattle.answer.specs.declared.CountAnswer.{CountAnswer}
+use Rattle.answer.specs.declared.CountAnswer.the-variants.{Count, NoCount}
+use Rattle.paging.specs.declared.Walked.{Walked}
+use Rattle.paging.specs.declared.Walked.the-variants.{At, Stop}
+use Rattle.paging.specs.Map.{Memory}
+use Rattle.paging.specs.Pages.{freePages}
+use Rattle.tree.proofs.Orders.{one-end}
+use Rattle.tree.proofs.Freeing.{freeAll, pages-end}
+use Rattle.tree.proofs.Runs.{run, free-pages}
+use Rattle.slots.specs.Slots.{every, live, store}
+use Rattle.slots.proofs.Filled.{filled}
+use Rattle.vmalloc.specs.declared.VMRegion.{VMRegion}
+use Rattle.vmalloc.specs.Regions.{windowStart, windowEnd, usedSize, freeFirst, merge}
+use Rattle.vmalloc.specs.Regions.{noSlot as noKernelSlot}
+use Rattle.vmalloc.specs.Calls.{kernel, vfree}
+use Rattle.vmalloc.specs.Calls.{Did as KernelDid}
+use Rattle.vmalloc.proofs.Merge.{freedAll, free-then, freed-comm}
+use Rattle.vmalloc.proofs.Rows.{freed-first, length-freed, length-merge}
+use Rattle.vmalloc.proofs.Used.{used-inside}
+use Rattle.vmalloc.proofs.Tiles.{Apart, apart-merged}
+use Rattle.vmalloc.proofs.Calls.{vfree-met}
+use Rattle.mmap.specs.declared.MappedRegion.{MappedRegion}
+use Rattle.mmap.specs.Regions.{holds, remove}
+use Rattle.mmap.specs.Regions.{noSlot as noUserSlot}
+use Rattle.mmap.specs.Calls.{aligned, munmap}
+use Rattle.mmap.specs.Calls.{Did as UserDid}
+use Rattle.mmap.proofs.Rising.{holds-placed, holds-nothing, length-remove}
+use Rattle.mmap.proofs.Calls.{munmap-met}
+use Rattle.board.specs.Board.{Board, Did, did}
+use Rattle.release.specs.Demand3.{liveStep, bookStep, freePart, joinParts, dropKernel, dropUser, Call, vfrees, munmaps, play, after, Event, events, isMet, Region, kernels, users, startIs, sizeIs, Releases, by-vfree, by-munmap, EachReleased, done, next, pagesFrom, pagesOf, concat}
+use Rattle.release.proofs.Lists.{Once, perm-concat}
+use Rattle.release.proofs.Regions.{KernelList, UserList, kernel-give, kernel-fewer, user-give, user-fewer, not-both}
+use Rattle.release.proofs.Invariant.{Paged, Inv, run-is, paged-give, give-start}
+use Rattle.release.proofs.Book.{free-part, join-parts}
+use Rattle.release.proofs.Sound.{kernel-sound, user-sound}
+use Rattle.release.proofs.Kernel.{withKernel, kernel-listed, kernel-stored, vfree-step}
+use Rattle.release.proofs.User.{userOf, withUser, user-listed, user-stored, munmap-step}
+
+-- a board with other memory and other lists
+abbrev pub board : Board → Memory → List VMRegion → List MappedRegion → Board
+board b m k u = record { mem = m; root = b .root; kernel = filled noKernelSlot k; user = filled noUserSlot u; next = b .next; marked = b .marked }
+
+-- what a release leaves of memory and lists
+abbrev pub memoryAfter : ℕ → Memory → Region → Memory
+memoryAfter root m r = freePages 3 m root (startIs r) (sizeIs r / 4096)
+
+abbrev pub kernelAfter : List VMRegion → Region → List VMRegion
+kernelAfter k (kernels a n) = merge (freedAll a k)
+kernelAfter k (users a n) = k
+
+abbrev pub userAfter : List MappedRegion → Region → List MappedRegion
+userAfter u (kernels a n) = u
+userAfter u (users a n) = remove a u
+
+-- one release
+pub record Gave (b : Board) (k : List VMRegion) (u : List MappedRegion) (r : Region) (l : List Region) (ever : List ℕ) (c : Call) : Type 0 where
+  pub met : play b c .answer ≡ At 0
+  pub leaves : play b c .board ≡ board b (memoryAfter (b .root) (b .mem) r) (kernelAfter k r) (userAfter u r)
+  pub inv : Inv (board b (memoryAfter (b .root) (b .mem) r) (kernelAfter k r) (userAfter u r)) (kernelAfter k r) (userAfter u r) l ever
+
+-- of a kernel's region
+module _ {b : Board} {k : List VMRegion} {u : List MappedRegion} {l : List Region} {ever : List ℕ} (a n : ℕ) (h : Inv b k u (kernels a n ∷ l) ever) where
+  used : usedSize a k ≡ At n
+  used = h .kernelList .live a n (List·Memᴰ·head refl)
+
+  lists : store noKernelSlot (merge (freeFirst a (live (b .kernel)))) (b .kernel) ≡ filled noKernelSlot (merge (freedAll a k))
+  lists =
+      ap (λ (x : List VMRegion). store noKernelSlot (merge x) (b .kernel)) (ap (freeFirst a) (kernel-listed h) ∙ freed-first a windowStart windowEnd k (h .kernelList .rows))
+      ∙ kernel-stored h (merge (freedAll a k)) (omega (arith, length-merge (freedAll a k), length-freed a k, h .kernelList .few))
+
+  kernel-play : play b (vfrees a) ≡ did (At 0) (board b (freePages 3 (b .mem) (b .root) a (n / 4096)) (merge (freedAll a k)) u)
+  unfolding play
+  kernel-play =
+      ap (λ (d : KernelDid). did (d .answer) (withKernel b (d .kernel)))
+      (vfree-met 3 (kernel (b .mem) (b .kernel)) (b .root) a n (kernel-sound h) (omega (arith, used-inside a n windowStart windowEnd k (h .kernelList .rows) used .from))
+      (ap (usedSize a) (kernel-listed h) ∙ used))
+      ∙ λ i. did (At 0) (record { mem = freePages 3 (b .mem) (b .root) a (n / 4096); root = b .root; kernel = lists i; user = h .userIs i; next = b .next; marked = b .marked })
+
+  pub kernel-gave : Gave b k u (kernels a n) l ever (vfrees a)
+  unfolding play concat
+  kernel-gave = record {
+    met = ap (λ (x : Did). x .answer) kernel-play;
+    leaves = ap (λ (x : Did). x .board) kernel-play;
+    inv = record {
+      paged = paged-give a (n / 4096) (h .paged);
+      first = h .first ∙ sym (give-start (b .mem) (b .root) a (n / 4096));
+      kernelIs = refl;
+      kernelList = kernel-give a n (h .kernelList) (h .once);
+      userIs = refl;
+      userList = user-fewer a n (h .userList);
+      next = h .next;
+      once = h .once .1;
+    };
+  }
+
+-- of a user's
+module _ {b : Board} {k : List VMRegion} {u : List MappedRegion} {l : List Region} {ever : List ℕ} (a n size : ℕ) (r : rounded size ≡ Count n) (h : Inv b k u (users a n ∷ l) ever) where
+  held : holds a n u ≡ true
+  held = h .userList .live a n (List·Memᴰ·head refl)
+
+  asked : 0 < size
+  unfolding rounded
+  asked = by size refl
+    where
+      by : (z : ℕ) → size ≡ z → 0 < size
+      by zero e =
+          let q : Count 0 ≡ Count n = subst (λ (x : ℕ). rounded x ≡ Count n) e r in
+          let w : 0 ≡ n = cc in
+          absurd (omega (arith, holds-placed a n 0 u (h .userList .rising) held .some))
+      by (suc z) e = omega arith
+
+  maps : store noUserSlot (remove a (live (b .user))) (b .user) ≡ filled noUserSlot (remove a u)
+  maps =
+      ap (λ (x : List MappedRegion). store noUserSlot (remove a x) (b .user)) (user-listed h)
+      ∙ user-stored h (remove a u) (omega (arith, length-remove a u, h .userList .few))
+
+  user-play : play b (munmaps a size) ≡ did (At 0) (board b (freePages 3 (b .mem) (b .root) a (n / 4096)) k (remove a u))
+  unfolding play
+  user-play =
+      ap (λ (d : UserDid). did (d .answer) (withUser b (d .user)))
+      (munmap-met 3 (userOf b) (b .root) a size n (user-sound h) asked (eq-eqb (a % 4096) 0 (holds-placed a n 0 u (h .userList .rising) held .even)) r
+      (ap (holds a n) (user-listed h) ∙ held))
+      ∙ λ i. did (At 0) (record { mem = freePages 3 (b .mem) (b .root) a (n / 4096); root = b .root; kernel = h .kernelIs i; user = maps i; next = b .next; marked = b .marked })
+
+  pub user-gave : Gave b k u (users a n) l ever (munmaps a size)
+  unfolding play concat
+  user-gave = record {
+    met = ap (λ (x : Did). x .answer) user-play;
+    leaves = ap (λ (x : Did). x .board) user-play;
+    inv =
+        let g = user-give a n (h .userList) (h .once) in
+        record {
+          paged = paged-give a (n / 4096) (h .paged);
+          first = h .first ∙ sym (give-start (b .mem) (b .root) a (n / 4096));
+          kernelIs = refl;
+          kernelList = kernel-fewer a n (h .kernelList);
+          userIs = refl;
+          userList = g;
+          next = h .next;
+          once = h .once .1;
+        };
+  }

@@ -1,0 +1,13 @@
+pub mod Lists
+pub mod Book
+pub mod Counting
+pub mod Regions
+pub mod Invariant
+pub mod Sound
+pub mod Kernel
+pub mod User
+pub mod Run
+pub mod Ends
+pub mod Orders
+pub mod Window
+pub mod Theorem

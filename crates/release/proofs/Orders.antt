@@ -1,0 +1,113 @@
+-- All live regions released, in whatever order: each release is met, and every two orders end in one board.
+use Prim.Native.Nat.{ℕ, zero, suc, _+_, _/_}
+use mathlib.Core.Path.{_≡_, refl, sym, _∙_, ap, subst}
+use mathlib.Core.Bool.{Bool, true, false}
+use mathlib.Core.List.{List, [], _∷_, _++_, foldl, foldl-append, List·Memᴰ·not-nil, List·Permᴰ, List·Permᴰ·trans, Permᴰ·symm}
+use Rattle.bits.specs.Bit.{both}
+use Rattle.paging.specs.declared.Walked.{Walked}
+use Rattle.paging.specs.declared.Walked.the-variants.{At, Stop}
+use Rattle.paging.specs.Map.{Memory}
+use Rattle.paging.specs.Pages.{freePage}
+use Rattle.tree.proofs.Orders.{one-end}
+use Rattle.tree.proofs.Freeing.{freeAll, pages-end}
+use Rattle.tree.proofs.Runs.{run, free-pages}
+use Rattle.slots.specs.Slots.{every}
+use Rattle.vmalloc.specs.declared.VMRegion.{VMRegion}
+use Rattle.vmalloc.specs.Regions.{merge}
+use Rattle.vmalloc.proofs.Merge.{freedAll, free-then, freed-comm}
+use Rattle.vmalloc.proofs.Tiles.{Apart, apart-merged}
+use Rattle.mmap.specs.declared.MappedRegion.{MappedRegion}
+use Rattle.mmap.specs.Regions.{holds}
+use Rattle.mmap.proofs.Rising.{holds-nothing}
+use Rattle.board.specs.Board.{Board, Did}
+use Rattle.release.specs.Demand3.{Call, play, after, Event, events, isMet, Region, kernels, users, startIs, sizeIs, Releases, by-vfree, by-munmap, EachReleased, done, next, Order, pagesFrom, pagesOf, concat}
+use Rattle.release.proofs.Lists.{perm-concat, reordered}
+use Rattle.release.proofs.Regions.{UserList}
+use Rattle.release.proofs.Invariant.{Inv, inv-perm, run-is}
+use Rattle.release.proofs.Ends.{board, memoryAfter, kernelAfter, userAfter, Gave, kernel-gave, user-gave}
+
+gave : {b : Board} {k : List VMRegion} {u : List MappedRegion} {l : List Region} {ever : List ℕ} {r : Region} {c : Call} → Releases r c → Inv b k u (r ∷ l) ever → Gave b k u r l ever c
+gave (by-vfree {a = a} {n = n}) h = kernel-gave a n h
+gave (by-munmap {a = a} {n = n} {size = size} q) h = user-gave a n size q h
+
+-- what releases of the regions of a list leave
+abbrev pub ended : Board → List VMRegion → List MappedRegion → List Region → Board
+ended b k u m = board b (foldl (memoryAfter (b .root)) (b .mem) m) (foldl kernelAfter k m) (foldl userAfter u m)
+
+pub record Ended (b : Board) (k : List VMRegion) (u : List MappedRegion) (m : List Region) (ever : List ℕ) (cs : List Call) : Type 0 where
+  pub met : every (λ e. isMet (e .answer)) (events b cs) ≡ true
+  pub leaves : after b cs ≡ ended b k u m
+  pub inv : Inv (ended b k u m) (foldl kernelAfter k m) (foldl userAfter u m) [] ever
+
+pub end-of : {m : List Region} {cs : List Call} → EachReleased m cs → {b : Board} {k : List VMRegion} {u : List MappedRegion} {ever : List ℕ} → Inv b k u m ever → Ended b k u m ever cs
+unfolding after events every
+end-of done {b} {k} {u} {ever} h =
+    let same : b ≡ board b (b .mem) k u = λ i. record { mem = b .mem; root = b .root; kernel = h .kernelIs i; user = h .userIs i; next = b .next; marked = b .marked } in
+    record { met = refl; leaves = same; inv = subst (λ (x : Board). Inv x k u [] ever) same h }
+end-of (next {r = r} {c = c} {cs = cs} x xs) {b} {k} {u} {ever} h =
+    let g = gave x h in
+    let e = end-of xs (g .inv) in
+    record {
+      met = rw (g .met, g .leaves) (e .met);
+      leaves = ap (λ (y : Board). after y cs) (g .leaves) ∙ e .leaves;
+      inv = e .inv;
+    }
+
+-- ---- the memory
+
+memory-end : (root : ℕ) (m : List Region) (x : Memory) → foldl (memoryAfter root) x m ≡ freeAll 3 root x (concat pagesOf m)
+unfolding concat
+memory-end root [] x = refl
+memory-end root (r ∷ m) x =
+    memory-end root m (memoryAfter root x r)
+    ∙ ap (λ (y : Memory). freeAll 3 root y (concat pagesOf m)) (free-pages 3 root (sizeIs r / 4096) x (startIs r) ∙ ap (freeAll 3 root x) (run-is (startIs r) (sizeIs r / 4096)))
+    ∙ sym (foldl-append (λ (y : Memory) (v : ℕ). freePage 3 y root v) x (pagesOf r) (concat pagesOf m))
+
+-- ---- the kernel's list
+
+abbrev freedRegion : List VMRegion → Region → List VMRegion
+freedRegion k (kernels a n) = freedAll a k
+freedRegion k (users a n) = k
+
+kernel-from : (m : List Region) (k : List VMRegion) → foldl kernelAfter (merge k) m ≡ merge (foldl freedRegion k m)
+kernel-from [] k = refl
+kernel-from (kernels a n ∷ m) k = ap (λ (x : List VMRegion). foldl kernelAfter x m) (free-then a k) ∙ kernel-from m (freedAll a k)
+kernel-from (users a n ∷ m) k = kernel-from m k
+
+kernel-end : (m : List Region) (k : List VMRegion) → Apart k → foldl kernelAfter k m ≡ merge (foldl freedRegion k m)
+kernel-end m k h = ap (λ (x : List VMRegion). foldl kernelAfter x m) (sym (apart-merged k h)) ∙ kernel-from m k
+
+regions-commute : (k : List VMRegion) (r s : Region) → Unit {0} → freedRegion (freedRegion k r) s ≡ freedRegion (freedRegion k s) r
+regions-commute k (kernels a n) (kernels c m) _ = freed-comm c a k
+regions-commute k (kernels a n) (users c m) _ = refl
+regions-commute k (users a n) (kernels c m) _ = refl
+regions-commute k (users a n) (users c m) _ = refl
+
+kernels-alike : {m m′ : List Region} → List·Permᴰ m m′ → (k : List VMRegion) → Apart k → foldl kernelAfter k m ≡ foldl kernelAfter k m′
+kernels-alike {m} {m′} d k h =
+    kernel-end m k h ∙ ap merge (one-end freedRegion (λ _. Unit {0}) (λ _ _ _. tt) regions-commute d k tt) ∙ sym (kernel-end m′ k h)
+
+-- ---- the user's list
+
+pub user-empty : {u : List MappedRegion} → UserList u [] → u ≡ []
+user-empty {u} h = holds-nothing u (λ a n. by a n (holds a n u) refl)
+  where
+    by : (a n : ℕ) (x : Bool) → holds a n u ≡ x → holds a n u ≡ false
+    by a n false e = e
+    by a n true e = absurd (List·Memᴰ·not-nil (h .held a n e))
+
+-- ---- every two orders
+
+module _ {b : Board} {k : List VMRegion} {u : List MappedRegion} {l : List Region} {ever : List ℕ} (h : Inv b k u l ever) where
+  pub order-end : {cs : List Call} (o : Order l cs) → Ended b k u (o .0) ever cs
+  order-end o = end-of (o .2) (inv-perm (reordered (o .1)) h)
+
+  pub one-board : {cs cs′ : List Call} → Order l cs → Order l cs′ → after b cs ≡ after b cs′
+  one-board {cs} {cs′} o o′ =
+      let d = List·Permᴰ·trans (Permᴰ·symm (reordered (o .1))) (reordered (o′ .1)) in
+      let e = order-end o in
+      let e′ = order-end o′ in
+      let mem = memory-end (b .root) (o .0) (b .mem) ∙ pages-end (h .paged .account .order) (perm-concat pagesOf d) ∙ sym (memory-end (b .root) (o′ .0) (b .mem)) in
+      let ker = kernels-alike d k (h .kernelList .apart) in
+      let maps = user-empty (e .inv .userList) ∙ sym (user-empty (e′ .inv .userList)) in
+      e .leaves ∙ (λ i. board b (mem i) (ker i) (maps i)) ∙ sym (e′ .leaves)

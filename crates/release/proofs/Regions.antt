@@ -1,0 +1,241 @@
+-- How the two region lists and the live regions go together, step by step.
+use Prim.Native.Nat.{ℕ, zero, suc, _+_, _-_, _%_, _<_, _≤_}
+use mathlib.Core.Path.{_≡_, refl, sym, _∙_, ap, subst}
+use mathlib.Core.Bool.{Bool, true, false, true≢false, false≢true}
+use mathlib.Core.Logic.{_⊎_, inl, inr, ⊎-elim}
+use mathlib.Core.List.{List, [], _∷_, List·Memᴰ, List·Memᴰ·head, List·Memᴰ·tail, List·Memᴰ·cases-cons, List·Memᴰ·not-nil, List·Permᴰ, List·Permᴰ·cons, List·Permᴰ·swap, List·Permᴰ·trans, Permᴰ·refl}
+use native.Mathlib.Omega.{arith}
+use native.Mathlib.Decide.{ℕ-discrete}
+use lib.IntN.{ℤ}
+use lib.Dec.{eqb, ltb}
+use lib.ListN.{length}
+use borrow.Author.Tests.{eqb-true, eqb-false, eq-eqb, ne-eqb, ltb-true}
+use Rattle.bits.specs.Bit.{pick, one}
+use Rattle.answer.specs.Numbers.{regionNotFound}
+use Rattle.paging.specs.declared.Walked.{Walked}
+use Rattle.paging.specs.declared.Walked.the-variants.{At, Stop}
+use Rattle.vmalloc.specs.declared.VMRegion.{VMRegion}
+use Rattle.vmalloc.specs.Regions.{windowStart, windowEnd, firstFit, cutFirst, usedSize, merge}
+use Rattle.vmalloc.proofs.Merge.{freedAll}
+use Rattle.vmalloc.proofs.Rows.{Rows, rows-cut, length-cut, rows-freed, length-freed, rows-merge, length-merge}
+use Rattle.vmalloc.proofs.Used.{used-merge, used-freed, used-gone, cut-used, cut-was-free, cut-others}
+use Rattle.vmalloc.proofs.Tiles.{Apart, apart-cut, apart-merge}
+use Rattle.mmap.specs.declared.MappedRegion.{MappedRegion}
+use Rattle.mmap.specs.Regions.{region, starts, holds, insert, remove}
+use Rattle.mmap.proofs.Rising.{Rising, Placed, rising-insert, length-insert, holds-inserted, holds-others, holds-none, holds-one, rising-remove, length-remove, holds-removed, holds-kept}
+use Rattle.release.specs.Demand3.{Region, kernels, users, dropKernel, dropUser}
+use Rattle.release.proofs.Lists.{Once}
+
+-- the kernel's list k, and the live regions l of the kernel
+pub record KernelList (k : List VMRegion) (l : List Region) : Type 0 where
+  pub rows : Rows windowStart windowEnd k
+  pub apart : Apart k
+  pub few : length k ≤ 256
+  pub used : (a n : ℕ) → usedSize a k ≡ At n → List·Memᴰ (kernels a n) l
+  pub live : (a n : ℕ) → List·Memᴰ (kernels a n) l → usedSize a k ≡ At n
+
+-- the user's list u, and the live regions l of the user
+pub record UserList (u : List MappedRegion) (l : List Region) : Type 0 where
+  pub rising : Rising 0 u
+  pub few : length u ≤ 256
+  pub held : (a n : ℕ) → holds a n u ≡ true → List·Memᴰ (users a n) l
+  pub live : (a n : ℕ) → List·Memᴰ (users a n) l → holds a n u ≡ true
+
+-- regions differ by kind, start and size
+pub kernel-start : {a b n m : ℕ} → kernels a n ≡ kernels b m → a ≡ b
+kernel-start e = cc
+
+kernel-size : {a b n m : ℕ} → kernels a n ≡ kernels b m → n ≡ m
+kernel-size e = cc
+
+user-start : {a b n m : ℕ} → users a n ≡ users b m → a ≡ b
+user-start e = cc
+
+user-size : {a b n m : ℕ} → users a n ≡ users b m → n ≡ m
+user-size e = cc
+
+pub two-kinds : {a b n m : ℕ} → kernels a n ≡ users b m → ⊥
+two-kinds e = let z : _≡_ {A = ℕ} 0 1 = cc in omega arith
+
+pub not-both : {w : Walked} {x y : ℕ} → w ≡ At x → w ≡ Stop y → ⊥
+not-both e f = let z : _≡_ {A = ℕ} 0 1 = cc in omega arith
+
+pub same-at : {w : Walked} {x y : ℕ} → w ≡ At x → w ≡ At y → x ≡ y
+same-at e f = cc
+
+-- ---- the kernel's list
+
+-- a region of n bytes is taken at a
+pub kernel-take : (a n : ℕ) {k : List VMRegion} {l : List Region} → n % 4096 ≡ 0 → 0 < n → KernelList k l → firstFit n k ≡ At a
+    → KernelList (cutFirst true n (ltb (length k) 256) k) (kernels a n ∷ l)
+kernel-take a n {k} {l} full pos h f = record {
+  rows = rows-cut true n room full pos windowStart windowEnd k (h .rows);
+  apart = apart-cut n room k (h .apart);
+  few = short room refl;
+  used = λ b m e. by b m e (ℕ-discrete b a);
+  live = λ b m e. ⊎-elim
+      (λ q. subst (λ (x : ℕ). usedSize x (cutFirst true n room k) ≡ At m) (sym (kernel-start q))
+      (cut-used n room a windowStart windowEnd k (h .rows) f ∙ ap At (sym (kernel-size q))))
+      (λ q. cut-others n room true a b k f (λ d. not-both (subst (λ (x : ℕ). usedSize x k ≡ At m) d (h .live b m q)) (cut-was-free n room a windowStart windowEnd k (h .rows) f)) ∙ h .live b m q)
+      (List·Memᴰ·cases-cons e);
+}
+  where
+    room : Bool
+    room = ltb (length k) 256
+
+    short : (y : Bool) → ltb (length k) 256 ≡ y → length (cutFirst true n y k) ≤ 256
+    short true e = omega (arith, length-cut true n true k, ltb-true (length k) 256 e)
+    short false e = omega (arith, length-cut true n false k, h .few)
+
+    by : (b m : ℕ) → usedSize b (cutFirst true n room k) ≡ At m → Dec (b ≡ a) → List·Memᴰ (kernels b m) (kernels a n ∷ l)
+    by b m e (yes d) =
+        let z : m ≡ n = same-at (subst (λ (x : ℕ). usedSize x (cutFirst true n room k) ≡ At m) d e) (cut-used n room a windowStart windowEnd k (h .rows) f) in
+        let q : kernels b m ≡ kernels a n = cc in
+        List·Memᴰ·head q
+    by b m e (no d) = List·Memᴰ·tail (h .used b m (sym (cut-others n room true a b k f d) ∙ e))
+
+-- the region at a is released
+pub kernel-give : (a n : ℕ) {k : List VMRegion} {l : List Region} → KernelList k (kernels a n ∷ l) → Once (kernels a n ∷ l) → KernelList (merge (freedAll a k)) l
+kernel-give a n {k} {l} h o = record {
+  rows = rows-merge windowStart windowEnd (freedAll a k) (rows-freed a windowStart windowEnd k (h .rows));
+  apart = apart-merge (freedAll a k);
+  few = omega (arith, length-merge (freedAll a k), length-freed a k, h .few);
+  used = λ b m e. by b m e (ℕ-discrete b a);
+  live = λ b m e. used-merge b (freedAll a k) ∙ used-freed a b k (other b m e) ∙ h .live b m (List·Memᴰ·tail e);
+}
+  where
+    other : (b m : ℕ) → List·Memᴰ (kernels b m) l → b ≡ a → ⊥
+    other b m e d =
+        let s : m ≡ n = same-at (subst (λ (x : ℕ). usedSize x k ≡ At m) d (h .live b m (List·Memᴰ·tail e))) (h .live a n (List·Memᴰ·head refl)) in
+        o .0 (subst (λ (x : Region). List·Memᴰ x l) (cc) e)
+
+    by : (b m : ℕ) → usedSize b (merge (freedAll a k)) ≡ At m → Dec (b ≡ a) → List·Memᴰ (kernels b m) l
+    by b m e (yes d) = absurd (not-both (sym (used-merge b (freedAll a k)) ∙ e) (subst (λ (x : ℕ). usedSize x (freedAll a k) ≡ Stop regionNotFound) (sym d) (used-gone a k)))
+    by b m e (no d) =
+        ⊎-elim (λ q. absurd (d (kernel-start q))) (λ q. q)
+        (List·Memᴰ·cases-cons (h .used b m (sym (used-freed a b k d) ∙ sym (used-merge b (freedAll a k)) ∙ e)))
+
+-- a region of the user's makes no difference
+pub kernel-more : (a n : ℕ) {k : List VMRegion} {l : List Region} → KernelList k l → KernelList k (users a n ∷ l)
+kernel-more a n h = record {
+  rows = h .rows;
+  apart = h .apart;
+  few = h .few;
+  used = λ b m e. List·Memᴰ·tail (h .used b m e);
+  live = λ b m e. ⊎-elim (λ q. absurd (two-kinds q)) (λ q. h .live b m q) (List·Memᴰ·cases-cons e);
+}
+
+pub kernel-fewer : (a n : ℕ) {k : List VMRegion} {l : List Region} → KernelList k (users a n ∷ l) → KernelList k l
+kernel-fewer a n h = record {
+  rows = h .rows;
+  apart = h .apart;
+  few = h .few;
+  used = λ b m e. ⊎-elim (λ q. absurd (two-kinds q)) (λ q. q) (List·Memᴰ·cases-cons (h .used b m e));
+  live = λ b m e. h .live b m (List·Memᴰ·tail e);
+}
+
+-- ---- the user's list
+
+pub user-take : (a n : ℕ) (prot flags : ℤ) {u : List MappedRegion} {l : List Region} → Placed a n → UserList u l → starts a u ≡ false → length u < 256
+    → UserList (insert (region a n prot flags) u) (users a n ∷ l)
+user-take a n prot flags {u} {l} p h s few = record {
+  rising = rising-insert (region a n prot flags) 0 u (omega arith) p (h .rising);
+  few = omega (arith, length-insert (region a n prot flags) u s);
+  held = λ b m e. by b m e (ℕ-discrete b a);
+  live = λ b m e. ⊎-elim
+      (λ q. subst (λ (x : ℕ). holds x m (insert (region a n prot flags) u) ≡ true) (sym (user-start q))
+      (subst (λ (y : ℕ). holds a y (insert (region a n prot flags) u) ≡ true) (sym (user-size q)) (holds-inserted (region a n prot flags) 0 u (h .rising))))
+      (λ q. holds-others (region a n prot flags) b m u (λ d. true≢false (sym (subst (λ (x : ℕ). holds x m u ≡ true) d (h .live b m q)) ∙ holds-none a m u s)) ∙ h .live b m q)
+      (List·Memᴰ·cases-cons e);
+}
+  where
+    by : (b m : ℕ) → holds b m (insert (region a n prot flags) u) ≡ true → Dec (b ≡ a) → List·Memᴰ (users b m) (users a n ∷ l)
+    by b m e (yes d) =
+        let z : m ≡ n = holds-one a m n (insert (region a n prot flags) u) (subst (λ (x : ℕ). holds x m (insert (region a n prot flags) u) ≡ true) d e) (holds-inserted (region a n prot flags) 0 u (h .rising)) in
+        let q : users b m ≡ users a n = cc in
+        List·Memᴰ·head q
+    by b m e (no d) = List·Memᴰ·tail (h .held b m (sym (holds-others (region a n prot flags) b m u d) ∙ e))
+
+pub user-give : (a n : ℕ) {u : List MappedRegion} {l : List Region} → UserList u (users a n ∷ l) → Once (users a n ∷ l) → UserList (remove a u) l
+user-give a n {u} {l} h o = record {
+  rising = rising-remove a 0 u (h .rising);
+  few = omega (arith, length-remove a u, h .few);
+  held = λ b m e. by b m e (ℕ-discrete b a);
+  live = λ b m e. holds-kept a b m u (other b m e) ∙ h .live b m (List·Memᴰ·tail e);
+}
+  where
+    other : (b m : ℕ) → List·Memᴰ (users b m) l → b ≡ a → ⊥
+    other b m e d =
+        let s : m ≡ n = holds-one a m n u (subst (λ (x : ℕ). holds x m u ≡ true) d (h .live b m (List·Memᴰ·tail e))) (h .live a n (List·Memᴰ·head refl)) in
+        o .0 (subst (λ (x : Region). List·Memᴰ x l) (cc) e)
+
+    by : (b m : ℕ) → holds b m (remove a u) ≡ true → Dec (b ≡ a) → List·Memᴰ (users b m) l
+    by b m e (yes d) = absurd (true≢false (sym (subst (λ (x : ℕ). holds x m (remove a u) ≡ true) d e) ∙ holds-removed a m 0 u (h .rising)))
+    by b m e (no d) =
+        ⊎-elim (λ q. absurd (d (user-start q))) (λ q. q) (List·Memᴰ·cases-cons (h .held b m (sym (holds-kept a b m u d) ∙ e)))
+
+pub user-more : (a n : ℕ) {u : List MappedRegion} {l : List Region} → UserList u l → UserList u (kernels a n ∷ l)
+user-more a n h = record {
+  rising = h .rising;
+  few = h .few;
+  held = λ b m e. List·Memᴰ·tail (h .held b m e);
+  live = λ b m e. ⊎-elim (λ q. absurd (two-kinds (sym q))) (λ q. h .live b m q) (List·Memᴰ·cases-cons e);
+}
+
+pub user-fewer : (a n : ℕ) {u : List MappedRegion} {l : List Region} → UserList u (kernels a n ∷ l) → UserList u l
+user-fewer a n h = record {
+  rising = h .rising;
+  few = h .few;
+  held = λ b m e. ⊎-elim (λ q. absurd (two-kinds (sym q))) (λ q. q) (List·Memᴰ·cases-cons (h .held b m e));
+  live = λ b m e. h .live b m (List·Memᴰ·tail e);
+}
+
+-- ---- dropping a live region
+
+pub drop-kernel : (a n : ℕ) (l : List Region) → List·Memᴰ (kernels a n) l → ((m : ℕ) → List·Memᴰ (kernels a m) l → m ≡ n) → List·Permᴰ l (kernels a n ∷ dropKernel a l)
+unfolding dropKernel
+drop-kernel a n [] e sole = absurd (List·Memᴰ·not-nil e)
+drop-kernel a n (kernels s m ∷ l) e sole = by (eqb s a) refl (drop-kernel a n l)
+  where
+    by : (x : Bool) → eqb s a ≡ x → (List·Memᴰ (kernels a n) l → ((m : ℕ) → List·Memᴰ (kernels a m) l → m ≡ n) → List·Permᴰ l (kernels a n ∷ dropKernel a l))
+        → List·Permᴰ (kernels s m ∷ l) (kernels a n ∷ pick x l (kernels s m ∷ dropKernel a l))
+    by true q more =
+        let z : s ≡ a = eqb-true s a q in
+        let w : kernels a m ≡ kernels s m = cc in
+        let y : m ≡ n = sole m (List·Memᴰ·head w) in
+        let e : kernels s m ≡ kernels a n = cc in
+        List·Permᴰ·cons e (Permᴰ·refl l)
+    by false q more =
+        List·Permᴰ·trans (List·Permᴰ·cons refl (more
+        (⊎-elim (λ d. absurd (eqb-false s a q (sym (kernel-start d)))) (λ d. d) (List·Memᴰ·cases-cons e))
+        (λ x d. sole x (List·Memᴰ·tail d))))
+        (List·Permᴰ·swap refl refl)
+drop-kernel a n (users s m ∷ l) e sole =
+    List·Permᴰ·trans (List·Permᴰ·cons refl (drop-kernel a n l
+    (⊎-elim (λ d. absurd (two-kinds d)) (λ d. d) (List·Memᴰ·cases-cons e))
+    (λ x d. sole x (List·Memᴰ·tail d))))
+    (List·Permᴰ·swap refl refl)
+
+pub drop-user : (a n : ℕ) (l : List Region) → List·Memᴰ (users a n) l → ((m : ℕ) → List·Memᴰ (users a m) l → m ≡ n) → List·Permᴰ l (users a n ∷ dropUser a l)
+unfolding dropUser
+drop-user a n [] e sole = absurd (List·Memᴰ·not-nil e)
+drop-user a n (users s m ∷ l) e sole = by (eqb s a) refl (drop-user a n l)
+  where
+    by : (x : Bool) → eqb s a ≡ x → (List·Memᴰ (users a n) l → ((m : ℕ) → List·Memᴰ (users a m) l → m ≡ n) → List·Permᴰ l (users a n ∷ dropUser a l))
+        → List·Permᴰ (users s m ∷ l) (users a n ∷ pick x l (users s m ∷ dropUser a l))
+    by true q more =
+        let z : s ≡ a = eqb-true s a q in
+        let w : users a m ≡ users s m = cc in
+        let y : m ≡ n = sole m (List·Memᴰ·head w) in
+        let e : users s m ≡ users a n = cc in
+        List·Permᴰ·cons e (Permᴰ·refl l)
+    by false q more =
+        List·Permᴰ·trans (List·Permᴰ·cons refl (more
+        (⊎-elim (λ d. absurd (eqb-false s a q (sym (user-start d)))) (λ d. d) (List·Memᴰ·cases-cons e))
+        (λ x d. sole x (List·Memᴰ·tail d))))
+        (List·Permᴰ·swap refl refl)
+drop-user a n (kernels s m ∷ l) e sole =
+    List·Permᴰ·trans (List·Permᴰ·cons refl (drop-user a n l
+    (⊎-elim (λ d. absurd (two-kinds (sym d))) (λ d. d) (List·Memᴰ·cases-cons e))
+    (λ x d. sole x (List·Memᴰ·tail d))))
+    (List·Permᴰ·swap refl refl)

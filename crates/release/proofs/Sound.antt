@@ -1,0 +1,44 @@
+-- A board that the invariant holds of is not broken, so no call on it answers 10.
+use Prim.Native.Nat.{ℕ, _-_, _%_, _≤_}
+use mathlib.Core.Path.{_≡_, refl, sym, _∙_, ap}
+use mathlib.Core.Bool.{Bool, true}
+use mathlib.Core.List.{List}
+use native.Mathlib.Omega.{arith}
+use lib.Dec.{leb, eqb}
+use lib.ListN.{length}
+use borrow.Author.Tests.{le-leb, eq-eqb}
+use Rattle.tree.proofs.Ordered.{ordered-whole}
+use Rattle.slots.specs.Slots.{every}
+use Rattle.slots.proofs.Filled.{filled, live-filled, drop-filled, every-zero}
+use Rattle.vmalloc.specs.declared.VMRegion.{VMRegion}
+use Rattle.vmalloc.specs.Regions.{windowStart, windowEnd, isNoSlot, soundRegions}
+use Rattle.vmalloc.specs.Regions.{noSlot as noKernelSlot}
+use Rattle.vmalloc.specs.Calls.{kernel, soundKernel}
+use Rattle.vmalloc.proofs.Rows.{rows-placed}
+use Rattle.mmap.specs.declared.MappedRegion.{MappedRegion}
+use Rattle.mmap.specs.Regions.{soundMappings}
+use Rattle.mmap.specs.Regions.{noSlot as noUserSlot}
+use Rattle.mmap.specs.Calls.{user, soundUser}
+use Rattle.mmap.proofs.Rising.{rising-test, rising-placed}
+use Rattle.board.specs.Board.{Board}
+use Rattle.release.specs.Demand3.{Region}
+use Rattle.release.proofs.Regions.{KernelList, UserList}
+use Rattle.release.proofs.Invariant.{Inv}
+
+regions-sound : {k : List VMRegion} {l : List Region} → KernelList k l → soundRegions (filled noKernelSlot k) ≡ true
+unfolding soundRegions
+regions-sound {k} h =
+    rw (le-leb _ _ (h .few), live-filled noKernelSlot k, rows-placed windowStart windowEnd k (omega arith) (h .rows), drop-filled noKernelSlot k)
+    (every-zero noKernelSlot isNoSlot refl (256 - length k))
+
+mappings-sound : {u : List MappedRegion} {l : List Region} (next : ℕ) → UserList u l → next % 4096 ≡ 0 → soundMappings (filled noUserSlot u) next ≡ true
+unfolding soundMappings
+mappings-sound {u} next h e =
+    rw (le-leb _ _ (h .few), live-filled noUserSlot u, rising-test 0 u (h .rising), rising-placed 0 u (h .rising), eq-eqb (next % 4096) 0 e)
+
+module _ {b : Board} {k : List VMRegion} {u : List MappedRegion} {l : List Region} {ever : List ℕ} (h : Inv b k u l ever) where
+  pub kernel-sound : soundKernel (kernel (b .mem) (b .kernel)) (b .root) ≡ true
+  kernel-sound = rw (ordered-whole (h .paged .account .order), h .kernelIs) (regions-sound (h .kernelList))
+
+  pub user-sound : soundUser (user (b .mem) (b .user) (b .next)) (b .root) ≡ true
+  user-sound = rw (ordered-whole (h .paged .account .order), h .userIs) (mappings-sound (b .next) (h .userList) (h .next))

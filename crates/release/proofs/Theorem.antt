@@ -1,0 +1,209 @@
+-- Demand 3.
+use Prim.Native.Nat.{ℕ, zero, suc, _+_, _-_, _*_, _/_, _<_, _≤_}
+use mathlib.Core.Path.{_≡_, refl, sym, _∙_, ap, subst}
+use mathlib.Core.Bool.{Bool, true, false}
+use mathlib.Core.Logic.{_⊎_, inl, inr, ⊎-elim, ∥∥₁-elim}
+use mathlib.Core.HLevel.{⊥-prop}
+use mathlib.Core.List.{List, [], _∷_, _++_, foldl, List·Memᴰ, List·Memᴰ·head, List·Memᴰ·tail, List·Memᴰ·cases-cons, List·Memᴰ·not-nil, List·Memᴰ·append-cases, Memᴰ·append-left, Memᴰ·append-right, List·Nodup, nodup-nil, nodup-cons}
+use native.Mathlib.Omega.{arith}
+use native.Mathlib.Decide.{ℕ-discrete}
+use lib.ListN.{length, take, replicate, length-take}
+use lib.Seq.{take-take}
+use Rattle.entry.specs.Entry.{indices}
+use Rattle.entry.proofs.Entry.{length-indices}
+use Rattle.frame.proofs.Laws.{inside-yes, inside-from, inside-under}
+use Rattle.bitmap.specs.Bitmap.{marked}
+use Rattle.allocator.specs.Round.{roundUp}
+use Rattle.paging.specs.declared.Walked.{Walked}
+use Rattle.paging.specs.declared.Walked.the-variants.{At, Stop}
+use Rattle.paging.specs.Walk.{reach}
+use Rattle.paging.specs.Map.{Memory, startOf, totalOf}
+use Rattle.tree.proofs.Paths.{Leads, leads-take, leads-length, take-leads, path, upper, length-path, length-upper}
+use Rattle.tree.proofs.Ordered.{reachIn, insideIn, markIn, Ordered, root-marked, root-inside}
+use Rattle.tree.proofs.Accounts.{Reached, Accounted}
+use Rattle.tree.proofs.Books.{Live, Tabled, silent, tables-only}
+use Rattle.tree.proofs.Counts.{counter-paths}
+use Rattle.slots.proofs.Filled.{filled, live-filled}
+use Rattle.slots.specs.Slots.{live}
+use Rattle.vmalloc.specs.declared.VMRegion.{VMRegion}
+use Rattle.vmalloc.specs.Regions.{window}
+use Rattle.vmalloc.specs.Regions.{noSlot as noKernelSlot}
+use Rattle.mmap.specs.declared.MappedRegion.{MappedRegion}
+use Rattle.board.specs.Board.{Board}
+use Rattle.release.specs.Demand3.{Call, vmallocs, vfrees, mmaps, munmaps, after, Event, events, Region, bornBy, everLive, pagesFrom, pagesOf, runsOf, concat, leadingRuns, among, different, PageTable, Order, book, neverCut, Released, Demand3}
+use Rattle.release.specs.Demand3.{live as liveRegions}
+use Rattle.release.proofs.Lists.{Once, concat-append, concat-member, member-concat}
+use Rattle.release.proofs.Counting.{among-member, member-among, different-from, different-all, different-once}
+use Rattle.release.proofs.Invariant.{Paged, Inv}
+use Rattle.release.proofs.Kernel.{morePages}
+use Rattle.release.proofs.Run.{everStep, everFrom, run-inv, fresh-inv}
+use Rattle.release.proofs.Ends.{kernelAfter, userAfter}
+use Rattle.release.proofs.Orders.{Ended, order-end, one-board}
+use Rattle.release.proofs.Window.{whole-run, whole-window, whole-end, one-window}
+
+-- ---- the pages ever mapped are those of the regions ever live
+
+born-pages : (ever : List ℕ) (c : Call) (w : Walked) (v : ℕ) → List·Memᴰ v (everStep ever c w) → List·Memᴰ v ever ⊎ List·Memᴰ v (concat pagesOf (bornBy c w))
+unfolding concat
+born-pages ever (vmallocs size) (At a) v m = ⊎-elim (λ q. inr (Memᴰ·append-left [] q)) (λ q. inl q) (List·Memᴰ·append-cases (pagesFrom a (roundUp 12 size / 4096)) m)
+born-pages ever (vmallocs size) (Stop e) v m = inl m
+born-pages ever (vfrees a) w v m = inl m
+born-pages ever (mmaps wish size prot flags) (At a) v m = ⊎-elim (λ q. inr (Memᴰ·append-left [] q)) (λ q. inl q) (List·Memᴰ·append-cases (pagesFrom a (roundUp 12 size / 4096)) m)
+born-pages ever (mmaps wish size prot flags) (Stop e) v m = inl m
+born-pages ever (munmaps a size) w v m = inl m
+
+pages-born : (ever : List ℕ) (c : Call) (w : Walked) (v : ℕ) → List·Memᴰ v ever ⊎ List·Memᴰ v (concat pagesOf (bornBy c w)) → List·Memᴰ v (everStep ever c w)
+unfolding concat
+pages-born ever (vmallocs size) (At a) v m =
+    ⊎-elim (λ q. Memᴰ·append-right (pagesFrom a (roundUp 12 size / 4096)) q)
+    (λ q. Memᴰ·append-left ever (⊎-elim (λ x. x) (λ x. absurd (List·Memᴰ·not-nil x)) (List·Memᴰ·append-cases (pagesFrom a (roundUp 12 size / 4096)) q))) m
+pages-born ever (vmallocs size) (Stop e) v m = ⊎-elim (λ q. q) (λ q. absurd (List·Memᴰ·not-nil q)) m
+pages-born ever (vfrees a) w v m = ⊎-elim (λ q. q) (λ q. absurd (List·Memᴰ·not-nil q)) m
+pages-born ever (mmaps wish size prot flags) (At a) v m =
+    ⊎-elim (λ q. Memᴰ·append-right (pagesFrom a (roundUp 12 size / 4096)) q)
+    (λ q. Memᴰ·append-left ever (⊎-elim (λ x. x) (λ x. absurd (List·Memᴰ·not-nil x)) (List·Memᴰ·append-cases (pagesFrom a (roundUp 12 size / 4096)) q))) m
+pages-born ever (mmaps wish size prot flags) (Stop e) v m = ⊎-elim (λ q. q) (λ q. absurd (List·Memᴰ·not-nil q)) m
+pages-born ever (munmaps a size) w v m = ⊎-elim (λ q. q) (λ q. absurd (List·Memᴰ·not-nil q)) m
+
+ever-pages : (es : List Event) (ever : List ℕ) (v : ℕ) → List·Memᴰ v (everFrom ever es) → List·Memᴰ v ever ⊎ List·Memᴰ v (concat pagesOf (everLive es))
+unfolding everLive
+ever-pages [] ever v m = inl m
+ever-pages (e ∷ es) ever v m =
+    ⊎-elim
+    (λ q. ⊎-elim (λ x. inl x) (λ x. inr (rw (concat-append pagesOf (bornBy (e .call) (e .answer)) (everLive es)) (Memᴰ·append-left (concat pagesOf (everLive es)) x))) (born-pages ever (e .call) (e .answer) v q))
+    (λ q. inr (rw (concat-append pagesOf (bornBy (e .call) (e .answer)) (everLive es)) (Memᴰ·append-right (concat pagesOf (bornBy (e .call) (e .answer))) q)))
+    (ever-pages es (everStep ever (e .call) (e .answer)) v m)
+
+pages-ever : (es : List Event) (ever : List ℕ) (v : ℕ) → List·Memᴰ v ever ⊎ List·Memᴰ v (concat pagesOf (everLive es)) → List·Memᴰ v (everFrom ever es)
+unfolding everLive concat
+pages-ever [] ever v m = ⊎-elim (λ q. q) (λ q. absurd (List·Memᴰ·not-nil q)) m
+pages-ever (e ∷ es) ever v m =
+    pages-ever es (everStep ever (e .call) (e .answer)) v
+    (⊎-elim (λ q. inl (pages-born ever (e .call) (e .answer) v (inl q)))
+    (λ q. ⊎-elim (λ x. inl (pages-born ever (e .call) (e .answer) v (inr x))) (λ x. inr x)
+    (List·Memᴰ·append-cases (concat pagesOf (bornBy (e .call) (e .answer))) (rw (concat-append pagesOf (bornBy (e .call) (e .answer)) (everLive es)) at q))) m)
+
+-- ---- runs of leading indices
+
+run-lead : (v : ℕ) (p : List ℕ) → List·Memᴰ p (runsOf v) → Leads p (upper 3 v) × (1 ≤ length p)
+run-lead v p m = ⊎-elim (λ e. by 1 e (omega arith) (omega arith)) (λ m1. ⊎-elim (λ e. by 2 e (omega arith) (omega arith)) (λ m2. ⊎-elim (λ e. by 3 e (omega arith) (omega arith)) (λ m3. absurd (List·Memᴰ·not-nil m3)) (List·Memᴰ·cases-cons m2)) (List·Memᴰ·cases-cons m1)) (List·Memᴰ·cases-cons m)
+  where
+    by : (j : ℕ) → p ≡ take j (indices 4 v) → j ≤ 3 → 1 ≤ j → Leads p (upper 3 v) × (1 ≤ length p)
+    by j e le ge = (
+      subst (λ (x : List ℕ). Leads x (upper 3 v)) (sym (e ∙ sym (take-take j 3 (indices 4 v) le))) (take-leads j (upper 3 v)),
+      omega (arith, ap length e, length-take j (indices 4 v), length-indices 4 v),
+    )
+
+lead-run : (v : ℕ) (p : List ℕ) → Leads p (upper 3 v) → 1 ≤ length p → List·Memᴰ p (runsOf v)
+lead-run v p d ge = by (length p) refl (leads-take d) (leads-length d)
+  where
+    by : (j : ℕ) → length p ≡ j → p ≡ take (length p) (upper 3 v) → length p ≤ length (upper 3 v) → List·Memᴰ p (runsOf v)
+    by zero e q le = absurd (omega arith)
+    by (suc zero) e q le = List·Memᴰ·head (q ∙ ap (λ (x : ℕ). take x (upper 3 v)) e ∙ take-take 1 3 (indices 4 v) (omega arith))
+    by (suc (suc zero)) e q le = List·Memᴰ·tail (List·Memᴰ·head (q ∙ ap (λ (x : ℕ). take x (upper 3 v)) e ∙ take-take 2 3 (indices 4 v) (omega arith)))
+    by (suc (suc (suc zero))) e q le = List·Memᴰ·tail (List·Memᴰ·tail (List·Memᴰ·head (q ∙ ap (λ (x : ℕ). take x (upper 3 v)) e ∙ take-take 3 3 (indices 4 v) (omega arith))))
+    by (suc (suc (suc (suc j)))) e q le = absurd (omega (arith, length-upper 3 v))
+
+-- ---- a board with no live region
+
+module _ {x : Board} {k : List VMRegion} {u : List MappedRegion} (es : List Event) (h : Inv x k u [] (everFrom [] es)) where
+  none-live : Live (x .mem) (x .root) 3 []
+  unfolding concat
+  none-live = h .paged .live
+
+  ordered : Ordered (x .mem) (x .root) 4
+  ordered = h .paged .account .order
+
+  -- its page tables are the leading runs
+  table-run : (p : List ℕ) (f : ℕ) → 1 ≤ length p → length p ≤ 3 → reachIn (x .mem) (x .root) p ≡ At f → List·Memᴰ p (leadingRuns es)
+  table-run p f ge le r =
+      let t = h .paged .tabled .tables p f ge le r in
+      let v : List·Memᴰ (t .0) (concat pagesOf (everLive es)) = ⊎-elim (λ q. absurd (List·Memᴰ·not-nil q)) (λ q. q) (ever-pages es [] (t .0) (t .1)) in
+      member-concat runsOf p (t .0) (concat pagesOf (everLive es)) v (lead-run (t .0) p (t .2) ge)
+
+  run-table : (p : List ℕ) → List·Memᴰ p (leadingRuns es) → (f : ℕ) × (reachIn (x .mem) (x .root) p ≡ At f) × (1 ≤ length p) × (length p ≤ 3)
+  run-table p m =
+      let c = concat-member runsOf p (concat pagesOf (everLive es)) m in
+      let d = run-lead (c .0) p (c .2) in
+      let t = h .paged .tabled .runs (c .0) (pages-ever es [] (c .0) (inr (c .1))) p (d .0) in
+      (t .0, t .1, d .1, omega (arith, leads-length (d .0), length-upper 3 (c .0)))
+
+  -- no path of four indices is reached
+  no-page : (p : List ℕ) (f : ℕ) → length p ≡ 4 → reachIn (x .mem) (x .root) p ≡ At f → ⊥
+  no-page p f e r = List·Memᴰ·not-nil (none-live .only p f e r .1)
+
+  -- the root and the tables are all that is reached
+  all-reached : (p : List ℕ) (f : ℕ) → length p ≤ 4 → reachIn (x .mem) (x .root) p ≡ At f → List·Memᴰ p ([] ∷ different (leadingRuns es))
+  all-reached [] f le r = List·Memᴰ·head refl
+  all-reached (i ∷ p) f le r = List·Memᴰ·tail (different-all (i ∷ p) (leadingRuns es) (by (ℕ-discrete (length (i ∷ p)) 4)))
+    where
+      by : Dec (length (i ∷ p) ≡ 4) → List·Memᴰ (i ∷ p) (leadingRuns es)
+      by (yes e) = absurd (no-page (i ∷ p) f e r)
+      by (no d) = table-run (i ∷ p) f (omega arith) (omega arith) r
+
+  each-reached : (p : List ℕ) → List·Memᴰ p ([] ∷ different (leadingRuns es)) → (f : ℕ) × (length p ≤ 4) × (reachIn (x .mem) (x .root) p ≡ At f)
+  unfolding reach
+  each-reached p m =
+      ⊎-elim (λ e. (x .root, omega (arith, ap length e), ap (reachIn (x .mem) (x .root)) e))
+      (λ q. let t = run-table p (different-from p (leadingRuns es) q) in (t .0, omega (arith, t .3), t .1)) (List·Memᴰ·cases-cons m)
+
+  once-each : (l : List (List ℕ)) → Once l → List·Nodup l
+  once-each [] o = nodup-nil
+  once-each (p ∷ l) o = nodup-cons .1 ((λ m. ∥∥₁-elim m ⊥-prop (o .0)), once-each l (o .1))
+
+  nil-new : List·Memᴰ [] (different (leadingRuns es)) → ⊥
+  nil-new m = let t = run-table [] (different-from [] (leadingRuns es) m) in omega (arith, t .2)
+
+  pub counter-is : x .mem .frames .fa .allocated ≡ 1 + length (different (leadingRuns es))
+  counter-is =
+      counter-paths (h .paged .account) ([] ∷ different (leadingRuns es)) (once-each _ (nil-new, different-once (leadingRuns es))) each-reached all-reached
+      ∙ omega arith
+
+  pub root-kept : markIn (x .mem) (x .root) ≡ 1
+  root-kept = root-marked ordered
+
+  pub other-marked : (f : ℕ) → f < totalOf (x .mem) → marked (x .mem .frames .bits) f ≡ 1 → (f ≡ 0) ⊎ PageTable x (startOf (x .mem) + f)
+  unfolding reach
+  other-marked f lt mark =
+      let back : startOf (x .mem) + f - startOf (x .mem) ≡ f = omega arith in
+      let r = tables-only none-live (h .paged .account) (startOf (x .mem) + f)
+      (inside-yes (startOf (x .mem)) (totalOf (x .mem)) (startOf (x .mem) + f) (omega arith) (omega arith)) (ap (marked (x .mem .frames .bits)) back ∙ mark) in
+      by (r .path) (r .short) (r .comes)
+    where
+      by : (p : List ℕ) → length p ≤ 3 → reachIn (x .mem) (x .root) p ≡ At (startOf (x .mem) + f) → (f ≡ 0) ⊎ PageTable x (startOf (x .mem) + f)
+      by [] le e = let q : x .root ≡ startOf (x .mem) + f = cc in inl (omega (arith, h .first))
+      by (i ∷ p) le e = inr (record { path = i ∷ p; proper = omega arith; above = le; reached = e })
+
+nothing : (r s : ℕ) → r ≡ s → 0 ≡ r - s
+nothing r s e = omega arith
+
+-- ---- the theorem
+
+pub demand3 : Demand3
+demand3 old fresh from to st cs ne lr rs rs′ o o′ =
+    let es = events fresh cs in
+    let b = after fresh cs in
+    let r = run-inv cs (fresh-inv old fresh from to st) ne in
+    let h = r .1 in
+    let e = order-end h o in
+    let root : after b rs .root ≡ b .root = ap (λ (y : Board). y .root) (e .leaves) in
+    let g : Inv (after b rs) (foldl kernelAfter (book es) (o .0)) (foldl userAfter (r .0) (o .0)) [] (everFrom [] es) =
+    subst (λ (y : Board). Inv y (foldl kernelAfter (book es) (o .0)) (foldl userAfter (r .0) (o .0)) [] (everFrom [] es)) (sym (e .leaves)) (e .inv) in
+    let tree = g .paged .account .order .tree in
+    record {
+      book-holds = ap live (h .kernelIs) ∙ live-filled noKernelSlot (book es);
+      met = e .met;
+      same = one-board h o o′;
+      no-address = λ v. silent (none-live es g) (g .paged .account .order) (g .paged .plain) v;
+      root-marked = (sym root ∙ g .first, ap (marked (after b rs .mem .frames .bits)) (nothing _ _ (g .first)) ∙ root-kept es g);
+      tables-marked = λ f t.
+          let ins = tree .into (t .path) f (omega (arith, t .above)) (t .reached) in
+          (inside-from _ _ f ins, omega (arith, inside-from (startOf (after b rs .mem)) (totalOf (after b rs .mem)) f ins, inside-under (startOf (after b rs .mem)) (totalOf (after b rs .mem)) f ins), tree .kept (t .path) f (omega (arith, t .above)) (t .reached));
+      no-other-marked = other-marked es g;
+      counter = counter-is es g;
+      run-has-table = λ p m. let t = run-table es g p (among-member p (leadingRuns es) m) in (t .0, subst (λ (y : ℕ). reachIn (after b rs .mem) y p ≡ At (t .0)) root (t .1));
+      table-has-run = λ f t. member-among (t .path) (leadingRuns es) (table-run es g (t .path) f (t .proper) (t .above) (t .reached));
+      one-table-each = λ f t t′. tree .once (t .path) (t′ .path) f (omega (arith, t .above)) (omega (arith, t′ .above)) (t .reached) (t′ .reached);
+      one-window = λ q. g .kernelIs ∙ ap (filled noKernelSlot)
+          (one-window (g .kernelList) (whole-end (o .0) (book es) (whole-run cs (fresh-inv old fresh from to st) ne q whole-window)));
+    }

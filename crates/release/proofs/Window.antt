@@ -1,0 +1,117 @@
+-- The kernel window: while no vmalloc cuts a larger region at 256 the list has no gaps, and once nothing is used it is one free region.
+use Prim.Native.Nat.{ℕ, _+_, _-_, _<_, _≤_}
+use mathlib.Core.Path.{_≡_, refl, sym, _∙_, ap, subst}
+use mathlib.Core.Bool.{Bool, true, false, not, true≢false, false≢true}
+use mathlib.Core.Logic.{⊎-elim}
+use mathlib.Core.List.{List, [], _∷_, foldl, List·Memᴰ·not-nil}
+use native.Mathlib.Omega.{arith}
+use lib.Dec.{leb, ltb, eqb}
+use lib.ListN.{length}
+use borrow.Author.Tests.{le-leb, ltb-false}
+use Rattle.bits.specs.Bit.{pick, both}
+use Rattle.frame.proofs.Laws.{both-true}
+use Rattle.allocator.specs.Round.{roundUp}
+use Rattle.answer.specs.Numbers.{regionNotFound}
+use Rattle.paging.specs.declared.Walked.{Walked}
+use Rattle.paging.specs.declared.Walked.the-variants.{At, Stop}
+use Rattle.slots.specs.Slots.{live, every}
+use Rattle.vmalloc.specs.declared.VMRegion.{VMRegion}
+use Rattle.vmalloc.specs.Regions.{windowStart, windowEnd, window, firstFit, cutFirst, usedSize, freeFirst, merge}
+use Rattle.vmalloc.specs.Calls.{Did, kernel, kernelPages, mapped, vmalloc}
+use Rattle.vmalloc.proofs.Merge.{freedAll}
+use Rattle.vmalloc.proofs.Rows.{freed-first}
+use Rattle.vmalloc.proofs.Used.{AllFree, all-free}
+use Rattle.vmalloc.proofs.Tiles.{apart-merged, Tiled, tiled-freed, tiled-merge, tiled-cut, larger, cut-exact, one-region}
+use Rattle.vmalloc.proofs.Calls.{vmalloc-cases, walked-cases}
+use Rattle.mmap.specs.declared.MappedRegion.{MappedRegion}
+use Rattle.board.specs.Board.{Board}
+use Rattle.release.specs.Demand3.{Call, vmallocs, vfrees, mmaps, munmaps, play, after, Event, events, exhausted, neverExhausted, Region, kernels, users, takePart, freePart, joinParts, exceeds, bookStep, bookFrom, cuts, uncutFrom}
+use Rattle.release.proofs.Book.{take-cut, exceeds-larger, free-part, join-parts}
+use Rattle.release.proofs.Regions.{KernelList, not-both, same-at}
+use Rattle.release.proofs.Invariant.{Inv}
+use Rattle.release.proofs.Kernel.{kernel-listed}
+use Rattle.release.proofs.Run.{step}
+use Rattle.release.proofs.Ends.{kernelAfter}
+
+-- the window without gaps
+abbrev pub Whole : List VMRegion → Type 0
+Whole k = Tiled windowStart windowEnd k
+
+-- a vmalloc that is met answers the first region large enough
+fit-of : {b : Board} {k : List VMRegion} {u : List MappedRegion} {l : List Region} {ever : List ℕ} → Inv b k u l ever → (size a : ℕ)
+    → vmalloc 3 (kernel (b .mem) (b .kernel)) (b .root) size .answer ≡ At a → firstFit (roundUp 12 size) k ≡ At a
+fit-of {b} {k} h size a =
+    vmalloc-cases 3 (kernel (b .mem) (b .kernel)) (b .root) size (λ (d : Did). d .answer ≡ At a → firstFit (roundUp 12 size) k ≡ At a)
+    (λ _ e. absurd (not-both e refl)) (λ e. absurd (not-both e refl)) (λ e. absurd (not-both e refl)) (λ n f e. absurd (not-both e refl))
+    (λ s pos le c f. by c (subst (λ (x : List VMRegion). firstFit (roundUp 12 size) x ≡ At c) (kernel-listed h) f) (kernelPages 3 (b .mem) (b .root) c (roundUp 12 size) .walked))
+  where
+    by : (c : ℕ) → firstFit (roundUp 12 size) k ≡ At c → (w : Walked)
+        → mapped c (roundUp 12 size) (b .kernel) w (kernelPages 3 (b .mem) (b .root) c (roundUp 12 size) .mem) .answer ≡ At a → firstFit (roundUp 12 size) k ≡ At a
+    by c f (At x) e = f ∙ e
+    by c f (Stop n) e = absurd (not-both e refl)
+
+-- one call
+module _ {b : Board} {k : List VMRegion} {u : List MappedRegion} {l : List Region} {ever : List ℕ} (h : Inv b k u l ever) (t : Whole k) where
+  whole-take : (n a : ℕ) → firstFit n k ≡ At a → both (leb 256 (length k)) (exceeds a n k) ≡ false → Whole (takePart a n (ltb (length k) 256) k)
+  whole-take n a f q = rw (take-cut n a windowStart windowEnd (ltb (length k) 256) k (h .kernelList .rows) f) (by (ltb (length k) 256) refl)
+    where
+      by : (room : Bool) → ltb (length k) 256 ≡ room → Whole (cutFirst true n room k)
+      by true e = tiled-cut true n windowStart windowEnd k t
+      by false e =
+          let x : exceeds a n k ≡ false = subst (λ (y : Bool). both y (exceeds a n k) ≡ false) (le-leb 256 (length k) (ltb-false (length k) 256 e)) q in
+          rw (cut-exact true false n k (sym (exceeds-larger n a windowStart windowEnd k (h .kernelList .rows) f) ∙ x)) (tiled-cut true n windowStart windowEnd k t)
+
+  whole-give : (a : ℕ) → Whole (joinParts (freePart a k))
+  whole-give a =
+      rw (free-part a k, join-parts (freeFirst a k), freed-first a windowStart windowEnd k (h .kernelList .rows))
+      (tiled-merge windowStart windowEnd (freedAll a k) (tiled-freed a windowStart windowEnd k t))
+
+  whole-step : (c : Call) → cuts k c (play b c .answer) ≡ false → Whole (bookStep k c (play b c .answer))
+  unfolding play
+  whole-step (vmallocs size) =
+      walked-cases (λ w. (vmalloc 3 (kernel (b .mem) (b .kernel)) (b .root) size .answer ≡ w) → cuts k (vmallocs size) w ≡ false → Whole (bookStep k (vmallocs size) w))
+      (vmalloc 3 (kernel (b .mem) (b .kernel)) (b .root) size .answer)
+      (λ a _ e q. whole-take (roundUp 12 size) a (fit-of h size a e) q) (λ n _ e q. t) refl
+  whole-step (vfrees a) = walked-cases (λ w. cuts k (vfrees a) w ≡ false → Whole (bookStep k (vfrees a) w)) (play b (vfrees a) .answer) (λ x _ q. whole-give a) (λ n _ q. t)
+  whole-step (mmaps wish size prot flags) = λ q. t
+  whole-step (munmaps a size) = λ q. t
+
+not-flip : (x : Bool) → not x ≡ true → x ≡ false
+not-flip true e = sym e
+not-flip false e = refl
+
+-- a list of calls
+pub whole-run : (cs : List Call) {b : Board} {k : List VMRegion} {u : List MappedRegion} {l : List Region} {ever : List ℕ} → Inv b k u l ever → neverExhausted (events b cs) ≡ true
+    → uncutFrom k (events b cs) ≡ true → Whole k → Whole (bookFrom k (events b cs))
+unfolding events bookFrom uncutFrom every
+whole-run [] h e q t = t
+whole-run (c ∷ cs) {b} {k} h e q t =
+    let r = both-true (not (exhausted (play b c .answer))) _ e in
+    let s = both-true (not (cuts k c (play b c .answer))) _ q in
+    whole-run cs (step h c (not-flip (exhausted (play b c .answer)) (r .0)) .1) (r .1) (s .1) (whole-step h t c (not-flip (cuts k c (play b c .answer)) (s .0)))
+
+pub whole-window : Whole (window ∷ [])
+whole-window = (refl, refl)
+
+-- the releases
+pub whole-end : (m : List Region) (k : List VMRegion) → Whole k → Whole (foldl kernelAfter k m)
+whole-end [] k t = t
+whole-end (kernels a n ∷ m) k t = whole-end m (merge (freedAll a k)) (tiled-merge windowStart windowEnd (freedAll a k) (tiled-freed a windowStart windowEnd k t))
+whole-end (users a n ∷ m) k t = whole-end m k t
+
+-- a whole list with nothing used is the window
+used-number : (a e : ℕ) (k : List VMRegion) → usedSize a k ≡ Stop e → e ≡ regionNotFound
+unfolding usedSize
+used-number a e [] h = cc
+used-number a e (r ∷ k) h = by (both (eqb (r .start) a) (r .used)) h (used-number a e k)
+  where
+    by : (x : Bool) → pick x (At (r .size)) (usedSize a k) ≡ Stop e → (usedSize a k ≡ Stop e → e ≡ regionNotFound) → e ≡ regionNotFound
+    by true g more = absurd (not-both refl g)
+    by false g more = more g
+
+pub one-window : {k : List VMRegion} → KernelList k [] → Whole k → k ≡ window ∷ []
+one-window {k} h t = sym (apart-merged k (h .apart)) ∙ one-region windowStart windowEnd k (omega arith) (all-free k none) t
+  where
+    none : (a : ℕ) → usedSize a k ≡ Stop regionNotFound
+    none a = walked-cases (λ w. usedSize a k ≡ w → usedSize a k ≡ Stop regionNotFound) (usedSize a k)
+        (λ n _ e. absurd (List·Memᴰ·not-nil (h .used a n e))) (λ e _ q. q ∙ ap Stop (used-number a e k q)) refl

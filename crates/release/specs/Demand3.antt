@@ -1,0 +1,317 @@
+-- Demand 3, the release paper, as one statement. It speaks of the definitions of the four calls (crates vmalloc and mmap) and of the board's start (crate board); what
+-- 'live', 'page tables', 'the window book' and 'cut' mean is defined here from calls and answers, as document 01 does under 'The release paper'.
+use Prim.Native.Nat.{ℕ, zero, suc, _+_, _-_, _*_, _/_, _^_, _≤_, _<_}
+use mathlib.Core.Path.{_≡_}
+use mathlib.Core.Bool.{Bool, true, false, not}
+use mathlib.Core.Logic.{_⊎_}
+use mathlib.Core.List.{List, [], _∷_, _++_, map}
+use lib.IntN.{ℤ}
+use lib.Dec.{eqb, leb, ltb}
+use lib.ListN.{length, take, replicate}
+use Rattle.bits.specs.Bit.{pick, both}
+use Rattle.allocator.specs.Round.{rounded, roundUp}
+use Rattle.answer.specs.Numbers.{noFreeFrame, mapFailed, notMapped}
+use Rattle.answer.specs.declared.CountAnswer.{CountAnswer}
+use Rattle.answer.specs.declared.CountAnswer.the-variants.{Count, NoCount}
+use Rattle.entry.specs.Entry.{indices}
+use Rattle.bitmap.specs.Bitmap.{marked as markOf}
+use Rattle.paging.specs.declared.Walked.{Walked}
+use Rattle.paging.specs.declared.Walked.the-variants.{At, Stop}
+use Rattle.paging.specs.Walk.{reach}
+use Rattle.paging.specs.Map.{startOf, totalOf}
+use Rattle.paging.specs.Calls.{translate}
+use Rattle.slots.specs.Slots.{Slots, live as liveSlots, every}
+use Rattle.vmalloc.specs.declared.VMRegion.{VMRegion}
+use Rattle.vmalloc.specs.Regions.{window, noSlot, region, joins}
+use Rattle.vmalloc.specs.Calls.{kernel, vmalloc, vfree}
+use Rattle.mmap.specs.Regions.{fixed}
+use Rattle.mmap.specs.Calls.{user, Wish, anywhere, wished, aligned, mmap, munmap}
+use Rattle.board.specs.Board.{Board, Did, did, start}
+
+-- ---- lists of calls
+
+-- the four calls with any arguments
+pub data Call : Type 0 where
+  vmallocs : ℕ → Call
+  vfrees : ℕ → Call
+  mmaps : Wish → ℕ → ℤ → ℤ → Call
+  munmaps : ℕ → ℕ → Call
+
+-- a call on a board of four levels: its answer, and the board that it leaves
+unfoldable pub play : Board → Call → Did
+play b (vmallocs size) =
+    let d = vmalloc 3 (kernel (b .mem) (b .kernel)) (b .root) size in
+    did (d .answer) (record { mem = d .kernel .mem; root = b .root; kernel = d .kernel .regions; user = b .user; next = b .next; marked = b .marked })
+play b (vfrees a) =
+    let d = vfree 3 (kernel (b .mem) (b .kernel)) (b .root) a in
+    did (d .answer) (record { mem = d .kernel .mem; root = b .root; kernel = d .kernel .regions; user = b .user; next = b .next; marked = b .marked })
+play b (mmaps wish size prot flags) =
+    let d = mmap 3 (user (b .mem) (b .user) (b .next)) (b .root) wish size prot flags in
+    did (d .answer) (record { mem = d .user .mem; root = b .root; kernel = b .kernel; user = d .user .regions; next = d .user .next; marked = b .marked })
+play b (munmaps a size) =
+    let d = munmap 3 (user (b .mem) (b .user) (b .next)) (b .root) a size in
+    did (d .answer) (record { mem = d .user .mem; root = b .root; kernel = b .kernel; user = d .user .regions; next = d .user .next; marked = b .marked })
+
+-- the board after a list of calls, 'each call on the state the last one left'
+unfoldable pub after : Board → List Call → Board
+after b [] = b
+after b (c ∷ cs) = after (play b c .board) cs
+
+-- a call with its answer
+pub record Event : Type 0 where
+  pub call : Call
+  pub answer : Walked
+
+-- the calls of a list with their answers
+unfoldable pub events : Board → List Call → List Event
+events b [] = []
+events b (c ∷ cs) = record { call = c; answer = play b c .answer } ∷ events (play b c .board) cs
+
+abbrev pub isMet : Walked → Bool
+isMet (At x) = true
+isMet (Stop n) = false
+
+-- turned away with 11 or 13
+abbrev pub exhausted : Walked → Bool
+exhausted (At x) = false
+exhausted (Stop n) = pick (eqb n noFreeFrame) true (eqb n mapFailed)
+
+-- ---- the two conditions
+
+-- 'no call was turned away with 11 or 13'
+abbrev pub neverExhausted : List Event → Bool
+neverExhausted es = every (λ e. not (exhausted (e .answer))) es
+
+-- 'every fixed or page-aligned hinted range ends at or below 2^47': it 'runs from the given address over the rounded size; it counts where its mmap is met or turned away
+-- with 11 or 13'
+abbrev pub lowRange : Call → Bool
+lowRange (vmallocs size) = true
+lowRange (vfrees a) = true
+lowRange (mmaps anywhere size prot flags) = true
+lowRange (mmaps (wished a) size prot flags) = pick (pick (fixed flags) true (aligned a)) (leb (a + roundUp 12 size) (2 ^ 47)) true
+lowRange (munmaps a size) = true
+
+abbrev pub counts : Walked → Bool
+counts w = pick (isMet w) true (exhausted w)
+
+abbrev pub lowRanges : List Event → Bool
+lowRanges es = every (λ e. pick (counts (e .answer)) (lowRange (e .call)) true) es
+
+-- ---- live regions
+
+-- a region of the kernel's (vmalloc) or the user's (mmap): its start and its rounded size
+pub data Region : Type 0 where
+  kernels : ℕ → ℕ → Region
+  users : ℕ → ℕ → Region
+
+abbrev pub startIs : Region → ℕ
+startIs (kernels a n) = a
+startIs (users a n) = a
+
+abbrev pub sizeIs : Region → ℕ
+sizeIs (kernels a n) = n
+sizeIs (users a n) = n
+
+-- the live regions without the kernel's, or the user's, at a
+unfoldable pub dropKernel : ℕ → List Region → List Region
+dropKernel a [] = []
+dropKernel a (kernels s n ∷ l) = pick (eqb s a) l (kernels s n ∷ dropKernel a l)
+dropKernel a (users s n ∷ l) = users s n ∷ dropKernel a l
+
+unfoldable pub dropUser : ℕ → List Region → List Region
+dropUser a [] = []
+dropUser a (users s n ∷ l) = pick (eqb s a) l (users s n ∷ dropUser a l)
+dropUser a (kernels s n ∷ l) = kernels s n ∷ dropUser a l
+
+-- 'A region is live from the met vmalloc or mmap that answers its start to the met vfree or munmap of that start'
+abbrev pub liveStep : List Region → Call → Walked → List Region
+liveStep l (vmallocs size) (At a) = kernels a (roundUp 12 size) ∷ l
+liveStep l (vmallocs size) (Stop n) = l
+liveStep l (vfrees a) (At x) = dropKernel a l
+liveStep l (vfrees a) (Stop n) = l
+liveStep l (mmaps wish size prot flags) (At a) = users a (roundUp 12 size) ∷ l
+liveStep l (mmaps wish size prot flags) (Stop n) = l
+liveStep l (munmaps a size) (At x) = dropUser a l
+liveStep l (munmaps a size) (Stop n) = l
+
+unfoldable pub liveFrom : List Region → List Event → List Region
+liveFrom l [] = l
+liveFrom l (e ∷ es) = liveFrom (liveStep l (e .call) (e .answer)) es
+
+abbrev pub live : List Event → List Region
+live es = liveFrom [] es
+
+-- all regions ever live
+abbrev pub bornBy : Call → Walked → List Region
+bornBy (vmallocs size) (At a) = kernels a (roundUp 12 size) ∷ []
+bornBy (vmallocs size) (Stop n) = []
+bornBy (vfrees a) w = []
+bornBy (mmaps wish size prot flags) (At a) = users a (roundUp 12 size) ∷ []
+bornBy (mmaps wish size prot flags) (Stop n) = []
+bornBy (munmaps a size) w = []
+
+unfoldable pub everLive : List Event → List Region
+everLive [] = []
+everLive (e ∷ es) = bornBy (e .call) (e .answer) ++ everLive es
+
+-- ---- orders of releasing
+
+-- one call that releases a region: 'munmap with any size that rounds to the region's'
+pub data Releases : Region → Call → Type 0 where
+  by-vfree : {a n : ℕ} → Releases (kernels a n) (vfrees a)
+  by-munmap : {a n size : ℕ} → rounded size ≡ Count n → Releases (users a n) (munmaps a size)
+
+-- the same regions in another order
+pub data Reordered : List Region → List Region → Type 0 where
+  none : Reordered [] []
+  keep : {r : Region} {l m : List Region} → Reordered l m → Reordered (r ∷ l) (r ∷ m)
+  swap : {r s : Region} {l : List Region} → Reordered (r ∷ s ∷ l) (s ∷ r ∷ l)
+  then : {l m k : List Region} → Reordered l m → Reordered m k → Reordered l k
+
+-- a release for each region of a list
+pub data EachReleased : List Region → List Call → Type 0 where
+  done : EachReleased [] []
+  next : {r : Region} {c : Call} {l : List Region} {cs : List Call} → Releases r c → EachReleased l cs → EachReleased (r ∷ l) (c ∷ cs)
+
+-- 'orders of releasing all live regions, one call each'
+abbrev pub Order : List Region → List Call → Type 0
+Order l cs = (m : List Region) × Reordered l m × EachReleased m cs
+
+-- ---- page tables
+
+-- 'Page tables are the frames that present entries above the last level reach from the root'
+pub record PageTable (b : Board) (f : ℕ) : Type 0 where
+  pub path : List ℕ
+  pub proper : 1 ≤ length path
+  pub above : length path ≤ 3
+  pub reached : reach (b .mem .words) (startOf (b .mem)) (totalOf (b .mem)) (b .root) path ≡ At f
+
+-- the pages of a region: n of them from v on
+unfoldable pub pagesFrom : ℕ → ℕ → List ℕ
+pagesFrom v zero = []
+pagesFrom v (suc n) = v ∷ pagesFrom (v + 4096) n
+
+abbrev pub pagesOf : Region → List ℕ
+pagesOf r = pagesFrom (startIs r) (sizeIs r / 4096)
+
+-- 'run of leading indices, neither empty nor whole', of a page
+abbrev pub runsOf : ℕ → List (List ℕ)
+runsOf v = take 1 (indices 4 v) ∷ take 2 (indices 4 v) ∷ take 3 (indices 4 v) ∷ []
+
+unfoldable pub concat : {A B : Type 0} → (A → List B) → List A → List B
+concat f [] = []
+concat f (a ∷ l) = f a ++ concat f l
+
+-- the runs of 'pages of all regions ever live'
+abbrev pub leadingRuns : List Event → List (List ℕ)
+leadingRuns es = concat runsOf (concat pagesOf (everLive es))
+
+-- whether two runs are one
+unfoldable pub sameRun : List ℕ → List ℕ → Bool
+sameRun [] [] = true
+sameRun [] (j ∷ q) = false
+sameRun (i ∷ p) [] = false
+sameRun (i ∷ p) (j ∷ q) = both (eqb i j) (sameRun p q)
+
+unfoldable pub among : List ℕ → List (List ℕ) → Bool
+among p [] = false
+among p (q ∷ l) = pick (sameRun p q) true (among p l)
+
+-- the different ones of some runs, each once
+unfoldable pub different : List (List ℕ) → List (List ℕ)
+different [] = []
+different (p ∷ l) = pick (among p l) (different l) (p ∷ different l)
+
+-- ---- the window book: its parts stand in the order of their addresses, so that adjoining ones are neighbours
+
+-- 'A met vmalloc takes the free part at its answer. If it exceeds the rounded size, the tail becomes a free part while the book has fewer than 256; at 256 the part is
+-- cut, the tail struck out'
+abbrev pub tailPart : ℕ → Bool → VMRegion → List VMRegion → List VMRegion
+tailPart n room r l = pick (ltb n (r .size)) (pick room (region (r .start + n) (r .size - n) false ∷ l) l) l
+
+unfoldable pub takePart : ℕ → ℕ → Bool → List VMRegion → List VMRegion
+takePart a n room [] = []
+takePart a n room (r ∷ l) =
+    pick (both (not (r .used)) (eqb (r .start) a)) (region a n true ∷ tailPart n room r l) (r ∷ takePart a n room l)
+
+-- 'A met vfree frees its part and joins all adjoining free parts'
+unfoldable pub freePart : ℕ → List VMRegion → List VMRegion
+freePart a [] = []
+freePart a (r ∷ l) = pick (both (r .used) (eqb (r .start) a)) (region a (r .size) false ∷ l) (r ∷ freePart a l)
+
+abbrev pub joinOnto : VMRegion → List VMRegion → List VMRegion
+joinOnto r [] = r ∷ []
+joinOnto r (s ∷ l) = pick (joins r s) (region (r .start) (r .size + s .size) false ∷ l) (r ∷ s ∷ l)
+
+unfoldable pub joinParts : List VMRegion → List VMRegion
+joinParts [] = []
+joinParts (r ∷ l) = joinOnto r (joinParts l)
+
+-- 'Nothing else changes it'
+abbrev pub bookStep : List VMRegion → Call → Walked → List VMRegion
+bookStep k (vmallocs size) (At a) = takePart a (roundUp 12 size) (ltb (length k) 256) k
+bookStep k (vmallocs size) (Stop n) = k
+bookStep k (vfrees a) (At x) = joinParts (freePart a k)
+bookStep k (vfrees a) (Stop n) = k
+bookStep k (mmaps wish size prot flags) w = k
+bookStep k (munmaps a size) w = k
+
+unfoldable pub bookFrom : List VMRegion → List Event → List VMRegion
+bookFrom k [] = k
+bookFrom k (e ∷ es) = bookFrom (bookStep k (e .call) (e .answer)) es
+
+-- 'It starts as one free part, the kernel (vmalloc) window'
+abbrev pub book : List Event → List VMRegion
+book es = bookFrom (window ∷ []) es
+
+-- whether the free part at a exceeds n bytes
+unfoldable pub exceeds : ℕ → ℕ → List VMRegion → Bool
+exceeds a n [] = false
+exceeds a n (r ∷ l) = pick (both (not (r .used)) (eqb (r .start) a)) (ltb n (r .size)) (exceeds a n l)
+
+-- a vmalloc that 'cut a larger region while the vmalloc list held 256'
+abbrev pub cuts : List VMRegion → Call → Walked → Bool
+cuts k (vmallocs size) (At a) = both (leb 256 (length k)) (exceeds a (roundUp 12 size) k)
+cuts k (vmallocs size) (Stop n) = false
+cuts k (vfrees a) w = false
+cuts k (mmaps wish size prot flags) w = false
+cuts k (munmaps a size) w = false
+
+unfoldable pub uncutFrom : List VMRegion → List Event → Bool
+uncutFrom k [] = true
+uncutFrom k (e ∷ es) = both (not (cuts k (e .call) (e .answer))) (uncutFrom (bookStep k (e .call) (e .answer)) es)
+
+abbrev pub neverCut : List Event → Bool
+neverCut es = uncutFrom (window ∷ []) es
+
+-- ---- the statement
+
+-- what holds of a board b that the events es led to, for two orders rs and rs′ of releasing
+pub record Released (b : Board) (es : List Event) (rs rs′ : List Call) : Type 0 where
+  -- 'the vmalloc list holds exactly the book's parts' (in the book's order, even)
+  pub book-holds : liveSlots (b .kernel) ≡ book es
+  -- 'each release is met'
+  pub met : every (λ e. isMet (e .answer)) (events b rs) ≡ true
+  -- 'both end in one and the same state, every lent word and record equal' (the order of the vmalloc slots too)
+  pub same : after b rs ≡ after b rs′
+  -- 'There no address translates'
+  pub no-address : (v : ℕ) → translate 3 (after b rs .mem .words) (startOf (after b rs .mem)) (totalOf (after b rs .mem)) (after b rs .root) v ≡ Stop notMapped
+  -- 'exactly the root and the page tables are still marked'
+  pub root-marked : (b .root ≡ startOf (after b rs .mem)) × (markOf (after b rs .mem .frames .bits) 0 ≡ 1)
+  pub tables-marked : (f : ℕ) → PageTable (after b rs) f → (startOf (after b rs .mem) ≤ f) × (f < startOf (after b rs .mem) + totalOf (after b rs .mem)) × (markOf (after b rs .mem .frames .bits) (f - startOf (after b rs .mem)) ≡ 1)
+  pub no-other-marked : (f : ℕ) → f < totalOf (after b rs .mem) → markOf (after b rs .mem .frames .bits) f ≡ 1 → (f ≡ 0) ⊎ PageTable (after b rs) (startOf (after b rs .mem) + f)
+  -- 'counter = 1 + page tables', where there is 'one for each different run of leading indices .. of pages of all regions ever live'
+  pub counter : after b rs .mem .frames .fa .allocated ≡ 1 + length (different (leadingRuns es))
+  pub run-has-table : (p : List ℕ) → among p (leadingRuns es) ≡ true → (f : ℕ) × (reach (after b rs .mem .words) (startOf (after b rs .mem)) (totalOf (after b rs .mem)) (b .root) p ≡ At f)
+  pub table-has-run : (f : ℕ) (t : PageTable (after b rs) f) → among (t .path) (leadingRuns es) ≡ true
+  pub one-table-each : (f : ℕ) (t t′ : PageTable (after b rs) f) → t .path ≡ t′ .path
+  -- 'if no vmalloc cut a larger region while the vmalloc list held 256, the kernel window is one free region again'
+  pub one-window : neverCut es ≡ true → after b rs .kernel ≡ record { slots = window ∷ replicate 255 noSlot; count = 1 }
+
+-- 'For every list of vmalloc, vfree, mmap and munmap calls, refused ones included, from a fresh board': 'what any met start leaves', whatever the lent parts held before
+abbrev pub Demand3 : Type 0
+Demand3 =
+    (old fresh : Board) (from to : ℕ) → start old from to ≡ did (At 0) fresh
+    → (cs : List Call) → neverExhausted (events fresh cs) ≡ true → lowRanges (events fresh cs) ≡ true
+    → (rs rs′ : List Call) → Order (live (events fresh cs)) rs → Order (live (events fresh cs)) rs′
+    → Released (after fresh cs) (events fresh cs) rs rs′

@@ -1,0 +1,25 @@
+-- A list lent as a slice of slots and a count: the first `count` slots are live.
+use Prim.Native.Nat.{ℕ, _-_, max}
+use mathlib.Core.Bool.{Bool, true}
+use mathlib.Core.List.{List, [], _∷_, _++_}
+use lib.ListN.{length, take, drop, replicate}
+use Rattle.bits.specs.Bit.{both}
+
+pub record Slots (A : Type 0) : Type 0 where
+  pub slots : List A
+  pub count : ℕ
+
+abbrev pub live : {A : Type 0} → Slots A → List A
+live s = take (s .count) (s .slots)
+
+-- the slots once their live part is l: 'a removal zeroes the slot that falls past the count'; the others past it stay as they are
+unfoldable pub store : {A : Type 0} → A → List A → Slots A → Slots A
+store zero l s = record {
+  slots = l ++ (replicate (s .count - length l) zero ++ drop (max (s .count) (length l)) (s .slots));
+  count = length l;
+}
+
+-- whether a test holds of each
+unfoldable pub every : {A : Type 0} → (A → Bool) → List A → Bool
+every test [] = true
+every test (a ∷ l) = both (test a) (every test l)

@@ -1,0 +1,110 @@
+-- A memory in order, the invariant of all that follows: its tree, its sizes, its bitmap and its counter.
+use Prim.Native.Nat.{ℕ, suc, _+_, _*_, _-_, _/_, _%_, _^_, _<_, _≤_}
+use mathlib.Core.Path.{_≡_, refl, _∙_, ap}
+use mathlib.Core.Bool.{Bool, true}
+use mathlib.Core.List.{List, []}
+use native.Mathlib.Omega.{arith}
+use lib.Dec.{eqb}
+use lib.ListN.{length}
+use borrow.Author.Tests.{eq-eqb}
+use Rattle.answer.specs.Numbers.{notMapped}
+use Rattle.bitmap.specs.Bitmap.{marked, count}
+use Rattle.bitmap.proofs.Marks.{Words}
+use Rattle.entry.specs.Entry.{indices}
+use Rattle.entry.proofs.Entry.{length-indices}
+use Rattle.frame.specs.Frames.{inside}
+use Rattle.frame.proofs.Laws.{inside-from, inside-under, sound-counted}
+use Rattle.paging.specs.declared.Walked.{Walked}
+use Rattle.paging.specs.declared.Walked.the-variants.{At, Stop}
+use Rattle.paging.specs.declared.Leaf.{Leaf}
+use Rattle.paging.specs.Walk.{andThen, reach, leaf, address, Lent}
+use Rattle.paging.specs.Map.{Memory, startOf, totalOf}
+use Rattle.paging.specs.Calls.{whole, translate}
+use Rattle.paging.proofs.Walk.{lent-rooted}
+use Rattle.paging.proofs.Calls.{whole-lent, translate-is}
+use Rattle.tree.proofs.Tree.{Tree, tree-stop}
+use Rattle.tree.proofs.Plain.{Plain, Ends, at-page, at-none, leaf-ends}
+
+-- ---- a memory's walks and marks
+
+abbrev pub reachIn : Memory → ℕ → List ℕ → Walked
+reachIn m root p = reach (m .words) (startOf m) (totalOf m) root p
+
+abbrev pub leafIn : Memory → ℕ → List ℕ → Leaf
+leafIn m root p = leaf (m .words) (startOf m) (totalOf m) root p
+
+-- whether frame f is one of those lent
+abbrev pub insideIn : Memory → ℕ → Bool
+insideIn m f = inside (startOf m) (totalOf m) f
+
+-- 1 if the lent frame f is marked and 0 if it is free
+abbrev pub markIn : Memory → ℕ → ℕ
+markIn m f = marked (m .frames .bits) (f - startOf m)
+
+-- the translation of an address, on a board of up levels above the last
+abbrev pub translateIn : ℕ → Memory → ℕ → ℕ → Walked
+translateIn up m root v = translate up (m .words) (startOf m) (totalOf m) root v
+
+abbrev pub PlainIn : Memory → ℕ → ℕ → Type 0
+PlainIn m root n = Plain (m .words) (startOf m) (totalOf m) root n
+
+-- ---- in order
+
+-- a memory with n levels of tables below root: its tree, sizes that are not broken, a whole bitmap, and a counter that counts it
+pub record Ordered (m : Memory) (root n : ℕ) : Type 0 where
+  pub tree : Tree (m .words) (m .frames .bits) (startOf m) (totalOf m) root n
+  pub sizes : Lent (m .words) (startOf m) (totalOf m)
+  pub wide : length (m .frames .bits) ≡ 128
+  pub small : Words (m .frames .bits)
+  pub counted : m .frames .fa .allocated ≡ count (m .frames .bits) (totalOf m)
+
+module _ {m : Memory} {root n : ℕ} (o : Ordered m root n) where
+  pub root-inside : insideIn m root ≡ true
+  unfolding reach
+  root-inside = o .tree .into [] root (omega arith) refl
+
+  pub root-marked : markIn m root ≡ 1
+  unfolding reach
+  root-marked = o .tree .kept [] root (omega arith) refl
+
+  -- no call turns it away with 10
+  pub ordered-whole : whole m root ≡ true
+  ordered-whole =
+      let few = o .sizes .few in
+      let low = o .sizes .low in
+      let e : eqb (m .frames .fa .allocated) (count (m .frames .bits) (totalOf m)) ≡ true = eq-eqb _ _ (o .counted) in
+      rw (lent-rooted (length (m .words)) (startOf m) (totalOf m) root few (o .sizes .enough) low, root-inside, sound-counted (m .frames) few low) e
+
+  -- a free frame is not reached
+  pub free-unreached : (f : ℕ) → markIn m f ≡ 0 → (p : List ℕ) → length p ≤ n → reachIn m root p ≡ At f → ⊥
+  free-unreached f free p lp h = let k : markIn m f ≡ 1 = o .tree .kept p f lp h in omega arith
+
+  -- a lent frame's bit is in the bitmap, and its number fits an entry
+  pub in-bitmap : (j : ℕ) → j < totalOf m → j / 64 < length (m .frames .bits)
+  in-bitmap j l = omega (arith, o .wide, o .sizes .few)
+
+  pub in-entry : (f : ℕ) → insideIn m f ≡ true → f < 2 ^ 40
+  in-entry f h = omega (arith, o .sizes .low, inside-from (startOf m) (totalOf m) f h, inside-under (startOf m) (totalOf m) f h)
+
+-- ---- translations, where there is no large page
+
+module _ {m : Memory} {root up : ℕ} (o : Ordered m root (suc up)) (w : PlainIn m root (suc up)) (v : ℕ) where
+  translates : {x : Walked} {l : Leaf} → Ends x l → address v l ≡ andThen x (λ f. At (f * 2 ^ 12 + v % 2 ^ 12))
+  translates (at-page e) = ap (λ (f : ℕ). At (f * 2 ^ 12 + v % 2 ^ 12)) e
+  translates at-none = refl
+
+  -- an address translates just where its page is reached, to the place in that frame; if not it is 14
+  pub translate-reach : translateIn up m root v ≡ andThen (reachIn m root (indices (suc up) v)) (λ f. At (f * 2 ^ 12 + v % 2 ^ 12))
+  translate-reach =
+      translate-is up (m .words) (startOf m) (totalOf m) root v (whole-lent m root (ordered-whole o))
+      ∙ translates (leaf-ends w (indices (suc up) v) (omega arith) (length-indices (suc up) v))
+
+  pub page-translates : (f : ℕ) → reachIn m root (indices (suc up) v) ≡ At f → translateIn up m root v ≡ At (f * 2 ^ 12 + v % 2 ^ 12)
+  page-translates f h = translate-reach ∙ rw h
+
+  pub no-page-translates : ((f : ℕ) → reachIn m root (indices (suc up) v) ≡ At f → ⊥) → translateIn up m root v ≡ Stop notMapped
+  no-page-translates none = translate-reach ∙ go (reachIn m root (indices (suc up) v)) refl
+    where
+      go : (x : Walked) → reachIn m root (indices (suc up) v) ≡ x → andThen x (λ f. At (f * 2 ^ 12 + v % 2 ^ 12)) ≡ Stop notMapped
+      go (At f) h = absurd (none f h)
+      go (Stop a) h = ap Stop (tree-stop (o .tree) (indices (suc up) v) a (omega (arith, length-indices (suc up) v)) h)

@@ -1,0 +1,81 @@
+-- vmalloc and vfree, in document 01's order of checks.
+use Prim.Native.Nat.{ℕ, _/_}
+use mathlib.Core.Bool.{Bool, true, false}
+use mathlib.Core.List.{List}
+use lib.Dec.{eqb, leb, ltb}
+use Rattle.bits.specs.Bit.{pick, both}
+use Rattle.allocator.specs.Round.{rounded}
+use Rattle.answer.specs.Numbers.{sizeZero, brokenRecord, regionNotFound}
+use Rattle.answer.specs.declared.CountAnswer.{CountAnswer}
+use Rattle.answer.specs.declared.CountAnswer.the-variants.{Count, NoCount}
+use Rattle.paging.specs.declared.Walked.{Walked}
+use Rattle.paging.specs.declared.Walked.the-variants.{At, Stop}
+use Rattle.paging.specs.Map.{Memory}
+use Rattle.paging.specs.Calls.{whole}
+use Rattle.slots.specs.Slots.{Slots, live, store}
+use Rattle.vmalloc.specs.declared.VMRegion.{VMRegion}
+use Rattle.vmalloc.specs.Regions.{windowStart, windowEnd, noSlot, soundRegions, firstFit, cut, usedSize, freeFirst, merge}
+use Rattle.paging.specs.Pages.{Ran, mapPages, freePages}
+
+-- what vmalloc and vfree are lent: words and frames, the root beside them, and the list
+pub record Kernel : Type 0 where
+  pub mem : Memory
+  pub regions : Slots VMRegion
+
+abbrev pub kernel : Memory → Slots VMRegion → Kernel
+kernel m s = record { mem = m; regions = s }
+
+pub record Did : Type 0 where
+  pub answer : Walked
+  pub kernel : Kernel
+
+abbrev pub did : Walked → Kernel → Did
+did a k = record { answer = a; kernel = k }
+
+abbrev pub soundKernel : Kernel → ℕ → Bool
+soundKernel k root = both (whole (k .mem) root) (soundRegions (k .regions))
+
+-- the list with n bytes taken of the first region large enough
+abbrev pub cutSlots : Bool → ℕ → Slots VMRegion → Slots VMRegion
+cutSlots used n s = store noSlot (cut used n (live s)) s
+
+-- 'Each page: take a frame, zero it, map it writable and not user'
+abbrev pub kernelPages : ℕ → Memory → ℕ → ℕ → ℕ → Ran
+kernelPages up m root a n = mapPages up true false m root a 0 (n / 4096)
+
+-- the region at a once its pages are mapped; after 11 or 13 'the region is free with its size cut, split and unmerged'
+abbrev pub mapped : ℕ → ℕ → Slots VMRegion → Walked → Memory → Did
+mapped a n s (At x) m = did (At a) (kernel m (cutSlots true n s))
+mapped a n s (Stop e) m = did (Stop e) (kernel m (cutSlots false n s))
+
+-- n bytes, a multiple of a page; 15
+abbrev pub placed : ℕ → Kernel → ℕ → ℕ → Walked → Did
+placed up k root n (At a) = mapped a n (k .regions) (kernelPages up (k .mem) root a n .walked) (kernelPages up (k .mem) root a n .mem)
+placed up k root n (Stop e) = did (Stop e) k
+
+abbrev pub sized : ℕ → Kernel → ℕ → CountAnswer → Did
+sized up k root (Count n) = placed up k root n (firstFit n (live (k .regions)))
+sized up k root (NoCount e) = did (Stop e) k
+
+-- 'vmalloc: 1, 3, 15', after 10
+unfoldable pub vmalloc : ℕ → Kernel → ℕ → ℕ → Did
+vmalloc up k root size =
+    pick (soundKernel k root)
+    (pick (eqb size 0) (did (Stop sizeZero) k) (sized up k root (rounded size)))
+    (did (Stop brokenRecord) k)
+
+-- a used region of n bytes at a, unmapped, freed and merged; or 16
+abbrev pub released : ℕ → Kernel → ℕ → ℕ → Walked → Did
+released up k root a (At n) =
+    did (At 0) (kernel (freePages up (k .mem) root a (n / 4096)) (store noSlot (merge (freeFirst a (live (k .regions)))) (k .regions)))
+released up k root a (Stop e) = did (Stop e) k
+
+-- 16 for 'vfree of an unknown or null address'
+unfoldable pub vfree : ℕ → Kernel → ℕ → ℕ → Did
+vfree up k root a =
+    pick (soundKernel k root)
+    (pick (eqb a 0) (did (Stop regionNotFound) k) (released up k root a (usedSize a (live (k .regions)))))
+    (did (Stop brokenRecord) k)
+
+abbrev pub isVmallocAddr : ℕ → Bool
+isVmallocAddr a = both (leb windowStart a) (ltb a windowEnd)
