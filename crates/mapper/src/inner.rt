@@ -13,7 +13,7 @@ use paging::HugePageSize;
 use paging::Leaf;
 use paging::Walked;
 ghost use mathlib.Core.Path.{_≡_};
-ghost use Prim.Native.Nat.{ℕ, _+_, _-_, _<_, _≤_};
+ghost use Prim.Native.Nat.{ℕ, _+_, _-_, _%_, _^_, _<_, _≤_};
 ghost use lib.ListN.{length, getD, take};
 ghost use Rattle.entry.specs.Entry.{indices as indicesOf};
 ghost use Rattle.frame.specs.Frames.{frames as framesOf};
@@ -71,17 +71,25 @@ pub fn find_leaf(words: &[u64], start: u64, total: u64, root: Frame, virt: VirtA
     Leaf::NoLeaf(answer::NOT_MAPPED)
 }
 
+// An address's place within a large page.
+fn large_offset(virt: VirtAddr) -> u64
+    ensures { λ r. ⌜ r ≡ virt .0 % 2 ^ 21 ⌝ }
+{
+    virt.0 & 0x1F_FFFF
+}
+
 // From a virtual address to the physical one.
 pub fn walk(words: &[u64], start: u64, total: u64, root: Frame, virt: VirtAddr) -> PhysAnswer
     requires { ⌜ Lent (now words) start total ⌝ }
     ensures { λ r. ⌜ r ≡ asPhys (address (virt .0) (leaf (now (words .entry)) start total (root .0) (indicesOf 4 (virt .0)))) ⌝ }
 {
-    let v = virt.0;
     match find_leaf(words, start, total, root, virt) {
-        Leaf::Page(e) => PhysAnswer::AtPhys(PhysAddr(PageTableEntry(e).addr().0 + (v & 0xFFF))),
-        Leaf::Large(e) => PhysAnswer::AtPhys(PhysAddr(
-            PageTableEntry(e).addr().0 + (v & 0x1F_FFFF),
-        )),
+        Leaf::Page(e) => {
+            PhysAnswer::AtPhys(PhysAddr(PageTableEntry(e).addr().0 + virt.page_offset()))
+        }
+        Leaf::Large(e) => {
+            PhysAnswer::AtPhys(PhysAddr(PageTableEntry(e).addr().0 + large_offset(virt)))
+        }
         Leaf::NoLeaf(n) => PhysAnswer::NoPhys(n),
     }
 }

@@ -1,16 +1,15 @@
 -- What mmap and munmap come to, by the outcomes that document 01 names.
 use Prim.Native.Nat.{ℕ, _+_, _/_, _%_, _<_, _≤_}
-use mathlib.Core.Path.{_≡_, refl, sym, _∙_, ap, subst}
+use mathlib.Core.Path.{_≡_, refl, subst}
 use mathlib.Core.Bool.{Bool, true, false, not}
 use mathlib.Core.Logic.{_⊎_, inl, inr, ⊎-elim}
-use mathlib.Core.List.{List}
 use native.Mathlib.Omega.{arith}
 use lib.IntN.{ℤ}
 use lib.Dec.{eqb, leb}
 use lib.ListN.{length}
 use borrow.Author.Tests.{eqb-true, eqb-false, ne-eqb, leb-true, leb-false}
 use Rattle.bits.specs.Bit.{pick, both}
-use Rattle.frame.proofs.Laws.{pick-cases, both-true}
+use Rattle.frame.proofs.Laws.{pick-cases}
 use Rattle.allocator.specs.Round.{rounded, roundUp, lastPage}
 use Rattle.answer.specs.Numbers.{sizeZero, unaligned, tooLarge, brokenRecord, noFreeFrame, mapFailed, regionNotFound, listFull}
 use Rattle.answer.specs.declared.CountAnswer.the-variants.{Count, NoCount}
@@ -20,8 +19,7 @@ use Rattle.paging.specs.Map.{Memory}
 use Rattle.paging.specs.Pages.{clearPages, freePages}
 use Rattle.slots.specs.Slots.{live, store}
 use Rattle.vmalloc.proofs.Calls.{positive, walked-cases}
-use Rattle.mmap.specs.declared.MappedRegion.{MappedRegion}
-use Rattle.mmap.specs.Regions.{userEnd, fixed, noSlot, inTheWay, clearFrom, findFree, starts, holds, remove}
+use Rattle.mmap.specs.Regions.{fixed, noSlot, inTheWay, clearFrom, findFree, starts, holds, remove}
 use Rattle.mmap.specs.Calls.{User, user, Did, did, soundUser, Wish, anywhere, wished, aligned, inRange, chosen, full, userPages, leftover, mapped, placed, sized, mmap, unmapped, munmap}
 use Rattle.mmap.proofs.Rising.{Rising}
 use Rattle.mmap.proofs.Search.{search-place}

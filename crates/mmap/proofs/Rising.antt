@@ -1,14 +1,14 @@
 -- The mmap list in rising order: what storing and removing a region keep and change of it. `holds a n l ≡ true` says that l has a region of n bytes at a.
-use Prim.Native.Nat.{ℕ, zero, suc, _+_, _%_, _<_, _≤_}
+use Prim.Native.Nat.{ℕ, suc, _+_, _%_, _<_, _≤_}
 use mathlib.Core.Path.{_≡_, refl, sym, _∙_, ap, subst}
 use mathlib.Core.Bool.{Bool, true, false, true≢false, false≢true}
 use mathlib.Core.List.{List, [], _∷_}
 use native.Mathlib.Omega.{arith}
 use native.Mathlib.Nat.{le-refl, le-trans}
-use lib.Dec.{eqb, leb, ltb}
+use lib.Dec.{eqb, ltb}
 use lib.ListN.{length}
-use borrow.Author.Tests.{eq-eqb, ne-eqb, eqb-true, eqb-false, lt-ltb, le-ltb, le-leb, ltb-true, ltb-false}
-use Rattle.bits.specs.Bit.{pick, both}
+use borrow.Author.Tests.{eq-eqb, ne-eqb, eqb-true, eqb-false, lt-ltb, le-leb, ltb-true, ltb-false}
+use Rattle.bits.specs.Bit.{pick}
 use Rattle.allocator.specs.Round.{lastPage}
 use Rattle.mmap.specs.declared.MappedRegion.{MappedRegion}
 use Rattle.slots.specs.Slots.{every}

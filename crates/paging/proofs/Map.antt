@@ -6,24 +6,19 @@ use mathlib.Core.List.{List, [], _∷_}
 use native.Mathlib.Omega.{arith}
 use native.Mathlib.Numerals.{add-one}
 use lib.ListN.{length, getD, set, length-set}
-use Rattle.bits.specs.Bit.{flag}
+use Rattle.bits.specs.Bit.{pick, flag}
 use Rattle.answer.specs.Numbers.{noFreeFrame, alreadyMapped, notMapped, outside}
 use Rattle.address.specs.declared.Frame.{Frame}
 use Rattle.address.specs.declared.FrameAnswer.{FrameAnswer}
 use Rattle.address.specs.declared.FrameAnswer.the-variants.{AtFrame, NoFrame}
 use Rattle.bitmap.specs.Bitmap.{marked}
 use Rattle.entry.specs.Entry.{frameOf, entryOf}
-use Rattle.frame.specs.declared.FrameAllocator.{FrameAllocator}
-use Rattle.frame.specs.Frames.{Frames, frames, Did, inside, withMark, takeFrame}
+use Rattle.frame.specs.Frames.{Frames, Did, inside, withMark, takeFrame}
 use Rattle.frame.proofs.Laws.{pick-cases, inside-yes, take-cases}
 use Rattle.paging.specs.declared.Walked.{Walked}
 use Rattle.paging.specs.declared.Walked.the-variants.{At, Stop}
 use Rattle.paging.specs.Walk.{place, reach, Lent}
 use Rattle.paging.specs.Map.{Memory, memory, startOf, totalOf, Out, out, onward, goOn, clear, zeroFrame, newTable, create, below, enter, make, Left, left, putEntry, withWords, mapEntry, takeLeaf, afterReach, unmapEntry, Roomy}
-
--- a memory by its three parts
-pub memory-is : (ws bm : List ℕ) (fa : FrameAllocator) (m : Memory) → ws ≡ m .words → bm ≡ m .frames .bits → fa ≡ m .frames .fa → memory ws (frames bm fa) ≡ m
-memory-is ws bm fa m a b c = λ k. memory (a k) (frames (b k) (c k))
 
 -- both ways on from a step
 pub goOn-cases : (P : Out → Type 0) (o : Out) (k : ℕ → Memory → Out)
@@ -179,6 +174,12 @@ make-roomy u n (i ∷ is) m t r =
 
 -- ---- stores into one table
 
+-- a store in one of three cases keeps the number of words
+store-length : (n : ℕ) (s t : Bool) (a b c : Left) → length (a .words) ≡ n → length (b .words) ≡ n → length (c .words) ≡ n → length (pick s (pick t a b) c .words) ≡ n
+store-length n true true a b c x y z = x
+store-length n true false a b c x y z = y
+store-length n false t a b c x y z = z
+
 module _ (ws : List ℕ) (start total t i e : ℕ) where
   pub put-out : inside start total t ≡ false → putEntry ws start total t i e ≡ left (Stop outside) ws
   unfolding putEntry
@@ -195,9 +196,7 @@ module _ (ws : List ℕ) (start total t i e : ℕ) where
 
   pub put-length : length (putEntry ws start total t i e .words) ≡ length ws
   unfolding putEntry
-  put-length =
-      pick-cases (λ (l : Left). length (l .words) ≡ length ws) (inside start total t) _ _
-      (λ _. pick-cases (λ (l : Left). length (l .words) ≡ length ws) (flag 0 (getD ws (place start t i) 0)) _ _ (λ _. refl) (λ _. length-set ws _ e)) (λ _. refl)
+  put-length = store-length (length ws) (inside start total t) (flag 0 (getD ws (place start t i) 0)) _ _ _ refl (length-set ws _ e) refl
 
 module _ (ws : List ℕ) (start total t i : ℕ) where
   pub take-leaf-out : inside start total t ≡ false → takeLeaf ws start total t i ≡ left (Stop outside) ws
@@ -215,9 +214,7 @@ module _ (ws : List ℕ) (start total t i : ℕ) where
 
   pub take-leaf-length : length (takeLeaf ws start total t i .words) ≡ length ws
   unfolding takeLeaf
-  take-leaf-length =
-      pick-cases (λ (l : Left). length (l .words) ≡ length ws) (inside start total t) _ _
-      (λ _. pick-cases (λ (l : Left). length (l .words) ≡ length ws) (flag 0 (getD ws (place start t i) 0)) _ _ (λ _. length-set ws _ 0) (λ _. refl)) (λ _. refl)
+  take-leaf-length = store-length (length ws) (inside start total t) (flag 0 (getD ws (place start t i) 0)) _ _ _ (length-set ws _ 0) refl refl
 
 -- ---- a word for an address, and a leaf cleared
 

@@ -14,7 +14,6 @@ use Rattle.answer.specs.Numbers.{notMapped, outside}
 use Rattle.entry.specs.Entry.{frameOf}
 use Rattle.frame.specs.Frames.{inside}
 use Rattle.frame.proofs.Laws.{both-true, inside-from, inside-under}
-pub use Rattle.frame.proofs.Laws.{pick-cases}
 use Rattle.paging.specs.declared.Walked.the-variants.{At, Stop}
 use Rattle.paging.specs.declared.Leaf.{Leaf}
 use Rattle.paging.specs.declared.Leaf.the-variants.{Page, Large, NoLeaf}
@@ -58,6 +57,10 @@ module _ (ws : List ℕ) (start total t i : ℕ) where
 pub place-lent : {ws : List ℕ} {start total : ℕ} (t i : ℕ) → Lent ws start total → inside start total t ≡ true → i < 512 → place start t i < length ws
 place-lent {start = start} {total = total} t i l h k = omega (arith, l .enough, inside-from start total t h, inside-under start total t h)
 
+-- and so are all 512 words of a lent frame
+pub frame-lent : {ws : List ℕ} {start total : ℕ} (f : ℕ) → Lent ws start total → inside start total f ≡ true → place start f 0 + 512 ≤ length ws
+frame-lent {start = start} {total = total} f l h = omega (arith, l .enough, inside-from start total f h, inside-under start total f h)
+
 -- ---- the frame at the end of a path
 
 module _ (ws : List ℕ) (start total t : ℕ) {p : List ℕ} where
@@ -73,9 +76,9 @@ module _ (ws : List ℕ) (start total t : ℕ) {p : List ℕ} where
     pub reach-on : (e : ℕ) → entryAt ws start total t i ≡ At e → reach ws start total t p ≡ reach ws start total (frameOf e) is
     unfolding reach
     reach-on e h = rw (c, h)
-    -- ---- the entry that a translation ends at
 
--- by the number of indices that are left: 0 at the last level, 1 at the third
+-- ---- the entry that a translation ends at, by the number of indices that are left: 0 at the last level, 1 at the third
+
 pub judge-last : (is : List ℕ) (e : ℕ) (on : Leaf) → length is ≡ 0 → judge is e on ≡ Page e
 judge-last [] e on h = refl
 judge-last (i ∷ is) e on h = absurd (omega arith)

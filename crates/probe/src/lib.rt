@@ -14,7 +14,7 @@ ghost use Rattle.answer.specs.Numbers.{countLine};
 ghost use Rattle.allocator.specs.Round.{alignDown, alignUp, rounded};
 ghost use Rattle.entry.specs.Entry.{addrOf, entryOf, hugeEntryOf, indices, entryOfTable};
 ghost use Rattle.entry.specs.Flags.{bitsOf, flagsOf, flagEntryOf};
-ghost use Rattle.probe.specs.Line.{entryLine};
+ghost use Rattle.probe.specs.Line.{entryLine, tenFlags};
 
 #[no_mangle]
 pub extern "C" fn probe_align_down(addr: u64, align: u64) -> u64
@@ -84,6 +84,37 @@ pub extern "C" fn probe_entry_huge(entry: u64) -> bool
     ensures { λ r. ⌜ r ≡ flag 7 entry ⌝ }
 {
     PageTableEntry(entry).is_huge()
+}
+
+// The bits of ten flags, in the order of the fields.
+#[no_mangle]
+pub extern "C" fn probe_flags_to_bits(
+    present: bool,
+    writable: bool,
+    user: bool,
+    write_through: bool,
+    cache_disabled: bool,
+    accessed: bool,
+    dirty: bool,
+    huge: bool,
+    global: bool,
+    no_execute: bool,
+) -> u64
+    ensures { λ r. ⌜ r ≡ bitsOf (tenFlags present writable user «write_through» «cache_disabled» accessed dirty huge global «no_execute») ⌝ }
+{
+    let flags = page_handler::PageFlags {
+        present,
+        writable,
+        user,
+        write_through,
+        cache_disabled,
+        accessed,
+        dirty,
+        huge,
+        global,
+        no_execute,
+    };
+    flags.to_bits()
 }
 
 // A word's flags, taken apart and joined again.

@@ -1,6 +1,6 @@
 -- The window book's steps are those of the vmalloc list: taking the free part at the answer is first fit, joining all adjoining free parts is the merge pass.
-use Prim.Native.Nat.{ℕ, _+_, _-_, _<_, _≤_}
-use mathlib.Core.Path.{_≡_, refl, sym, _∙_, ap, ap₂}
+use Prim.Native.Nat.{ℕ, _+_, _-_}
+use mathlib.Core.Path.{_≡_, refl, sym, _∙_, ap}
 use mathlib.Core.Bool.{Bool, true, false, not}
 use mathlib.Core.List.{List, [], _∷_}
 use native.Mathlib.Omega.{arith}
@@ -9,14 +9,13 @@ use lib.Dec.{eqb, leb, ltb}
 use borrow.Author.Tests.{eq-eqb, ne-eqb, eqb-true}
 use Rattle.bits.specs.Bit.{pick, both}
 use Rattle.frame.proofs.Laws.{both-true}
-use Rattle.paging.specs.declared.Walked.{Walked}
-use Rattle.paging.specs.declared.Walked.the-variants.{At, Stop}
+use Rattle.paging.specs.declared.Walked.the-variants.{At}
 use Rattle.vmalloc.specs.declared.VMRegion.{VMRegion}
 use Rattle.vmalloc.specs.Regions.{region, fits, firstFit, behind, cutFirst, freeFirst, joins, mergeFrom, merge}
 use Rattle.vmalloc.proofs.Merge.{join, left-of, right-of}
 use Rattle.vmalloc.proofs.Rows.{Rows, fit-from}
 use Rattle.vmalloc.proofs.Tiles.{larger}
-use Rattle.release.specs.Demand3.{tailPart, takePart, freePart, joinOnto, joinParts, exceeds}
+use Rattle.release.specs.Demand3.{takePart, freePart, joinOnto, joinParts, exceeds}
 
 -- a region that does not fit, before one that does, does not start where that one does
 module _ (n a lo hi : ℕ) (r : VMRegion) (l : List VMRegion) (h : Rows lo hi (r ∷ l)) (g : firstFit n l ≡ At a) where

@@ -1,52 +1,39 @@
 -- Releasing all live regions: each release is met, and what it leaves is told, so that every two orders end in one board.
-use Prim.Native.Nat.{ℕ, zero, suc, _+_, _-_, _*_, _/_, _%_, _<_, _≤_}
+use Prim.Native.Nat.{ℕ, zero, suc, _/_, _%_, _<_}
 use mathlib.Core.Path.{_≡_, refl, sym, _∙_, ap, subst}
-use mathlib.Core.Bool.{Bool, true, false, true≢false, false≢true}
-use mathlib.Core.Logic.{_⊎_, inl, inr, ⊎-elim}
-use mathlib.Core.List.{List, [], _∷_, _++_, foldl, foldl-append, List·Memᴰ, List·Memᴰ·head, List·Memᴰ·not-nil, List·Permᴰ}
+use mathlib.Core.Bool.{true}
+use mathlib.Core.List.{List, _∷_, List·Memᴰ·head}
 use native.Mathlib.Omega.{arith}
-use lib.ListN.{length}
 use borrow.Author.Tests.{eq-eqb}
-use lib.Dec.{eqb}
-use Rattle.allocator.specs.Round.{rounded, roundUp, lastPage}
-use Rattle.allocator.proofs.Round.{rounded-met, rounded-above, round-pos}
-use Rattle.answer.specs.declared.CountAnswer.{CountAnswer}
-use Rattle.answer.specs.declared.CountAnswer.the-variants.{Count, NoCount}
-use Rattle.paging.specs.declared.Walked.{Walked}
-use Rattle.paging.specs.declared.Walked.the-variants.{At, Stop}
+use Rattle.allocator.specs.Round.{rounded}
+use Rattle.answer.specs.declared.CountAnswer.the-variants.{Count}
+use Rattle.paging.specs.declared.Walked.the-variants.{At}
 use Rattle.paging.specs.Map.{Memory}
 use Rattle.paging.specs.Pages.{freePages}
-use Rattle.tree.proofs.Orders.{one-end}
-use Rattle.tree.proofs.Freeing.{freeAll, pages-end}
-use Rattle.tree.proofs.Runs.{run, free-pages}
-use Rattle.slots.specs.Slots.{every, live, store}
+use Rattle.slots.specs.Slots.{live, store}
 use Rattle.slots.proofs.Filled.{filled}
 use Rattle.vmalloc.specs.declared.VMRegion.{VMRegion}
 use Rattle.vmalloc.specs.Regions.{windowStart, windowEnd, usedSize, freeFirst, merge}
 use Rattle.vmalloc.specs.Regions.{noSlot as noKernelSlot}
-use Rattle.vmalloc.specs.Calls.{kernel, vfree}
+use Rattle.vmalloc.specs.Calls.{kernel}
 use Rattle.vmalloc.specs.Calls.{Did as KernelDid}
-use Rattle.vmalloc.proofs.Merge.{freedAll, free-then, freed-comm}
+use Rattle.vmalloc.proofs.Merge.{freedAll}
 use Rattle.vmalloc.proofs.Rows.{freed-first, length-freed, length-merge}
 use Rattle.vmalloc.proofs.Used.{used-inside}
-use Rattle.vmalloc.proofs.Tiles.{Apart, apart-merged}
 use Rattle.vmalloc.proofs.Calls.{vfree-met}
 use Rattle.mmap.specs.declared.MappedRegion.{MappedRegion}
 use Rattle.mmap.specs.Regions.{holds, remove}
 use Rattle.mmap.specs.Regions.{noSlot as noUserSlot}
-use Rattle.mmap.specs.Calls.{aligned, munmap}
 use Rattle.mmap.specs.Calls.{Did as UserDid}
-use Rattle.mmap.proofs.Rising.{holds-placed, holds-nothing, length-remove}
+use Rattle.mmap.proofs.Rising.{holds-placed, length-remove}
 use Rattle.mmap.proofs.Calls.{munmap-met}
 use Rattle.board.specs.Board.{Board, Did, did}
-use Rattle.release.specs.Demand3.{liveStep, bookStep, freePart, joinParts, dropKernel, dropUser, Call, vfrees, munmaps, play, after, Event, events, isMet, Region, kernels, users, startIs, sizeIs, Releases, by-vfree, by-munmap, EachReleased, done, next, pagesFrom, pagesOf, concat}
-use Rattle.release.proofs.Lists.{Once, perm-concat}
-use Rattle.release.proofs.Regions.{KernelList, UserList, kernel-give, kernel-fewer, user-give, user-fewer, not-both}
-use Rattle.release.proofs.Invariant.{Paged, Inv, run-is, paged-give, give-start}
-use Rattle.release.proofs.Book.{free-part, join-parts}
+use Rattle.release.specs.Demand3.{Call, vfrees, munmaps, play, Region, kernels, users, startIs, sizeIs, next}
+use Rattle.release.proofs.Regions.{kernel-give, kernel-fewer, user-give, user-fewer}
+use Rattle.release.proofs.Invariant.{Leftover, Inv, paged-give, give-start}
 use Rattle.release.proofs.Sound.{kernel-sound, user-sound}
-use Rattle.release.proofs.Kernel.{withKernel, kernel-listed, kernel-stored, vfree-step}
-use Rattle.release.proofs.User.{userOf, withUser, user-listed, user-stored, munmap-step}
+use Rattle.release.proofs.Kernel.{withKernel, kernel-listed, kernel-stored}
+use Rattle.release.proofs.User.{userOf, withUser, user-listed, user-stored}
 
 -- a board with other memory and other lists
 abbrev pub board : Board → Memory → List VMRegion → List MappedRegion → Board
@@ -65,13 +52,13 @@ userAfter u (kernels a n) = u
 userAfter u (users a n) = remove a u
 
 -- one release
-pub record Gave (b : Board) (k : List VMRegion) (u : List MappedRegion) (r : Region) (l : List Region) (ever : List ℕ) (c : Call) : Type 0 where
+pub record Gave (left : Leftover) (b : Board) (k : List VMRegion) (u : List MappedRegion) (r : Region) (l : List Region) (ever : List ℕ) (c : Call) : Type 0 where
   pub met : play b c .answer ≡ At 0
   pub leaves : play b c .board ≡ board b (memoryAfter (b .root) (b .mem) r) (kernelAfter k r) (userAfter u r)
-  pub inv : Inv (board b (memoryAfter (b .root) (b .mem) r) (kernelAfter k r) (userAfter u r)) (kernelAfter k r) (userAfter u r) l ever
+  pub inv : Inv left (board b (memoryAfter (b .root) (b .mem) r) (kernelAfter k r) (userAfter u r)) (kernelAfter k r) (userAfter u r) l ever
 
 -- of a kernel's region
-module _ {b : Board} {k : List VMRegion} {u : List MappedRegion} {l : List Region} {ever : List ℕ} (a n : ℕ) (h : Inv b k u (kernels a n ∷ l) ever) where
+module _ {b : Board} {k : List VMRegion} {u : List MappedRegion} {l : List Region} {ever : List ℕ} {left : Leftover} (a n : ℕ) (h : Inv left b k u (kernels a n ∷ l) ever) where
   used : usedSize a k ≡ At n
   used = h .kernelList .live a n (List·Memᴰ·head refl)
 
@@ -88,8 +75,8 @@ module _ {b : Board} {k : List VMRegion} {u : List MappedRegion} {l : List Regio
       (ap (usedSize a) (kernel-listed h) ∙ used))
       ∙ λ i. did (At 0) (record { mem = freePages 3 (b .mem) (b .root) a (n / 4096); root = b .root; kernel = lists i; user = h .userIs i; next = b .next; marked = b .marked })
 
-  pub kernel-gave : Gave b k u (kernels a n) l ever (vfrees a)
-  unfolding play concat
+  pub kernel-gave : Gave left b k u (kernels a n) l ever (vfrees a)
+  unfolding play
   kernel-gave = record {
     met = ap (λ (x : Did). x .answer) kernel-play;
     leaves = ap (λ (x : Did). x .board) kernel-play;
@@ -106,7 +93,7 @@ module _ {b : Board} {k : List VMRegion} {u : List MappedRegion} {l : List Regio
   }
 
 -- of a user's
-module _ {b : Board} {k : List VMRegion} {u : List MappedRegion} {l : List Region} {ever : List ℕ} (a n size : ℕ) (r : rounded size ≡ Count n) (h : Inv b k u (users a n ∷ l) ever) where
+module _ {b : Board} {k : List VMRegion} {u : List MappedRegion} {l : List Region} {ever : List ℕ} {left : Leftover} (a n size : ℕ) (r : rounded size ≡ Count n) (h : Inv left b k u (users a n ∷ l) ever) where
   held : holds a n u ≡ true
   held = h .userList .live a n (List·Memᴰ·head refl)
 
@@ -134,8 +121,8 @@ module _ {b : Board} {k : List VMRegion} {u : List MappedRegion} {l : List Regio
       (ap (holds a n) (user-listed h) ∙ held))
       ∙ λ i. did (At 0) (record { mem = freePages 3 (b .mem) (b .root) a (n / 4096); root = b .root; kernel = h .kernelIs i; user = maps i; next = b .next; marked = b .marked })
 
-  pub user-gave : Gave b k u (users a n) l ever (munmaps a size)
-  unfolding play concat
+  pub user-gave : Gave left b k u (users a n) l ever (munmaps a size)
+  unfolding play
   user-gave = record {
     met = ap (λ (x : Did). x .answer) user-play;
     leaves = ap (λ (x : Did). x .board) user-play;

@@ -1,17 +1,16 @@
--- What holds of a board at every point of a list of calls while none is turned away with 11 or 13. The account of frames carries a list of lost frames, which is empty
--- here; stranded pages would be pages of no live region, and there are none.
-use Prim.Native.Nat.{ℕ, zero, suc, _+_, _-_, _*_, _/_, _%_, _^_, _<_, _≤_}
+-- What holds of a board at every point of a list of calls. It carries what calls turned away with 11 or 13 leave behind, stranded pages and lost frames; both are empty
+-- under demand 3's condition.
+use Prim.Native.Nat.{ℕ, zero, suc, _+_, _%_}
 use mathlib.Core.Path.{_≡_, refl, sym, _∙_, ap, subst}
-use mathlib.Core.Bool.{Bool, true, false}
+use mathlib.Core.Bool.{Bool, true}
 use mathlib.Core.Logic.{⊎-elim}
-use mathlib.Core.List.{List, [], _∷_, _++_, List·Memᴰ, List·Memᴰ·not-nil, List·Permᴰ, Permᴰ·symm}
+use mathlib.Core.List.{List, [], _∷_, _++_, append-assoc, List·Permᴰ, Permᴰ·symm, Permᴰ·append-right}
 use native.Mathlib.Omega.{arith}
-use lib.ListN.{length}
 use Rattle.answer.specs.Numbers.{noFreeFrame, mapFailed}
 use Rattle.frame.proofs.Steps.{span-give}
 use Rattle.paging.specs.declared.Walked.{Walked}
 use Rattle.paging.specs.declared.Walked.the-variants.{At, Stop}
-use Rattle.paging.specs.Map.{Memory, startOf, totalOf}
+use Rattle.paging.specs.Map.{Memory, startOf}
 use Rattle.paging.specs.Pages.{Ran, mapFresh, mapPages, unmapLeaf, freePage, freePages, freed}
 use Rattle.frame.specs.Frames.{Frames}
 use Rattle.tree.proofs.Ordered.{PlainIn, Ordered}
@@ -29,16 +28,35 @@ use Rattle.release.specs.Demand3.{exhausted, Region, pagesFrom, pagesOf,
 use Rattle.release.proofs.Lists.{Once, perm-member, perm-once, perm-concat}
 use Rattle.release.proofs.Regions.{KernelList, UserList}
 
+-- what calls turned away with 11 or 13 leave behind: pages that stay mapped and belong to no live region, and frames that stay marked and are reached by nothing
+pub record Leftover : Type 0 where
+  pub stranded : List ℕ
+  pub lost : List ℕ
+
+-- none: the case of demand 3
+abbrev pub nothingLeft : Leftover
+nothingLeft = record { stranded = []; lost = [] }
+
 -- the memory: its pages are those of one list, its tables those on the ways to the pages of another
-pub record Paged (m : Memory) (root : ℕ) (pages ever : List ℕ) : Type 0 where
-  pub account : Accounted m root 4 []
+pub record Paged (m : Memory) (root : ℕ) (pages ever lost : List ℕ) : Type 0 where
+  pub account : Accounted m root 4 lost
   pub plain : PlainIn m root 4
   pub live : Live m root 3 pages
   pub tabled : Tabled m root 3 ever
 
+-- the pages of live regions, and others
+abbrev pub pagesWith : List Region → List ℕ → List ℕ
+pagesWith [] s = s
+pagesWith (r ∷ l) s = pagesOf r ++ pagesWith l s
+
+pub with-is : (l : List Region) (s : List ℕ) → pagesWith l s ≡ concat pagesOf l ++ s
+unfolding concat
+with-is [] s = refl
+with-is (r ∷ l) s = ap (λ (x : List ℕ). pagesOf r ++ x) (with-is l s) ∙ sym (append-assoc (pagesOf r) (concat pagesOf l) s)
+
 -- the board: its parts, with the live regions l and the pages ever mapped
-pub record Inv (b : Board) (k : List VMRegion) (u : List MappedRegion) (l : List Region) (ever : List ℕ) : Type 0 where
-  pub paged : Paged (b .mem) (b .root) (concat pagesOf l) ever
+pub record Inv (left : Leftover) (b : Board) (k : List VMRegion) (u : List MappedRegion) (l : List Region) (ever : List ℕ) : Type 0 where
+  pub paged : Paged (b .mem) (b .root) (pagesWith l (left .stranded)) ever (left .lost)
   pub first : b .root ≡ startOf (b .mem)
   pub kernelIs : b .kernel ≡ filled noKernelSlot k
   pub kernelList : KernelList k l
@@ -49,12 +67,12 @@ pub record Inv (b : Board) (k : List VMRegion) (u : List MappedRegion) (l : List
 
 -- ---- the order of the lists makes no difference
 
-pub paged-perm : {m : Memory} {root : ℕ} {p q ever : List ℕ} → List·Permᴰ p q → Paged m root p ever → Paged m root q ever
+pub paged-perm : {m : Memory} {root : ℕ} {p q ever lost : List ℕ} → List·Permᴰ p q → Paged m root p ever lost → Paged m root q ever lost
 paged-perm d h = record { account = h .account; plain = h .plain; live = live-perm d (h .live); tabled = h .tabled }
 
-pub inv-perm : {b : Board} {k : List VMRegion} {u : List MappedRegion} {l l′ : List Region} {ever : List ℕ} → List·Permᴰ l l′ → Inv b k u l ever → Inv b k u l′ ever
-inv-perm d h = record {
-  paged = paged-perm (perm-concat pagesOf d) (h .paged);
+pub inv-perm : {b : Board} {k : List VMRegion} {u : List MappedRegion} {l l′ : List Region} {ever : List ℕ} {left : Leftover} → List·Permᴰ l l′ → Inv left b k u l ever → Inv left b k u l′ ever
+inv-perm {l = l} {l′ = l′} {left = left} d h = record {
+  paged = paged-perm (rw (with-is l (left .stranded), with-is l′ (left .stranded)) (Permᴰ·append-right (left .stranded) (perm-concat pagesOf d))) (h .paged);
   first = h .first;
   kernelIs = h .kernelIs;
   kernelList = record {
@@ -87,12 +105,12 @@ takes-start none = refl
 takes-start (more t r) = takes-start r ∙ t .grew .start
 
 -- n pages from v on are taken
-module _ (w u : Bool) {m : Memory} {root : ℕ} {pages ever : List ℕ} (h : Paged m root pages ever) (v n x : ℕ) (e : mapPages 3 w u m root v 0 n .walked ≡ At x) where
+module _ (w u : Bool) {m : Memory} {root : ℕ} {pages ever lost : List ℕ} (h : Paged m root pages ever lost) (v n x : ℕ) (e : mapPages 3 w u m root v 0 n .walked ≡ At x) where
   met : Takes root 3 m (run v n) (mapPages 3 w u m root v 0 n .mem)
   met = map-pages-met w u n (h .account .order) v 0 x e
 
-  pub paged-take : Paged (mapPages 3 w u m root v 0 n .mem) root (pagesFrom v n ++ pages) (pagesFrom v n ++ ever)
-  paged-take = subst (λ (l : List ℕ). Paged (mapPages 3 w u m root v 0 n .mem) root (l ++ pages) (l ++ ever)) (run-is v n) (record {
+  pub paged-take : Paged (mapPages 3 w u m root v 0 n .mem) root (pagesFrom v n ++ pages) (pagesFrom v n ++ ever) lost
+  paged-take = subst (λ (l : List ℕ). Paged (mapPages 3 w u m root v 0 n .mem) root (l ++ pages) (l ++ ever) lost) (run-is v n) (record {
     account = takes-accounted met (h .account);
     plain = takes-plain met (h .plain);
     live = takes-live met (h .live);
@@ -120,7 +138,7 @@ stop-number w u (suc n) {m} {root} o v k e h = go (mapFresh 3 w u m root v .walk
         let z : a ≡ e = cc in
         ⊎-elim (λ g. named e noFreeFrame (sym z ∙ g) refl) (λ g. named e mapFailed (sym z ∙ g) refl) (take-number o w u v a f)
 
-pub paged-stop : (w u : Bool) {m : Memory} {root : ℕ} {pages ever : List ℕ} → Paged m root pages ever → (v n e : ℕ) → mapPages 3 w u m root v 0 n .walked ≡ Stop e
+pub paged-stop : (w u : Bool) {m : Memory} {root : ℕ} {pages ever lost : List ℕ} → Paged m root pages ever lost → (v n e : ℕ) → mapPages 3 w u m root v 0 n .walked ≡ Stop e
     → exhausted (Stop e) ≡ true
 paged-stop w u h v n e f = stop-number w u n (h .account .order) v 0 e f
 
@@ -138,9 +156,10 @@ unfolding freePages
 give-start m root v zero = refl
 give-start m root v (suc n) = give-start (freePage 3 m root v) root (v + 4096) n ∙ free-start 3 m root v
 
-pub paged-give : {m : Memory} {root : ℕ} {pages ever : List ℕ} (v n : ℕ) → Paged m root (pagesFrom v n ++ pages) ever → Paged (freePages 3 m root v n) root pages ever
-paged-give {m} {root} {pages} {ever} v n h =
-    let g : Paged m root (run v n ++ pages) ever = rw (run-is v n) h in
+pub paged-give : {m : Memory} {root : ℕ} {pages ever lost : List ℕ} (v n : ℕ) → Paged m root (pagesFrom v n ++ pages) ever lost
+    → Paged (freePages 3 m root v n) root pages ever lost
+paged-give {m} {root} {pages} {ever} {lost} v n h =
+    let g : Paged m root (run v n ++ pages) ever lost = rw (run-is v n) h in
     rw (free-pages 3 root n m v) (record {
       account = free-all-accounted (run v n) (g .account);
       plain = free-all-plain (run v n) (g .account .order) (g .plain);

@@ -1,36 +1,30 @@
 -- vmalloc and vfree keep the invariant, and step the live regions and the book as the statement says.
-use Prim.Native.Nat.{ℕ, _+_, _-_, _*_, _/_, _%_, _^_, _<_, _≤_}
+use Prim.Native.Nat.{ℕ, _/_, _%_, _<_, _≤_}
 use mathlib.Core.Path.{_≡_, refl, sym, _∙_, ap, subst}
-use mathlib.Core.Bool.{Bool, true, false, true≢false, false≢true}
-use mathlib.Core.Logic.{_⊎_, inl, inr, ⊎-elim}
-use mathlib.Core.List.{List, [], _∷_, _++_, List·Memᴰ, List·Memᴰ·head}
-use native.Mathlib.Omega.{arith}
+use mathlib.Core.Bool.{true, false, true≢false}
+use mathlib.Core.List.{List, _∷_, _++_, List·Memᴰ}
 use lib.Dec.{ltb}
 use lib.ListN.{length}
-use Rattle.allocator.specs.Round.{roundUp, lastPage}
+use Rattle.allocator.specs.Round.{roundUp}
 use Rattle.allocator.proofs.Round.{round-multiple, round-pos}
-use Rattle.answer.specs.Numbers.{brokenRecord, sizeZero, tooLarge, noFreeFrame, mapFailed}
 use Rattle.paging.specs.declared.Walked.{Walked}
 use Rattle.paging.specs.declared.Walked.the-variants.{At, Stop}
-use Rattle.paging.specs.Map.{Memory, startOf}
-use Rattle.paging.specs.Pages.{mapPages, freePages}
-use Rattle.slots.specs.Slots.{Slots, live, store}
+use Rattle.paging.specs.Pages.{freePages}
+use Rattle.slots.specs.Slots.{live, store}
 use Rattle.slots.proofs.Filled.{filled, live-filled, store-filled}
 use Rattle.vmalloc.specs.declared.VMRegion.{VMRegion}
-use Rattle.vmalloc.specs.Regions.{windowStart, windowEnd, firstFit, cutFirst, cut, usedSize, freeFirst, merge}
+use Rattle.vmalloc.specs.Regions.{windowStart, windowEnd, firstFit, cut, usedSize, freeFirst, merge}
 use Rattle.vmalloc.specs.Regions.{noSlot as noKernelSlot}
-use Rattle.vmalloc.specs.Calls.{Kernel, kernel, Did, did, soundKernel, cutSlots, kernelPages, mapped, vmalloc, vfree}
-use Rattle.vmalloc.proofs.Merge.{freedAll}
-use Rattle.vmalloc.proofs.Rows.{Rows, freed-first, cut-few, length-freed, length-merge}
+use Rattle.vmalloc.specs.Calls.{Kernel, kernel, Did, cutSlots, kernelPages, mapped, vmalloc, vfree}
+use Rattle.vmalloc.proofs.Rows.{freed-first, cut-few}
 use Rattle.vmalloc.proofs.Used.{cut-was-free}
-use Rattle.vmalloc.proofs.Calls.{vmalloc-cases, vfree-cases, walked-cases}
+use Rattle.vmalloc.proofs.Calls.{vmalloc-cases, vfree-cases}
 use Rattle.mmap.specs.declared.MappedRegion.{MappedRegion}
 use Rattle.board.specs.Board.{Board}
-use Rattle.release.specs.Demand3.{Call, vmallocs, vfrees, play, exhausted, Region, kernels, users, dropKernel, liveStep, pagesFrom, pagesOf, concat, takePart, bookStep}
-use Rattle.release.proofs.Lists.{Once}
+use Rattle.release.specs.Demand3.{vmallocs, vfrees, exhausted, Region, kernels, dropKernel, liveStep, pagesFrom, takePart, bookStep}
 use Rattle.release.proofs.Book.{take-cut, free-part, join-parts}
-use Rattle.release.proofs.Regions.{KernelList, UserList, kernel-take, kernel-give, user-more, user-fewer, drop-kernel, not-both, same-at}
-use Rattle.release.proofs.Invariant.{Paged, Inv, inv-perm, paged-take, paged-stop, take-start, paged-give, give-start}
+use Rattle.release.proofs.Regions.{KernelList, kernel-take, kernel-give, user-more, user-fewer, drop-kernel, not-both, same-at}
+use Rattle.release.proofs.Invariant.{Leftover, Inv, inv-perm, paged-take, paged-stop, take-start, paged-give, give-start}
 use Rattle.release.proofs.Sound.{kernel-sound}
 
 -- the board that a kernel call leaves
@@ -42,7 +36,7 @@ abbrev pub morePages : List ℕ → Walked → ℕ → List ℕ
 morePages ever (At a) n = pagesFrom a (n / 4096) ++ ever
 morePages ever (Stop e) n = ever
 
-module _ {b : Board} {k : List VMRegion} {u : List MappedRegion} {l : List Region} {ever : List ℕ} (h : Inv b k u l ever) where
+module _ {b : Board} {k : List VMRegion} {u : List MappedRegion} {l : List Region} {ever : List ℕ} {left : Leftover} (h : Inv left b k u l ever) where
   pub kernel-listed : live (b .kernel) ≡ k
   kernel-listed = ap live (h .kernelIs) ∙ live-filled noKernelSlot k
 
@@ -52,8 +46,7 @@ module _ {b : Board} {k : List VMRegion} {u : List MappedRegion} {l : List Regio
 
   -- a region that is taken
   took : (n a x : ℕ) → n % 4096 ≡ 0 → 0 < n → firstFit n k ≡ At a → kernelPages 3 (b .mem) (b .root) a n .walked ≡ At x
-      → Inv (withKernel b (kernel (kernelPages 3 (b .mem) (b .root) a n .mem) (cutSlots true n (b .kernel)))) (takePart a n (ltb (length k) 256) k) u (kernels a n ∷ l) (pagesFrom a (n / 4096) ++ ever)
-  unfolding concat
+      → Inv left (withKernel b (kernel (kernelPages 3 (b .mem) (b .root) a n .mem) (cutSlots true n (b .kernel)))) (takePart a n (ltb (length k) 256) k) u (kernels a n ∷ l) (pagesFrom a (n / 4096) ++ ever)
   took n a x full pos f met =
       rw (take-cut n a windowStart windowEnd (ltb (length k) 256) k (h .kernelList .rows) f) (record {
         paged = paged-take true false (h .paged) a (n / 4096) x met;
@@ -71,14 +64,14 @@ module _ {b : Board} {k : List VMRegion} {u : List MappedRegion} {l : List Regio
 
   -- vmalloc
   pub vmalloc-step : (size : ℕ) → let d = vmalloc 3 (kernel (b .mem) (b .kernel)) (b .root) size in exhausted (d .answer) ≡ false
-      → Inv (withKernel b (d .kernel)) (bookStep k (vmallocs size) (d .answer)) u (liveStep l (vmallocs size) (d .answer)) (morePages ever (d .answer) (roundUp 12 size))
+      → Inv left (withKernel b (d .kernel)) (bookStep k (vmallocs size) (d .answer)) u (liveStep l (vmallocs size) (d .answer)) (morePages ever (d .answer) (roundUp 12 size))
   vmalloc-step size =
       vmalloc-cases 3 (kernel (b .mem) (b .kernel)) (b .root) size P
       (λ e. absurd (true≢false (sym (kernel-sound h) ∙ e))) (λ _. h) (λ _. h) (λ e f _. h)
       (λ s pos le a f. by a (subst (λ (x : List VMRegion). firstFit (roundUp 12 size) x ≡ At a) kernel-listed f) pos (kernelPages 3 (b .mem) (b .root) a (roundUp 12 size) .walked) refl)
     where
       P : Did → Type 0
-      P d = exhausted (d .answer) ≡ false → Inv (withKernel b (d .kernel)) (bookStep k (vmallocs size) (d .answer)) u (liveStep l (vmallocs size) (d .answer)) (morePages ever (d .answer) (roundUp 12 size))
+      P d = exhausted (d .answer) ≡ false → Inv left (withKernel b (d .kernel)) (bookStep k (vmallocs size) (d .answer)) u (liveStep l (vmallocs size) (d .answer)) (morePages ever (d .answer) (roundUp 12 size))
 
       by : (a : ℕ) → firstFit (roundUp 12 size) k ≡ At a → 0 < size → (w : Walked) → kernelPages 3 (b .mem) (b .root) a (roundUp 12 size) .walked ≡ w
           → P (mapped a (roundUp 12 size) (b .kernel) w (kernelPages 3 (b .mem) (b .root) a (roundUp 12 size) .mem))
@@ -87,8 +80,7 @@ module _ {b : Board} {k : List VMRegion} {u : List MappedRegion} {l : List Regio
 
   -- a region that is released
   gave : (a n : ℕ) → usedSize a k ≡ At n
-      → Inv (withKernel b (kernel (freePages 3 (b .mem) (b .root) a (n / 4096)) (store noKernelSlot (merge (freeFirst a k)) (b .kernel)))) (merge (freeFirst a k)) u (dropKernel a l) ever
-  unfolding concat
+      → Inv left (withKernel b (kernel (freePages 3 (b .mem) (b .root) a (n / 4096)) (store noKernelSlot (merge (freeFirst a k)) (b .kernel)))) (merge (freeFirst a k)) u (dropKernel a l) ever
   gave a n e =
       let p = drop-kernel a n l (h .kernelList .used a n e) (λ m q. same-at (h .kernelList .live a m q) e) in
       let g = inv-perm p h in
@@ -107,7 +99,7 @@ module _ {b : Board} {k : List VMRegion} {u : List MappedRegion} {l : List Regio
 
   -- vfree
   pub vfree-step : (a : ℕ) → let d = vfree 3 (kernel (b .mem) (b .kernel)) (b .root) a in
-      Inv (withKernel b (d .kernel)) (bookStep k (vfrees a) (d .answer)) u (liveStep l (vfrees a) (d .answer)) ever
+      Inv left (withKernel b (d .kernel)) (bookStep k (vfrees a) (d .answer)) u (liveStep l (vfrees a) (d .answer)) ever
   vfree-step a =
       vfree-cases 3 (kernel (b .mem) (b .kernel)) (b .root) a P
       (λ e. absurd (true≢false (sym (kernel-sound h) ∙ e))) (λ e f. h)
@@ -116,4 +108,4 @@ module _ {b : Board} {k : List VMRegion} {u : List MappedRegion} {l : List Regio
       rw (free-part a k, join-parts (freeFirst a k), kernel-listed) (gave a n e′))
     where
       P : Did → Type 0
-      P d = Inv (withKernel b (d .kernel)) (bookStep k (vfrees a) (d .answer)) u (liveStep l (vfrees a) (d .answer)) ever
+      P d = Inv left (withKernel b (d .kernel)) (bookStep k (vfrees a) (d .answer)) u (liveStep l (vfrees a) (d .answer)) ever

@@ -1,6 +1,6 @@
 pub mod Lists
 pub mod Book
-pub mod Counting
+pub mod Different
 pub mod Regions
 pub mod Invariant
 pub mod Sound

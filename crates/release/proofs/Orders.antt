@@ -1,16 +1,13 @@
 -- All live regions released, in whatever order: each release is met, and every two orders end in one board.
-use Prim.Native.Nat.{ℕ, zero, suc, _+_, _/_}
+use Prim.Native.Nat.{ℕ, _/_}
 use mathlib.Core.Path.{_≡_, refl, sym, _∙_, ap, subst}
 use mathlib.Core.Bool.{Bool, true, false}
-use mathlib.Core.List.{List, [], _∷_, _++_, foldl, foldl-append, List·Memᴰ·not-nil, List·Permᴰ, List·Permᴰ·trans, Permᴰ·symm}
-use Rattle.bits.specs.Bit.{both}
-use Rattle.paging.specs.declared.Walked.{Walked}
-use Rattle.paging.specs.declared.Walked.the-variants.{At, Stop}
+use mathlib.Core.List.{List, [], _∷_, foldl, foldl-append, List·Memᴰ·not-nil, List·Permᴰ, List·Permᴰ·trans, Permᴰ·symm}
 use Rattle.paging.specs.Map.{Memory}
 use Rattle.paging.specs.Pages.{freePage}
 use Rattle.tree.proofs.Orders.{one-end}
 use Rattle.tree.proofs.Freeing.{freeAll, pages-end}
-use Rattle.tree.proofs.Runs.{run, free-pages}
+use Rattle.tree.proofs.Runs.{free-pages}
 use Rattle.slots.specs.Slots.{every}
 use Rattle.vmalloc.specs.declared.VMRegion.{VMRegion}
 use Rattle.vmalloc.specs.Regions.{merge}
@@ -19,14 +16,14 @@ use Rattle.vmalloc.proofs.Tiles.{Apart, apart-merged}
 use Rattle.mmap.specs.declared.MappedRegion.{MappedRegion}
 use Rattle.mmap.specs.Regions.{holds}
 use Rattle.mmap.proofs.Rising.{holds-nothing}
-use Rattle.board.specs.Board.{Board, Did}
-use Rattle.release.specs.Demand3.{Call, play, after, Event, events, isMet, Region, kernels, users, startIs, sizeIs, Releases, by-vfree, by-munmap, EachReleased, done, next, Order, pagesFrom, pagesOf, concat}
+use Rattle.board.specs.Board.{Board}
+use Rattle.release.specs.Demand3.{Call, after, events, isMet, Region, kernels, users, startIs, sizeIs, Releases, by-vfree, by-munmap, EachReleased, done, next, Order, pagesOf, concat}
 use Rattle.release.proofs.Lists.{perm-concat, reordered}
 use Rattle.release.proofs.Regions.{UserList}
-use Rattle.release.proofs.Invariant.{Inv, inv-perm, run-is}
+use Rattle.release.proofs.Invariant.{Leftover, Inv, inv-perm, run-is}
 use Rattle.release.proofs.Ends.{board, memoryAfter, kernelAfter, userAfter, Gave, kernel-gave, user-gave}
 
-gave : {b : Board} {k : List VMRegion} {u : List MappedRegion} {l : List Region} {ever : List ℕ} {r : Region} {c : Call} → Releases r c → Inv b k u (r ∷ l) ever → Gave b k u r l ever c
+gave : {b : Board} {k : List VMRegion} {u : List MappedRegion} {l : List Region} {ever : List ℕ} {left : Leftover} {r : Region} {c : Call} → Releases r c → Inv left b k u (r ∷ l) ever → Gave left b k u r l ever c
 gave (by-vfree {a = a} {n = n}) h = kernel-gave a n h
 gave (by-munmap {a = a} {n = n} {size = size} q) h = user-gave a n size q h
 
@@ -34,17 +31,17 @@ gave (by-munmap {a = a} {n = n} {size = size} q) h = user-gave a n size q h
 abbrev pub ended : Board → List VMRegion → List MappedRegion → List Region → Board
 ended b k u m = board b (foldl (memoryAfter (b .root)) (b .mem) m) (foldl kernelAfter k m) (foldl userAfter u m)
 
-pub record Ended (b : Board) (k : List VMRegion) (u : List MappedRegion) (m : List Region) (ever : List ℕ) (cs : List Call) : Type 0 where
+pub record Ended (left : Leftover) (b : Board) (k : List VMRegion) (u : List MappedRegion) (m : List Region) (ever : List ℕ) (cs : List Call) : Type 0 where
   pub met : every (λ e. isMet (e .answer)) (events b cs) ≡ true
   pub leaves : after b cs ≡ ended b k u m
-  pub inv : Inv (ended b k u m) (foldl kernelAfter k m) (foldl userAfter u m) [] ever
+  pub inv : Inv left (ended b k u m) (foldl kernelAfter k m) (foldl userAfter u m) [] ever
 
-pub end-of : {m : List Region} {cs : List Call} → EachReleased m cs → {b : Board} {k : List VMRegion} {u : List MappedRegion} {ever : List ℕ} → Inv b k u m ever → Ended b k u m ever cs
+pub end-of : {m : List Region} {cs : List Call} → EachReleased m cs → {b : Board} {k : List VMRegion} {u : List MappedRegion} {ever : List ℕ} {left : Leftover} → Inv left b k u m ever → Ended left b k u m ever cs
 unfolding after events every
-end-of done {b} {k} {u} {ever} h =
+end-of done {b} {k} {u} {ever} {left} h =
     let same : b ≡ board b (b .mem) k u = λ i. record { mem = b .mem; root = b .root; kernel = h .kernelIs i; user = h .userIs i; next = b .next; marked = b .marked } in
-    record { met = refl; leaves = same; inv = subst (λ (x : Board). Inv x k u [] ever) same h }
-end-of (next {r = r} {c = c} {cs = cs} x xs) {b} {k} {u} {ever} h =
+    record { met = refl; leaves = same; inv = subst (λ (x : Board). Inv left x k u [] ever) same h }
+end-of (next {r = r} {c = c} {cs = cs} x xs) {b} {k} {u} {ever} {left} h =
     let g = gave x h in
     let e = end-of xs (g .inv) in
     record {
@@ -98,8 +95,8 @@ user-empty {u} h = holds-nothing u (λ a n. by a n (holds a n u) refl)
 
 -- ---- every two orders
 
-module _ {b : Board} {k : List VMRegion} {u : List MappedRegion} {l : List Region} {ever : List ℕ} (h : Inv b k u l ever) where
-  pub order-end : {cs : List Call} (o : Order l cs) → Ended b k u (o .0) ever cs
+module _ {b : Board} {k : List VMRegion} {u : List MappedRegion} {l : List Region} {ever : List ℕ} {left : Leftover} (h : Inv left b k u l ever) where
+  pub order-end : {cs : List Call} (o : Order l cs) → Ended left b k u (o .0) ever cs
   order-end o = end-of (o .2) (inv-perm (reordered (o .1)) h)
 
   pub one-board : {cs cs′ : List Call} → Order l cs → Order l cs′ → after b cs ≡ after b cs′

@@ -1,22 +1,19 @@
 -- The invariant along a list of calls, from a fresh board on.
-use Prim.Native.Nat.{ℕ, zero, suc, _+_, _-_, _*_, _/_, _%_, _^_, _<_, _≤_, min}
-use mathlib.Core.Path.{_≡_, refl, sym, _∙_, ap, subst}
-use mathlib.Core.Bool.{Bool, true, false, not, true≢false, false≢true}
-use mathlib.Core.Logic.{_⊎_, inl, inr, ⊎-elim}
-use mathlib.Core.List.{List, [], _∷_, _++_, append-assoc, List·Memᴰ, List·Memᴰ·not-nil, List·Memᴰ·append-cases, Memᴰ·append-left, Memᴰ·append-right}
+use Prim.Native.Nat.{ℕ, _+_, _-_, _*_, _/_, _^_, _<_, _≤_, min}
+use mathlib.Core.Path.{_≡_, refl, sym, ap, subst}
+use mathlib.Core.Bool.{Bool, true, false, not, false≢true}
+use mathlib.Core.List.{List, [], _∷_, List·Memᴰ·not-nil}
 use native.Mathlib.Omega.{arith}
-use lib.IntN.{ℤ}
 use lib.Dec.{eqb, leb}
-use lib.ListN.{length, replicate}
-use borrow.Author.Tests.{leb-true, eqb-false, not-true}
+use lib.ListN.{length}
+use borrow.Author.Tests.{leb-true, eqb-false}
 use Rattle.bits.specs.Bit.{pick, both}
 use Rattle.frame.proofs.Laws.{both-true, init-cases}
 use Rattle.allocator.specs.Round.{roundUp}
 use Rattle.answer.specs.Numbers.{brokenRecord, noFreeFrame}
 use Rattle.answer.specs.declared.Answer.{Answer}
-use Rattle.answer.specs.declared.Answer.the-variants.{Met, Refused}
+use Rattle.answer.specs.declared.Answer.the-variants.{Met}
 use Rattle.frame.proofs.Steps.{span-with}
-use Rattle.frame.specs.Frames.{Frames, init}
 use Rattle.paging.specs.Map.{startOf}
 use Rattle.frame.specs.Frames.{Did as FramesDid}
 use Rattle.paging.specs.declared.Walked.{Walked}
@@ -28,12 +25,10 @@ use Rattle.vmalloc.specs.declared.VMRegion.{VMRegion}
 use Rattle.vmalloc.specs.Regions.{windowStart, windowEnd, window, usedSize}
 use Rattle.mmap.specs.declared.MappedRegion.{MappedRegion}
 use Rattle.mmap.specs.Regions.{holds}
-use Rattle.mmap.specs.Calls.{Wish}
 use Rattle.board.specs.Board.{Board, Did, did, begun, ready, start}
-use Rattle.release.specs.Demand3.{Call, vmallocs, vfrees, mmaps, munmaps, play, after, Event, events, exhausted, neverExhausted, Region, liveStep, liveFrom, bornBy, everLive, pagesFrom, pagesOf, concat, bookStep, bookFrom}
-use Rattle.release.proofs.Lists.{concat-append}
+use Rattle.release.specs.Demand3.{Call, vmallocs, vfrees, mmaps, munmaps, play, after, Event, events, exhausted, neverExhausted, Region, liveStep, liveFrom, bookStep, bookFrom}
 use Rattle.release.proofs.Regions.{KernelList, UserList}
-use Rattle.release.proofs.Invariant.{Paged, Inv}
+use Rattle.release.proofs.Invariant.{Leftover, nothingLeft, Inv}
 use Rattle.release.proofs.Kernel.{morePages, vmalloc-step, vfree-step}
 use Rattle.release.proofs.User.{mmap-step, munmap-step}
 
@@ -49,8 +44,8 @@ everFrom ever [] = ever
 everFrom ever (e ∷ es) = everFrom (everStep ever (e .call) (e .answer)) es
 
 -- one call
-pub step : {b : Board} {k : List VMRegion} {u : List MappedRegion} {l : List Region} {ever : List ℕ} → Inv b k u l ever → (c : Call) → exhausted (play b c .answer) ≡ false
-    → (u′ : List MappedRegion) × Inv (play b c .board) (bookStep k c (play b c .answer)) u′ (liveStep l c (play b c .answer)) (everStep ever c (play b c .answer))
+pub step : {b : Board} {k : List VMRegion} {u : List MappedRegion} {l : List Region} {ever : List ℕ} {left : Leftover} → Inv left b k u l ever → (c : Call) → exhausted (play b c .answer) ≡ false
+    → (u′ : List MappedRegion) × Inv left (play b c .board) (bookStep k c (play b c .answer)) u′ (liveStep l c (play b c .answer)) (everStep ever c (play b c .answer))
 unfolding play
 step {u = u} h (vmallocs size) e = (u, vmalloc-step h size e)
 step {u = u} h (vfrees a) e = (u, vfree-step h a)
@@ -58,8 +53,8 @@ step h (mmaps wish size prot flags) e = mmap-step h wish size prot flags e
 step h (munmaps a size) e = munmap-step h a size
 
 -- a list of calls
-pub run-inv : (cs : List Call) {b : Board} {k : List VMRegion} {u : List MappedRegion} {l : List Region} {ever : List ℕ} → Inv b k u l ever → neverExhausted (events b cs) ≡ true
-    → (u′ : List MappedRegion) × Inv (after b cs) (bookFrom k (events b cs)) u′ (liveFrom l (events b cs)) (everFrom ever (events b cs))
+pub run-inv : (cs : List Call) {b : Board} {k : List VMRegion} {u : List MappedRegion} {l : List Region} {ever : List ℕ} {left : Leftover} → Inv left b k u l ever → neverExhausted (events b cs) ≡ true
+    → (u′ : List MappedRegion) × Inv left (after b cs) (bookFrom k (events b cs)) u′ (liveFrom l (events b cs)) (everFrom ever (events b cs))
 unfolding after events bookFrom liveFrom every
 run-inv [] {u = u} h e = (u, h)
 run-inv (c ∷ cs) {b} h e =
@@ -104,8 +99,7 @@ refused n a c e = apart (ap (λ (d : Did). d .answer) e)
     apart q = let z : _≡_ {A = ℕ} 0 1 = cc in omega arith
 
 module _ (old : Board) (s t : ℕ) (some : 0 < t) (few : t ≤ 8192) (enough : t * 512 ≤ length (old .mem .words)) (low : s + t ≤ 2 ^ 40) where
-  begun-inv : Inv (begun old (unused s t)) (window ∷ []) [] [] []
-  unfolding concat
+  begun-inv : Inv nothingLeft (begun old (unused s t)) (window ∷ []) [] [] []
   begun-inv = record {
     paged = record {
       account = fresh-accounted (old .mem .words) s t 4 some few enough low;
@@ -126,7 +120,7 @@ module _ (old : Board) (s t : ℕ) (some : 0 < t) (few : t ≤ 8192) (enough : t
       first = sym (span-with (unused s t) 0 .start)
 
 -- 'what any met start leaves, whatever the lent record held before'
-pub fresh-inv : (old fresh : Board) (from to : ℕ) → start old from to ≡ did (At 0) fresh → Inv fresh (window ∷ []) [] [] []
+pub fresh-inv : (old fresh : Board) (from to : ℕ) → start old from to ≡ did (At 0) fresh → Inv nothingLeft fresh (window ∷ []) [] [] []
 unfolding start
 fresh-inv old fresh from to =
     init-cases (old .mem .frames) from to P
@@ -134,16 +128,16 @@ fresh-inv old fresh from to =
     (λ e. absurd (refused brokenRecord old fresh e))
   where
     P : FramesDid Answer → Type 0
-    P d = ready old (d .answer) (d .frames) ≡ did (At 0) fresh → Inv fresh (window ∷ []) [] [] []
+    P d = ready old (d .answer) (d .frames) ≡ did (At 0) fresh → Inv nothingLeft fresh (window ∷ []) [] [] []
 
-    met : (s t : ℕ) → t ≤ 8192 → s + t ≤ 2 ^ 40 → ready old Met (unused s t) ≡ did (At 0) fresh → Inv fresh (window ∷ []) [] [] []
+    met : (s t : ℕ) → t ≤ 8192 → s + t ≤ 2 ^ 40 → ready old Met (unused s t) ≡ did (At 0) fresh → Inv nothingLeft fresh (window ∷ []) [] [] []
     met s t few low e = one (leb (t * 512) (length (old .mem .words))) refl (eqb t 0) refl e
       where
         one : (x : Bool) → leb (t * 512) (length (old .mem .words)) ≡ x → (y : Bool) → eqb t 0 ≡ y
             → pick x (pick y (did (Stop noFreeFrame) old) (did (At 0) (begun old (unused s t)))) (did (Stop brokenRecord) old) ≡ did (At 0) fresh
-            → Inv fresh (window ∷ []) [] [] []
+            → Inv nothingLeft fresh (window ∷ []) [] [] []
         one true enough true zero′ e = absurd (refused noFreeFrame old fresh e)
         one true enough false some e =
-            subst (λ (x : Board). Inv x (window ∷ []) [] [] []) (ap (λ (d : Did). d .board) e)
+            subst (λ (x : Board). Inv nothingLeft x (window ∷ []) [] [] []) (ap (λ (d : Did). d .board) e)
             (begun-inv old s t (omega (arith, eqb-false t 0 some)) few (leb-true _ _ enough) low)
         one false enough y some e = absurd (refused brokenRecord old fresh e)

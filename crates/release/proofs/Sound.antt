@@ -1,14 +1,12 @@
 -- A board that the invariant holds of is not broken, so no call on it answers 10.
-use Prim.Native.Nat.{ℕ, _-_, _%_, _≤_}
-use mathlib.Core.Path.{_≡_, refl, sym, _∙_, ap}
-use mathlib.Core.Bool.{Bool, true}
+use Prim.Native.Nat.{ℕ, _-_, _%_}
+use mathlib.Core.Path.{_≡_, refl}
+use mathlib.Core.Bool.{true}
 use mathlib.Core.List.{List}
 use native.Mathlib.Omega.{arith}
-use lib.Dec.{leb, eqb}
 use lib.ListN.{length}
 use borrow.Author.Tests.{le-leb, eq-eqb}
 use Rattle.tree.proofs.Ordered.{ordered-whole}
-use Rattle.slots.specs.Slots.{every}
 use Rattle.slots.proofs.Filled.{filled, live-filled, drop-filled, every-zero}
 use Rattle.vmalloc.specs.declared.VMRegion.{VMRegion}
 use Rattle.vmalloc.specs.Regions.{windowStart, windowEnd, isNoSlot, soundRegions}
@@ -23,7 +21,7 @@ use Rattle.mmap.proofs.Rising.{rising-test, rising-placed}
 use Rattle.board.specs.Board.{Board}
 use Rattle.release.specs.Demand3.{Region}
 use Rattle.release.proofs.Regions.{KernelList, UserList}
-use Rattle.release.proofs.Invariant.{Inv}
+use Rattle.release.proofs.Invariant.{Leftover, Inv}
 
 regions-sound : {k : List VMRegion} {l : List Region} → KernelList k l → soundRegions (filled noKernelSlot k) ≡ true
 unfolding soundRegions
@@ -36,7 +34,7 @@ unfolding soundMappings
 mappings-sound {u} next h e =
     rw (le-leb _ _ (h .few), live-filled noUserSlot u, rising-test 0 u (h .rising), rising-placed 0 u (h .rising), eq-eqb (next % 4096) 0 e)
 
-module _ {b : Board} {k : List VMRegion} {u : List MappedRegion} {l : List Region} {ever : List ℕ} (h : Inv b k u l ever) where
+module _ {b : Board} {k : List VMRegion} {u : List MappedRegion} {l : List Region} {ever : List ℕ} {left : Leftover} (h : Inv left b k u l ever) where
   pub kernel-sound : soundKernel (kernel (b .mem) (b .kernel)) (b .root) ≡ true
   kernel-sound = rw (ordered-whole (h .paged .account .order), h .kernelIs) (regions-sound (h .kernelList))
 

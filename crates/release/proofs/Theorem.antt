@@ -1,13 +1,12 @@
 -- Demand 3.
-use Prim.Native.Nat.{ℕ, zero, suc, _+_, _-_, _*_, _/_, _<_, _≤_}
+use Prim.Native.Nat.{ℕ, zero, suc, _+_, _-_, _/_, _<_, _≤_}
 use mathlib.Core.Path.{_≡_, refl, sym, _∙_, ap, subst}
-use mathlib.Core.Bool.{Bool, true, false}
 use mathlib.Core.Logic.{_⊎_, inl, inr, ⊎-elim, ∥∥₁-elim}
 use mathlib.Core.HLevel.{⊥-prop}
-use mathlib.Core.List.{List, [], _∷_, _++_, foldl, List·Memᴰ, List·Memᴰ·head, List·Memᴰ·tail, List·Memᴰ·cases-cons, List·Memᴰ·not-nil, List·Memᴰ·append-cases, Memᴰ·append-left, Memᴰ·append-right, List·Nodup, nodup-nil, nodup-cons}
+use mathlib.Core.List.{List, [], _∷_, foldl, List·Memᴰ, List·Memᴰ·head, List·Memᴰ·tail, List·Memᴰ·cases-cons, List·Memᴰ·not-nil, List·Memᴰ·append-cases, Memᴰ·append-left, Memᴰ·append-right, List·Nodup, nodup-nil, nodup-cons}
 use native.Mathlib.Omega.{arith}
 use native.Mathlib.Decide.{ℕ-discrete}
-use lib.ListN.{length, take, replicate, length-take}
+use lib.ListN.{length, take, length-take}
 use lib.Seq.{take-take}
 use Rattle.entry.specs.Entry.{indices}
 use Rattle.entry.proofs.Entry.{length-indices}
@@ -17,28 +16,24 @@ use Rattle.allocator.specs.Round.{roundUp}
 use Rattle.paging.specs.declared.Walked.{Walked}
 use Rattle.paging.specs.declared.Walked.the-variants.{At, Stop}
 use Rattle.paging.specs.Walk.{reach}
-use Rattle.paging.specs.Map.{Memory, startOf, totalOf}
-use Rattle.tree.proofs.Paths.{Leads, leads-take, leads-length, take-leads, path, upper, length-path, length-upper}
-use Rattle.tree.proofs.Ordered.{reachIn, insideIn, markIn, Ordered, root-marked, root-inside}
-use Rattle.tree.proofs.Accounts.{Reached, Accounted}
-use Rattle.tree.proofs.Books.{Live, Tabled, silent, tables-only}
+use Rattle.paging.specs.Map.{startOf, totalOf}
+use Rattle.tree.proofs.Paths.{Leads, leads-take, leads-length, take-leads, path, upper, length-upper}
+use Rattle.tree.proofs.Ordered.{reachIn, markIn, Ordered, root-marked}
+use Rattle.tree.proofs.Books.{Live, silent, tables-only}
 use Rattle.tree.proofs.Counts.{counter-paths}
 use Rattle.slots.proofs.Filled.{filled, live-filled}
 use Rattle.slots.specs.Slots.{live}
 use Rattle.vmalloc.specs.declared.VMRegion.{VMRegion}
-use Rattle.vmalloc.specs.Regions.{window}
 use Rattle.vmalloc.specs.Regions.{noSlot as noKernelSlot}
 use Rattle.mmap.specs.declared.MappedRegion.{MappedRegion}
 use Rattle.board.specs.Board.{Board}
-use Rattle.release.specs.Demand3.{Call, vmallocs, vfrees, mmaps, munmaps, after, Event, events, Region, bornBy, everLive, pagesFrom, pagesOf, runsOf, concat, leadingRuns, among, different, PageTable, Order, book, neverCut, Released, Demand3}
-use Rattle.release.specs.Demand3.{live as liveRegions}
+use Rattle.release.specs.Demand3.{Call, vmallocs, vfrees, mmaps, munmaps, after, Event, events, bornBy, everLive, pagesFrom, pagesOf, runsOf, concat, leadingRuns, different, PageTable, book, Demand3}
 use Rattle.release.proofs.Lists.{Once, concat-append, concat-member, member-concat}
-use Rattle.release.proofs.Counting.{among-member, member-among, different-from, different-all, different-once}
-use Rattle.release.proofs.Invariant.{Paged, Inv}
-use Rattle.release.proofs.Kernel.{morePages}
+use Rattle.release.proofs.Different.{among-member, member-among, different-from, different-all, different-once}
+use Rattle.release.proofs.Invariant.{nothingLeft, Inv}
 use Rattle.release.proofs.Run.{everStep, everFrom, run-inv, fresh-inv}
 use Rattle.release.proofs.Ends.{kernelAfter, userAfter}
-use Rattle.release.proofs.Orders.{Ended, order-end, one-board}
+use Rattle.release.proofs.Orders.{order-end, one-board}
 use Rattle.release.proofs.Window.{whole-run, whole-window, whole-end, one-window}
 
 -- ---- the pages ever mapped are those of the regions ever live
@@ -106,9 +101,8 @@ lead-run v p d ge = by (length p) refl (leads-take d) (leads-length d)
 
 -- ---- a board with no live region
 
-module _ {x : Board} {k : List VMRegion} {u : List MappedRegion} (es : List Event) (h : Inv x k u [] (everFrom [] es)) where
+module _ {x : Board} {k : List VMRegion} {u : List MappedRegion} (es : List Event) (h : Inv nothingLeft x k u [] (everFrom [] es)) where
   none-live : Live (x .mem) (x .root) 3 []
-  unfolding concat
   none-live = h .paged .live
 
   ordered : Ordered (x .mem) (x .root) 4
@@ -187,8 +181,8 @@ demand3 old fresh from to st cs ne lr rs rs′ o o′ =
     let h = r .1 in
     let e = order-end h o in
     let root : after b rs .root ≡ b .root = ap (λ (y : Board). y .root) (e .leaves) in
-    let g : Inv (after b rs) (foldl kernelAfter (book es) (o .0)) (foldl userAfter (r .0) (o .0)) [] (everFrom [] es) =
-    subst (λ (y : Board). Inv y (foldl kernelAfter (book es) (o .0)) (foldl userAfter (r .0) (o .0)) [] (everFrom [] es)) (sym (e .leaves)) (e .inv) in
+    let g : Inv nothingLeft (after b rs) (foldl kernelAfter (book es) (o .0)) (foldl userAfter (r .0) (o .0)) [] (everFrom [] es) =
+    subst (λ (y : Board). Inv nothingLeft y (foldl kernelAfter (book es) (o .0)) (foldl userAfter (r .0) (o .0)) [] (everFrom [] es)) (sym (e .leaves)) (e .inv) in
     let tree = g .paged .account .order .tree in
     record {
       book-holds = ap live (h .kernelIs) ∙ live-filled noKernelSlot (book es);

@@ -1,39 +1,39 @@
 -- mmap and munmap keep the invariant, and step the live regions as the statement says.
-use Prim.Native.Nat.{ℕ, zero, suc, _+_, _-_, _*_, _/_, _%_, _^_, _<_, _≤_}
+use Prim.Native.Nat.{ℕ, suc, _+_, _-_, _/_, _<_, _≤_}
 use mathlib.Core.Path.{_≡_, refl, sym, _∙_, ap, subst}
 use mathlib.Core.Bool.{Bool, true, false, true≢false, false≢true}
-use mathlib.Core.Logic.{_⊎_, inl, inr, ⊎-elim}
+use mathlib.Core.Logic.{⊎-elim}
 use mathlib.Core.List.{List, [], _∷_, _++_, List·Memᴰ, List·Memᴰ·head, Memᴰ·append-left}
 use native.Mathlib.Omega.{arith}
 use lib.IntN.{ℤ}
 use lib.Dec.{eqb}
 use lib.ListN.{length}
-use borrow.Author.Tests.{eqb-true, eq-eqb}
+use borrow.Author.Tests.{eq-eqb}
 use Rattle.bits.specs.Bit.{pick}
-use Rattle.allocator.specs.Round.{rounded, roundUp, lastPage}
+use Rattle.allocator.specs.Round.{roundUp}
 use Rattle.allocator.proofs.Round.{round-multiple, round-pos}
 use Rattle.paging.specs.declared.Walked.{Walked}
 use Rattle.paging.specs.declared.Walked.the-variants.{At, Stop}
-use Rattle.paging.specs.Map.{Memory, startOf}
+use Rattle.paging.specs.Map.{Memory}
 use Rattle.paging.specs.Pages.{freePages}
 use Rattle.tree.proofs.Paths.{path}
 use Rattle.tree.proofs.Ordered.{reachIn}
 use Rattle.tree.proofs.Books.{Takes, none, more}
 use Rattle.tree.proofs.Runs.{run, map-pages-met}
-use Rattle.slots.specs.Slots.{Slots, live, store}
+use Rattle.slots.specs.Slots.{live, store}
 use Rattle.slots.proofs.Filled.{filled, live-filled, store-filled}
 use Rattle.vmalloc.specs.declared.VMRegion.{VMRegion}
 use Rattle.mmap.specs.declared.MappedRegion.{MappedRegion}
 use Rattle.mmap.specs.Regions.{writable, region, starts, insert, holds, remove}
 use Rattle.mmap.specs.Regions.{noSlot as noUserSlot}
-use Rattle.mmap.specs.Calls.{User, user, Did, did, soundUser, Wish, chosen, full, userPages, mapped, mmap, munmap}
-use Rattle.mmap.proofs.Rising.{Rising, Placed, holds-placed, holds-one, holds-none}
+use Rattle.mmap.specs.Calls.{User, user, Did, Wish, full, userPages, mapped, mmap, munmap}
+use Rattle.mmap.proofs.Rising.{Placed, holds-placed, holds-one, holds-none}
 use Rattle.mmap.proofs.Calls.{room, mmap-cases, munmap-cases, chosen-place}
 use Rattle.board.specs.Board.{Board}
-use Rattle.release.specs.Demand3.{Call, mmaps, munmaps, exhausted, Region, users, dropUser, liveStep, pagesFrom, pagesOf, concat}
-use Rattle.release.proofs.Lists.{Once, member-concat}
-use Rattle.release.proofs.Regions.{KernelList, UserList, kernel-more, kernel-fewer, user-take, user-give, drop-user}
-use Rattle.release.proofs.Invariant.{Paged, Inv, inv-perm, paged-take, paged-stop, take-start, paged-give, give-start}
+use Rattle.release.specs.Demand3.{mmaps, munmaps, exhausted, Region, users, dropUser, liveStep, pagesFrom, pagesOf}
+use Rattle.release.proofs.Lists.{member-concat}
+use Rattle.release.proofs.Regions.{kernel-more, kernel-fewer, user-take, user-give, drop-user}
+use Rattle.release.proofs.Invariant.{Leftover, with-is, Inv, inv-perm, paged-take, paged-stop, take-start, paged-give, give-start}
 use Rattle.release.proofs.Sound.{user-sound}
 use Rattle.release.proofs.Kernel.{morePages}
 
@@ -59,7 +59,7 @@ first-off : {root v : ℕ} {m m′ : Memory} (l : List ℕ) → Takes root 3 m l
 first-off [] none k e x r = let z : _≡_ {A = ℕ} 0 1 = cc in omega arith
 first-off {root} {v} {m} (v′ ∷ l) (more t s) k e x r = let q : v′ ≡ v = cc in t .off x (ap (λ (y : ℕ). reachIn m root (path 3 y)) q ∙ r)
 
-module _ {b : Board} {k : List VMRegion} {u : List MappedRegion} {l : List Region} {ever : List ℕ} (h : Inv b k u l ever) where
+module _ {b : Board} {k : List VMRegion} {u : List MappedRegion} {l : List Region} {ever : List ℕ} {left : Leftover} (h : Inv left b k u l ever) where
   pub user-listed : live (b .user) ≡ u
   user-listed = ap live (h .userIs) ∙ live-filled noUserSlot u
 
@@ -71,7 +71,7 @@ module _ {b : Board} {k : List VMRegion} {u : List MappedRegion} {l : List Regio
   unfolding pagesFrom
   first-page a n m p =
       let q : (j : ℕ) × (n / 4096 ≡ suc j) = (n / 4096 - 1, omega (arith, p .whole, p .some)) in
-      h .paged .live .here a (member-concat pagesOf a (users a n) l m (subst (λ (j : ℕ). List·Memᴰ a (pagesFrom a j)) (sym (q .1)) (begin (q .0))))
+      h .paged .live .here a (rw (with-is l (left .stranded)) (Memᴰ·append-left (left .stranded) (member-concat pagesOf a (users a n) l m (subst (λ (j : ℕ). List·Memᴰ a (pagesFrom a j)) (sym (q .1)) (begin (q .0))))))
     where
       begin : (j : ℕ) → List·Memᴰ a (pagesFrom a (suc j))
       begin j = List·Memᴰ·head refl
@@ -90,9 +90,8 @@ module _ {b : Board} {k : List VMRegion} {u : List MappedRegion} {l : List Regio
 
   -- a region that is taken
   took : (n a x : ℕ) (prot flags : ℤ) → Placed a n → full (userOf b) a ≡ false → userPages 3 (b .mem) (b .root) a n prot .walked ≡ At x
-      → Inv (withUser b (user (userPages 3 (b .mem) (b .root) a n prot .mem) (store noUserSlot (insert (region a n prot flags) u) (b .user)) (a + n))) k (insert (region a n prot flags) u) (users a n ∷ l)
+      → Inv left (withUser b (user (userPages 3 (b .mem) (b .root) a n prot .mem) (store noUserSlot (insert (region a n prot flags) u) (b .user)) (a + n))) k (insert (region a n prot flags) u) (users a n ∷ l)
       (pagesFrom a (n / 4096) ++ ever)
-  unfolding concat
   took n a x prot flags p f met =
       let s = new-start a n x prot p met in
       let few : length u < 256 = ⊎-elim (λ e. rw user-listed at e) (λ e. absurd (true≢false (sym (rw user-listed at e) ∙ s))) (room (userOf b) a f) in
@@ -110,7 +109,7 @@ module _ {b : Board} {k : List VMRegion} {u : List MappedRegion} {l : List Regio
 
   -- mmap
   pub mmap-step : (wish : Wish) (size : ℕ) (prot flags : ℤ) → let d = mmap 3 (userOf b) (b .root) wish size prot flags in exhausted (d .answer) ≡ false
-      → (u′ : List MappedRegion) × Inv (withUser b (d .user)) k u′ (liveStep l (mmaps wish size prot flags) (d .answer)) (morePages ever (d .answer) (roundUp 12 size))
+      → (u′ : List MappedRegion) × Inv left (withUser b (d .user)) k u′ (liveStep l (mmaps wish size prot flags) (d .answer)) (morePages ever (d .answer) (roundUp 12 size))
   mmap-step wish size prot flags =
       mmap-cases 3 (userOf b) (b .root) wish size prot flags P
       (λ e. absurd (true≢false (sym (user-sound h) ∙ e))) (λ _. (u, h)) (λ _. (u, h)) (λ e f _. (u, h)) (λ _. (u, h))
@@ -119,7 +118,7 @@ module _ {b : Board} {k : List VMRegion} {u : List MappedRegion} {l : List Regio
       by a (record { even = q .0; whole = round-multiple 12 size; some = round-pos 12 size pos; end = q .1 }) f (userPages 3 (b .mem) (b .root) a (roundUp 12 size) prot .walked) refl)
     where
       P : Did → Type 0
-      P d = exhausted (d .answer) ≡ false → (u′ : List MappedRegion) × Inv (withUser b (d .user)) k u′ (liveStep l (mmaps wish size prot flags) (d .answer)) (morePages ever (d .answer) (roundUp 12 size))
+      P d = exhausted (d .answer) ≡ false → (u′ : List MappedRegion) × Inv left (withUser b (d .user)) k u′ (liveStep l (mmaps wish size prot flags) (d .answer)) (morePages ever (d .answer) (roundUp 12 size))
 
       by : (a : ℕ) → Placed a (roundUp 12 size) → full (userOf b) a ≡ false → (w : Walked) → userPages 3 (b .mem) (b .root) a (roundUp 12 size) prot .walked ≡ w
           → P (mapped 3 (userOf b) (b .root) a (roundUp 12 size) prot flags w (userPages 3 (b .mem) (b .root) a (roundUp 12 size) prot .done) (userPages 3 (b .mem) (b .root) a (roundUp 12 size) prot .mem))
@@ -128,8 +127,7 @@ module _ {b : Board} {k : List VMRegion} {u : List MappedRegion} {l : List Regio
 
   -- a region that is released
   gave : (a n : ℕ) → holds a n u ≡ true
-      → Inv (withUser b (user (freePages 3 (b .mem) (b .root) a (n / 4096)) (store noUserSlot (remove a u) (b .user)) (b .next))) k (remove a u) (dropUser a l) ever
-  unfolding concat
+      → Inv left (withUser b (user (freePages 3 (b .mem) (b .root) a (n / 4096)) (store noUserSlot (remove a u) (b .user)) (b .next))) k (remove a u) (dropUser a l) ever
   gave a n e =
       let p = drop-user a n l (h .userList .held a n e) (λ m q. holds-one a m n u (h .userList .live a m q) e) in
       let g = inv-perm p h in
@@ -147,7 +145,7 @@ module _ {b : Board} {k : List VMRegion} {u : List MappedRegion} {l : List Regio
 
   -- munmap
   pub munmap-step : (a size : ℕ) → let d = munmap 3 (userOf b) (b .root) a size in
-      (u′ : List MappedRegion) × Inv (withUser b (d .user)) k u′ (liveStep l (munmaps a size) (d .answer)) ever
+      (u′ : List MappedRegion) × Inv left (withUser b (d .user)) k u′ (liveStep l (munmaps a size) (d .answer)) ever
   munmap-step a size =
       munmap-cases 3 (userOf b) (b .root) a size P
       (λ e. absurd (true≢false (sym (user-sound h) ∙ e))) (λ e f. (u, h))
@@ -156,4 +154,4 @@ module _ {b : Board} {k : List VMRegion} {u : List MappedRegion} {l : List Regio
       (remove a u, rw user-listed (gave a (roundUp 12 size) e′)))
     where
       P : Did → Type 0
-      P d = (u′ : List MappedRegion) × Inv (withUser b (d .user)) k u′ (liveStep l (munmaps a size) (d .answer)) ever
+      P d = (u′ : List MappedRegion) × Inv left (withUser b (d .user)) k u′ (liveStep l (munmaps a size) (d .answer)) ever

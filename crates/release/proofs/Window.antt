@@ -1,8 +1,7 @@
 -- The kernel window: while no vmalloc cuts a larger region at 256 the list has no gaps, and once nothing is used it is one free region.
-use Prim.Native.Nat.{ℕ, _+_, _-_, _<_, _≤_}
+use Prim.Native.Nat.{ℕ}
 use mathlib.Core.Path.{_≡_, refl, sym, _∙_, ap, subst}
-use mathlib.Core.Bool.{Bool, true, false, not, true≢false, false≢true}
-use mathlib.Core.Logic.{⊎-elim}
+use mathlib.Core.Bool.{Bool, true, false, not}
 use mathlib.Core.List.{List, [], _∷_, foldl, List·Memᴰ·not-nil}
 use native.Mathlib.Omega.{arith}
 use lib.Dec.{leb, ltb, eqb}
@@ -14,21 +13,21 @@ use Rattle.allocator.specs.Round.{roundUp}
 use Rattle.answer.specs.Numbers.{regionNotFound}
 use Rattle.paging.specs.declared.Walked.{Walked}
 use Rattle.paging.specs.declared.Walked.the-variants.{At, Stop}
-use Rattle.slots.specs.Slots.{live, every}
+use Rattle.slots.specs.Slots.{every}
 use Rattle.vmalloc.specs.declared.VMRegion.{VMRegion}
 use Rattle.vmalloc.specs.Regions.{windowStart, windowEnd, window, firstFit, cutFirst, usedSize, freeFirst, merge}
 use Rattle.vmalloc.specs.Calls.{Did, kernel, kernelPages, mapped, vmalloc}
 use Rattle.vmalloc.proofs.Merge.{freedAll}
 use Rattle.vmalloc.proofs.Rows.{freed-first}
-use Rattle.vmalloc.proofs.Used.{AllFree, all-free}
-use Rattle.vmalloc.proofs.Tiles.{apart-merged, Tiled, tiled-freed, tiled-merge, tiled-cut, larger, cut-exact, one-region}
+use Rattle.vmalloc.proofs.Used.{all-free}
+use Rattle.vmalloc.proofs.Tiles.{apart-merged, Tiled, tiled-freed, tiled-merge, tiled-cut, cut-exact, one-region}
 use Rattle.vmalloc.proofs.Calls.{vmalloc-cases, walked-cases}
 use Rattle.mmap.specs.declared.MappedRegion.{MappedRegion}
 use Rattle.board.specs.Board.{Board}
-use Rattle.release.specs.Demand3.{Call, vmallocs, vfrees, mmaps, munmaps, play, after, Event, events, exhausted, neverExhausted, Region, kernels, users, takePart, freePart, joinParts, exceeds, bookStep, bookFrom, cuts, uncutFrom}
+use Rattle.release.specs.Demand3.{Call, vmallocs, vfrees, mmaps, munmaps, play, events, exhausted, neverExhausted, Region, kernels, users, takePart, freePart, joinParts, exceeds, bookStep, bookFrom, cuts, uncutFrom}
 use Rattle.release.proofs.Book.{take-cut, exceeds-larger, free-part, join-parts}
-use Rattle.release.proofs.Regions.{KernelList, not-both, same-at}
-use Rattle.release.proofs.Invariant.{Inv}
+use Rattle.release.proofs.Regions.{KernelList, not-both}
+use Rattle.release.proofs.Invariant.{Leftover, Inv}
 use Rattle.release.proofs.Kernel.{kernel-listed}
 use Rattle.release.proofs.Run.{step}
 use Rattle.release.proofs.Ends.{kernelAfter}
@@ -38,7 +37,7 @@ abbrev pub Whole : List VMRegion → Type 0
 Whole k = Tiled windowStart windowEnd k
 
 -- a vmalloc that is met answers the first region large enough
-fit-of : {b : Board} {k : List VMRegion} {u : List MappedRegion} {l : List Region} {ever : List ℕ} → Inv b k u l ever → (size a : ℕ)
+fit-of : {b : Board} {k : List VMRegion} {u : List MappedRegion} {l : List Region} {ever : List ℕ} {left : Leftover} → Inv left b k u l ever → (size a : ℕ)
     → vmalloc 3 (kernel (b .mem) (b .kernel)) (b .root) size .answer ≡ At a → firstFit (roundUp 12 size) k ≡ At a
 fit-of {b} {k} h size a =
     vmalloc-cases 3 (kernel (b .mem) (b .kernel)) (b .root) size (λ (d : Did). d .answer ≡ At a → firstFit (roundUp 12 size) k ≡ At a)
@@ -51,7 +50,7 @@ fit-of {b} {k} h size a =
     by c f (Stop n) e = absurd (not-both e refl)
 
 -- one call
-module _ {b : Board} {k : List VMRegion} {u : List MappedRegion} {l : List Region} {ever : List ℕ} (h : Inv b k u l ever) (t : Whole k) where
+module _ {b : Board} {k : List VMRegion} {u : List MappedRegion} {l : List Region} {ever : List ℕ} {left : Leftover} (h : Inv left b k u l ever) (t : Whole k) where
   whole-take : (n a : ℕ) → firstFit n k ≡ At a → both (leb 256 (length k)) (exceeds a n k) ≡ false → Whole (takePart a n (ltb (length k) 256) k)
   whole-take n a f q = rw (take-cut n a windowStart windowEnd (ltb (length k) 256) k (h .kernelList .rows) f) (by (ltb (length k) 256) refl)
     where
@@ -81,7 +80,7 @@ not-flip true e = sym e
 not-flip false e = refl
 
 -- a list of calls
-pub whole-run : (cs : List Call) {b : Board} {k : List VMRegion} {u : List MappedRegion} {l : List Region} {ever : List ℕ} → Inv b k u l ever → neverExhausted (events b cs) ≡ true
+pub whole-run : (cs : List Call) {b : Board} {k : List VMRegion} {u : List MappedRegion} {l : List Region} {ever : List ℕ} {left : Leftover} → Inv left b k u l ever → neverExhausted (events b cs) ≡ true
     → uncutFrom k (events b cs) ≡ true → Whole k → Whole (bookFrom k (events b cs))
 unfolding events bookFrom uncutFrom every
 whole-run [] h e q t = t

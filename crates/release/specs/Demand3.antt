@@ -1,18 +1,17 @@
 -- Demand 3, the release paper, as one statement. It speaks of the definitions of the four calls (crates vmalloc and mmap) and of the board's start (crate board); what
 -- 'live', 'page tables', 'the window book' and 'cut' mean is defined here from calls and answers, as document 01 does under 'The release paper'.
-use Prim.Native.Nat.{ℕ, zero, suc, _+_, _-_, _*_, _/_, _^_, _≤_, _<_}
+use Prim.Native.Nat.{ℕ, zero, suc, _+_, _-_, _/_, _^_, _≤_, _<_}
 use mathlib.Core.Path.{_≡_}
 use mathlib.Core.Bool.{Bool, true, false, not}
 use mathlib.Core.Logic.{_⊎_}
-use mathlib.Core.List.{List, [], _∷_, _++_, map}
+use mathlib.Core.List.{List, [], _∷_, _++_}
 use lib.IntN.{ℤ}
 use lib.Dec.{eqb, leb, ltb}
 use lib.ListN.{length, take, replicate}
 use Rattle.bits.specs.Bit.{pick, both}
 use Rattle.allocator.specs.Round.{rounded, roundUp}
 use Rattle.answer.specs.Numbers.{noFreeFrame, mapFailed, notMapped}
-use Rattle.answer.specs.declared.CountAnswer.{CountAnswer}
-use Rattle.answer.specs.declared.CountAnswer.the-variants.{Count, NoCount}
+use Rattle.answer.specs.declared.CountAnswer.the-variants.{Count}
 use Rattle.entry.specs.Entry.{indices}
 use Rattle.bitmap.specs.Bitmap.{marked as markOf}
 use Rattle.paging.specs.declared.Walked.{Walked}
@@ -20,7 +19,7 @@ use Rattle.paging.specs.declared.Walked.the-variants.{At, Stop}
 use Rattle.paging.specs.Walk.{reach}
 use Rattle.paging.specs.Map.{startOf, totalOf}
 use Rattle.paging.specs.Calls.{translate}
-use Rattle.slots.specs.Slots.{Slots, live as liveSlots, every}
+use Rattle.slots.specs.Slots.{live as liveSlots, every}
 use Rattle.vmalloc.specs.declared.VMRegion.{VMRegion}
 use Rattle.vmalloc.specs.Regions.{window, noSlot, region, joins}
 use Rattle.vmalloc.specs.Calls.{kernel, vmalloc, vfree}

@@ -1,14 +1,12 @@
 -- Lists of 256 slots whose slots past the count are zero: storing a new live part leaves such a list.
-use Prim.Native.Nat.{ℕ, zero, suc, _+_, _-_, _≤_, _<_, max}
-use mathlib.Core.Path.{_≡_, refl, sym, _∙_, ap, subst}
-use mathlib.Core.Bool.{Bool, true, false}
-use mathlib.Core.Logic.{_⊎_, ⊎-elim}
-use mathlib.Core.List.{List, [], _∷_, _++_}
+use Prim.Native.Nat.{ℕ, zero, suc, _+_, _-_, _≤_, max}
+use mathlib.Core.Path.{_≡_, refl, _∙_, ap}
+use mathlib.Core.Bool.{Bool, true}
+use mathlib.Core.List.{List, _++_}
 use native.Mathlib.Omega.{arith}
 use native.Mathlib.Decide.{decLe}
-use lib.ListN.{length, take, drop, replicate, length-replicate, replicate-append-replicate}
+use lib.ListN.{length, drop, replicate, replicate-append-replicate}
 use lib.Seq.{take-at, drop-at, drop-append-add}
-use Rattle.bits.specs.Bit.{both}
 use Rattle.slots.specs.Slots.{Slots, live, store, every}
 
 module _ {A : Type 0} (z : A) where

@@ -1,13 +1,11 @@
 -- What vmalloc and vfree come to, by the outcomes that document 01 names.
 use Prim.Native.Nat.{ℕ, _/_, _<_, _≤_}
-use mathlib.Core.Path.{_≡_, refl, sym, _∙_, ap, subst}
-use mathlib.Core.Bool.{Bool, true, false}
+use mathlib.Core.Path.{_≡_, refl}
+use mathlib.Core.Bool.{true, false}
 use mathlib.Core.Logic.{_⊎_, inl, inr}
-use mathlib.Core.List.{List}
 use native.Mathlib.Omega.{arith}
 use lib.Dec.{eqb, leb}
 use borrow.Author.Tests.{eqb-true, eqb-false, ne-eqb, leb-true}
-use Rattle.bits.specs.Bit.{pick}
 use Rattle.frame.proofs.Laws.{pick-cases}
 use Rattle.allocator.specs.Round.{rounded, roundUp, lastPage}
 use Rattle.answer.specs.Numbers.{sizeZero, brokenRecord, tooLarge, regionNotFound}

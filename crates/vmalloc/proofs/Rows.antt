@@ -1,23 +1,21 @@
 -- Regions in the order of their addresses: what cutting, freeing and merging keep of it.
-use Prim.Native.Nat.{ℕ, zero, suc, _+_, _-_, _%_, _<_, _≤_}
-use mathlib.Core.Path.{_≡_, refl, sym, _∙_, ap, ap₂, subst}
-use mathlib.Core.Bool.{Bool, true, false, not, false≢true}
-use mathlib.Core.List.{List, [], _∷_, map}
+use Prim.Native.Nat.{ℕ, suc, _+_, _-_, _%_, _<_, _≤_}
+use mathlib.Core.Path.{_≡_, refl, sym, ap, ap₂}
+use mathlib.Core.Bool.{Bool, true, false, not}
+use mathlib.Core.List.{List, [], _∷_}
 use native.Mathlib.Omega.{arith}
 use native.Mathlib.Nat.{le-refl, le-trans}
 use lib.Dec.{eqb, leb, ltb}
 use lib.ListN.{length}
-use borrow.Author.Tests.{eq-eqb, ne-eqb, lt-ltb, le-leb, leb-true, ltb-true, eqb-true, eqb-false}
+use borrow.Author.Tests.{eq-eqb, ne-eqb, lt-ltb, le-leb, leb-true, ltb-true, eqb-true}
 use Rattle.bits.specs.Bit.{pick, both, one}
 use Rattle.allocator.specs.Round.{lastPage}
 use Rattle.frame.proofs.Laws.{both-true}
-use Rattle.answer.specs.Numbers.{noRegion}
-use Rattle.paging.specs.declared.Walked.{Walked}
-use Rattle.paging.specs.declared.Walked.the-variants.{At, Stop}
+use Rattle.paging.specs.declared.Walked.the-variants.{At}
 use Rattle.slots.specs.Slots.{every}
 use Rattle.vmalloc.specs.declared.VMRegion.{VMRegion}
 use Rattle.vmalloc.specs.Regions.{region, wellPlacedRegion, fits, firstFit, behind, cutFirst, cut, freeFirst, joins, mergeFrom, merge}
-use Rattle.vmalloc.proofs.Merge.{join, joined, freed, freedAll}
+use Rattle.vmalloc.proofs.Merge.{join, joined, freedAll}
 
 -- a region from lo on, aligned and not empty
 pub record Row (lo : ℕ) (r : VMRegion) : Type 0 where

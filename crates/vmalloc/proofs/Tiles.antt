@@ -1,20 +1,17 @@
 -- Regions without neighbours that join, and regions without gaps: a list of free ones of both kinds is a single region.
 use Prim.Native.Nat.{ℕ, _+_, _-_, _<_, _≤_}
-use mathlib.Core.Path.{_≡_, refl, sym, _∙_, ap, ap₂, subst}
-use mathlib.Core.Bool.{Bool, true, false, not, true≢false, false≢true}
+use mathlib.Core.Path.{_≡_, refl, sym, ap, subst}
+use mathlib.Core.Bool.{Bool, true, false, not}
 use mathlib.Core.List.{List, [], _∷_}
 use native.Mathlib.Omega.{arith}
-use native.Mathlib.Nat.{add-zero, add-assoc}
+use native.Mathlib.Nat.{add-assoc}
 use lib.Dec.{eqb, leb, ltb}
-use borrow.Author.Tests.{eq-eqb, ne-eqb, eqb-true, ltb-true, ltb-false, leb-true}
+use borrow.Author.Tests.{eq-eqb, ltb-false, leb-true}
 use Rattle.bits.specs.Bit.{pick, both}
 use Rattle.frame.proofs.Laws.{both-true}
-use Rattle.paging.specs.declared.Walked.{Walked}
-use Rattle.paging.specs.declared.Walked.the-variants.{At, Stop}
 use Rattle.vmalloc.specs.declared.VMRegion.{VMRegion}
-use Rattle.vmalloc.specs.Regions.{region, fits, firstFit, behind, cutFirst, joins, mergeFrom, merge}
-use Rattle.vmalloc.proofs.Merge.{join, joined, freed, freedAll}
-use Rattle.vmalloc.proofs.Rows.{Rows}
+use Rattle.vmalloc.specs.Regions.{region, fits, behind, cutFirst, joins, mergeFrom, merge}
+use Rattle.vmalloc.proofs.Merge.{join, joined, freedAll}
 use Rattle.vmalloc.proofs.Used.{AllFree}
 
 -- no two neighbours join, a first region r before l among them

@@ -1,19 +1,18 @@
 -- Which regions are used: what cutting, freeing and merging change of it. `usedSize a l ≡ At n` says that l has a used region of n bytes at a.
 use Prim.Native.Nat.{ℕ, _+_, _-_, _%_, _<_, _≤_}
-use mathlib.Core.Path.{_≡_, refl, sym, _∙_, ap, ap₂, subst}
-use mathlib.Core.Bool.{Bool, true, false, not, true≢false, false≢true}
+use mathlib.Core.Path.{_≡_, refl, sym, _∙_, ap}
+use mathlib.Core.Bool.{Bool, true, false, not}
 use mathlib.Core.List.{List, [], _∷_}
 use native.Mathlib.Omega.{arith}
 use lib.Dec.{eqb, leb, ltb}
-use borrow.Author.Tests.{eq-eqb, ne-eqb, eqb-true, eqb-false, not-true}
+use borrow.Author.Tests.{eq-eqb, ne-eqb, eqb-true}
 use Rattle.bits.specs.Bit.{pick, both}
 use Rattle.answer.specs.Numbers.{regionNotFound}
 use Rattle.frame.proofs.Laws.{both-true}
-use Rattle.paging.specs.declared.Walked.{Walked}
 use Rattle.paging.specs.declared.Walked.the-variants.{At, Stop}
 use Rattle.vmalloc.specs.declared.VMRegion.{VMRegion}
 use Rattle.vmalloc.specs.Regions.{region, fits, firstFit, behind, cutFirst, usedSize, joins, mergeFrom, merge}
-use Rattle.vmalloc.proofs.Merge.{join, joined, freed, freedAll}
+use Rattle.vmalloc.proofs.Merge.{join, joined, freedAll}
 use Rattle.vmalloc.proofs.Rows.{Rows, rows-le, fit-from}
 
 both-false : (b : Bool) → both b false ≡ false

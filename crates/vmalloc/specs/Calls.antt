@@ -1,7 +1,6 @@
 -- vmalloc and vfree, in document 01's order of checks.
 use Prim.Native.Nat.{ℕ, _/_}
 use mathlib.Core.Bool.{Bool, true, false}
-use mathlib.Core.List.{List}
 use lib.Dec.{eqb, leb, ltb}
 use Rattle.bits.specs.Bit.{pick, both}
 use Rattle.allocator.specs.Round.{rounded}

@@ -1,9 +1,9 @@
 -- `create_table`: the lowest free frame, zeroed and entered, or 11.
 use mathlib.Core.Path.{_≡_}
 use mathlib.Core.Bool.{true}
-use native.Mathlib.Omega.{arith}
 use Rattle.frame.specs.Frames.{inside}
-use Rattle.frame.proofs.Laws.{inside-from, inside-under}
+use Rattle.paging.proofs.Walk.{frame-lent}
+use Rattle.paging.proofs.Map.{roomy-lent}
 use Rattle.mapper.proofs.Laws.{place-asks, taken-lent, create-made, create-none}
 use borrow.Author.Needs.{needs}
 use Rattle.mapper.proofs.inner.create_table.Statement.{statement}
@@ -32,9 +32,7 @@ entry-place-requires c κs =
 zero-frame-requires : tie.Need-zero-frame-requires
 zero-frame-requires c κs =
     let a = c .before .before .before in
-    let s = a .before .before .before .before .before .before in
-    let h = lent a in
-    omega (arith, c .entry-place .ensures, s .pre .0 .enough, inside-from (s .args .frames .start) (s .args .frames .total) (a .answer2 .given .0 .0 .0) h, inside-under (s .args .frames .start) (s .args .frames .total) (a .answer2 .given .0 .0 .0) h)
+    rw (c .entry-place .ensures) (frame-lent _ (roomy-lent (a .before .before .before .before .before .before .pre .0)) (lent a))
 
 start-address-requires : tie.Need-start-address-requires
 start-address-requires c κs = search needs

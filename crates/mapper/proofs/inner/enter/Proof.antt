@@ -23,18 +23,19 @@ returns : tie.Need-returns
 returns c = sym (enter-out _ _ _ _ (failed (c .before .is-inside .ensures) (c .if1 .taken)))
 
 -- the table is lent
-yes : (c : tie.Else1) → let a = c .before .before .before .args in inside (a .frames .start) (a .frames .total) (a .t) ≡ true
-yes c = passed (c .before .is-inside .ensures) (c .if1 .left)
+table-lent : (c : tie.Else1) → let a = c .before .before .before .args in inside (a .frames .start) (a .frames .total) (a .t) ≡ true
+table-lent c = passed (c .before .is-inside .ensures) (c .if1 .left)
 
 entry-place-requires : tie.Need-entry-place-requires
 entry-place-requires c κs =
     let s = c .before .before .before in
-    place-asks (s .args .frames .start) (s .args .frames .total) (s .args .t) (s .args .i) (s .pre .0 .held .few) (yes c) (s .pre .1)
+    place-asks (s .args .frames .start) (s .args .frames .total) (s .args .t) (s .args .i) (s .pre .0 .held .few) (table-lent c) (s .pre .1)
 
+-- so its entry is a lent word
 under : (c : tie.After-entry-place) → c .entry-place .result < length (c .before .before .before .before .args .words .now)
 under c =
     let s = c .before .before .before .before in
-    rw (c .entry-place .ensures) (place-lent _ _ (roomy-lent (s .pre .0)) (yes (c .before)) (s .pre .1))
+    rw (c .entry-place .ensures) (place-lent _ _ (roomy-lent (s .pre .0)) (table-lent (c .before)) (s .pre .1))
 
 -- a flag of the word that was read, by the entry's place
 word : (c : tie.After-entry-place) {b : Bool}
@@ -58,7 +59,7 @@ returns-2 : tie.Need-returns-2
 returns-2 c =
     let p = c .before .before .before .before .before in
     rw (c .before .addr .ensures, frame-of-addr, p .entry-place .ensures)
-    (sym (enter-there _ _ _ _ (yes (p .before)) (word p (sym (c .before .before .before .is-present .ensures) ∙ c .before .before .if2 .taken))))
+    (sym (enter-there _ _ _ _ (table-lent (p .before)) (word p (sym (c .before .before .before .is-present .ensures) ∙ c .before .before .if2 .taken))))
 
 create-table-requires : tie.Need-create-table-requires
 create-table-requires c κs =
@@ -73,7 +74,7 @@ returns-3 c =
     let r = c .before .before in
     let p = r .before .before .before .before .before .before in
     r .create-table .ensures ∙ ap (create _ _) (p .entry-place .ensures)
-    ∙ sym (enter-absent _ _ _ _ (yes (p .before)) (word p (sym (r .before .before .before .before .is-present .ensures) ∙ r .before .before .before .if2 .left)))
+    ∙ sym (enter-absent _ _ _ _ (table-lent (p .before)) (word p (sym (r .before .before .before .before .is-present .ensures) ∙ r .before .before .before .if2 .left)))
 
 pub enter-spec : {M : Type 1} → statement M
 enter-spec =

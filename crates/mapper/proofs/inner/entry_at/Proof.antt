@@ -19,14 +19,15 @@ returns : tie.Need-returns
 returns c = sym (entry-out _ _ _ _ _ (failed (c .before .is-inside .ensures) (c .if1 .taken)))
 
 -- the table is lent
-yes : (c : tie.Else1) → let a = c .before .before .before .args in inside (a .start) (a .total) (a .t) ≡ true
-yes c = passed (c .before .is-inside .ensures) (c .if1 .left)
+table-lent : (c : tie.Else1) → let a = c .before .before .before .args in inside (a .start) (a .total) (a .t) ≡ true
+table-lent c = passed (c .before .is-inside .ensures) (c .if1 .left)
 
 entry-place-requires : tie.Need-entry-place-requires
-entry-place-requires c κs = let s = c .before .before .before in place-asks (s .args .start) (s .args .total) (s .args .t) (s .args .i) (s .pre .0 .few) (yes c) (s .pre .1)
+entry-place-requires c κs = let s = c .before .before .before in place-asks (s .args .start) (s .args .total) (s .args .t) (s .args .i) (s .pre .0 .few) (table-lent c) (s .pre .1)
 
+-- so its entry is a lent word
 under : (c : tie.After-entry-place) → c .entry-place .result < length (c .before .before .before .before .args .words .now)
-under c = let s = c .before .before .before .before in rw (c .entry-place .ensures) (place-lent _ _ (s .pre .0) (yes (c .before)) (s .pre .1))
+under c = let s = c .before .before .before .before in rw (c .entry-place .ensures) (place-lent _ _ (s .pre .0) (table-lent (c .before)) (s .pre .1))
 
 mul-e : tie.Need-mul-e
 mul-e c = let h = under c in search needs
@@ -40,7 +41,7 @@ is-present-requires c κs = search needs
 -- the word that was read
 read : (c : tie.After-entry-place) → let a = c .before .before .before .before .args in
     entryAt (a .words .now) (a .start) (a .total) (a .t) (a .i) ≡ present (getD (a .words .now) (c .entry-place .result) 0)
-read c = let s = c .before .before .before .before in rw (c .entry-place .ensures) (entry-in _ _ _ _ _ (yes (c .before)) (s .pre .1))
+read c = let s = c .before .before .before .before in rw (c .entry-place .ensures) (entry-in _ _ _ _ _ (table-lent (c .before)) (s .pre .1))
 
 returns-2 : tie.Need-returns-2
 returns-2 c = sym (read (c .before .before .before) ∙ present-yes _ (sym (c .before .is-present .ensures) ∙ c .if2 .taken))

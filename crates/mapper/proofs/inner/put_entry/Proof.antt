@@ -22,16 +22,17 @@ returns : tie.Need-returns
 returns c = told-left (put-out _ _ _ _ _ _ (failed (c .before .is-inside .ensures) (c .if1 .taken)))
 
 -- the table is lent
-yes : (c : tie.Else1) → let a = c .before .before .before .args in inside (a .start) (a .total) (a .t) ≡ true
-yes c = passed (c .before .is-inside .ensures) (c .if1 .left)
+table-lent : (c : tie.Else1) → let a = c .before .before .before .args in inside (a .start) (a .total) (a .t) ≡ true
+table-lent c = passed (c .before .is-inside .ensures) (c .if1 .left)
 
 entry-place-requires : tie.Need-entry-place-requires
 entry-place-requires c κs =
     let s = c .before .before .before in
-    place-asks (s .args .start) (s .args .total) (s .args .t) (s .args .i) (s .pre .0 .few) (yes c) (s .pre .1)
+    place-asks (s .args .start) (s .args .total) (s .args .t) (s .args .i) (s .pre .0 .few) (table-lent c) (s .pre .1)
 
+-- so its entry is a lent word
 under : (c : tie.After-entry-place) → c .entry-place .result < length (c .before .before .before .before .args .words .now)
-under c = let s = c .before .before .before .before in rw (c .entry-place .ensures) (place-lent _ _ (s .pre .0) (yes (c .before)) (s .pre .1))
+under c = let s = c .before .before .before .before in rw (c .entry-place .ensures) (place-lent _ _ (s .pre .0) (table-lent (c .before)) (s .pre .1))
 
 -- a flag of the word that was read, by the entry's place
 word : (c : tie.After-entry-place) {b : Bool}
@@ -49,7 +50,7 @@ is-present-requires : tie.Need-is-present-requires
 is-present-requires c κs = search needs
 
 returns-2 : tie.Need-returns-2
-returns-2 c = told-left (put-full _ _ _ _ _ _ (yes (c .before .before .before .before)) (word (c .before .before .before) (sym (c .before .is-present .ensures) ∙ c .if2 .taken)))
+returns-2 c = told-left (put-full _ _ _ _ _ _ (table-lent (c .before .before .before .before)) (word (c .before .before .before) (sym (c .before .is-present .ensures) ∙ c .if2 .taken)))
 
 mul-words : tie.Need-mul-words
 mul-words c = let h = under (c .before .before .before) in search needs
@@ -63,7 +64,7 @@ same-length c = search needs
 returns-3 : tie.Need-returns-3
 returns-3 c =
     let p = c .before .before .before in
-    rw (p .entry-place .ensures) (told-left (put-free _ _ _ _ _ _ (yes (p .before)) (word p (sym (c .before .is-present .ensures) ∙ c .if2 .left))))
+    rw (p .entry-place .ensures) (told-left (put-free _ _ _ _ _ _ (table-lent (p .before)) (word p (sym (c .before .is-present .ensures) ∙ c .if2 .left))))
 
 pub put-entry-spec : {M : Type 1} → statement M
 put-entry-spec =

@@ -18,6 +18,7 @@ page-indices-requires c κs = search needs
 find-table-requires : tie.Need-find-table-requires
 find-table-requires c κs = search needs
 
+-- where the way goes, by the address
 found : (c : tie.After-find-table) → let a = c .before .before .before .before .args in
     c .find-table .result ≡ reach (a .words .now) (a .start) (a .total) (a .root .0) (take 3 (indicesOf 4 (a .virt .0)))
 found c = c .find-table .ensures ∙ ap (reach _ _ _ _) (ap (take 3) (c .before .before .page-indices .ensures .0))

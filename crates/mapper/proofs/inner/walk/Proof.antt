@@ -1,7 +1,5 @@
 -- `walk`: the leaf's address with the low 12 address bits, or 21 at a large page.
 use mathlib.Core.Path.{_≡_, sym, _∙_, ap}
-use native.Mathlib.Omega.{arith}
-use lib.Bits.{and-mask}
 use Rattle.entry.specs.Entry.{indices as indicesOf}
 use Rattle.paging.specs.declared.Leaf.{Leaf}
 use Rattle.paging.specs.Walk.{leaf, address}
@@ -24,8 +22,11 @@ enum-known-e c = search needs
 addr-requires : tie.Need-addr-requires
 addr-requires c κs = search needs
 
-add-t15 : tie.Need-add-t15
-add-t15 c = omega (arith, c .before .addr .ensures, and-mask (c .before .before .before .before .before .before .before .args .virt .0) 12)
+page-offset-requires : tie.Need-page-offset-requires
+page-offset-requires c κs = search needs
+
+add-t14 : tie.Need-add-t14
+add-t14 c = search needs
 
 enum-known-e-2 : tie.Need-enum-known-e-2
 enum-known-e-2 c = search needs
@@ -33,17 +34,20 @@ enum-known-e-2 c = search needs
 addr-requires-2 : tie.Need-addr-requires-2
 addr-requires-2 c κs = search needs
 
-add-t20 : tie.Need-add-t20
-add-t20 c = omega (arith, c .before .addr2 .ensures, and-mask (c .before .before .before .before .before .before .before .args .virt .0) 21)
+large-offset-requires : tie.Need-large-offset-requires
+large-offset-requires c κs = search needs
+
+add-t19 : tie.Need-add-t19
+add-t19 c = search needs
 
 enum-known-n : tie.Need-enum-known-n
 enum-known-n c = search needs
 
 returns : tie.Need-returns
-returns c = rw (c .before .addr .ensures, and-mask _ 12) (from (c .before .before .before .before .before) (c .before .before .before .e .given .1))
+returns c = rw (c .before .before .addr .ensures, c .before .page-offset .ensures) (from (c .before .before .before .before .before .before) (c .before .before .before .before .e .given .1))
 
 returns-2 : tie.Need-returns-2
-returns-2 c = rw (c .before .addr2 .ensures, and-mask _ 21) (from (c .before .before .before .before .before) (c .before .before .before .e2 .given .1))
+returns-2 c = rw (c .before .before .addr2 .ensures, c .before .large-offset .ensures) (from (c .before .before .before .before .before .before) (c .before .before .before .before .e2 .given .1))
 
 returns-3 : tie.Need-returns-3
 returns-3 c = from (c .before .before .before) (c .before .n .given .1)
@@ -55,10 +59,12 @@ walk-spec =
     find-leaf-requires
     enum-known-e
     addr-requires
-    add-t15
+    page-offset-requires
+    add-t14
     enum-known-e-2
     addr-requires-2
-    add-t20
+    large-offset-requires
+    add-t19
     enum-known-n
     returns
     returns-2
