@@ -1,3 +1,4 @@
+pub mod Choice
 pub mod Masks
 pub mod Single
 pub mod Counts

@@ -8,7 +8,8 @@ use native.Mathlib.Decide.{decLe}
 use lib.Dec.{eqb, leb, ltb}
 use lib.ListN.{replicate}
 use borrow.Author.Tests.{le-leb, lt-leb, lt-ltb, le-ltb, leb-true, ltb-true, ltb-false, eqb-true, eq-eqb, not-true, not-false}
-use Rattle.bits.specs.Bit.{pick, both}
+use Rattle.bits.specs.Bit.{both}
+use Rattle.bits.proofs.Choice.{pick-cases, both-true}
 use Rattle.answer.specs.Numbers.{brokenRecord, noFreeFrame}
 use Rattle.answer.specs.declared.Answer.{Answer}
 use Rattle.answer.specs.declared.Answer.the-variants.{Met, Refused}
@@ -33,15 +34,6 @@ passed {r} e h = sym e ∙ not-false r h
 
 pub failed : {r b : Bool} → r ≡ b → not r ≡ true → b ≡ false
 failed {r} e h = sym e ∙ not-true r h
-
--- both ways of a choice, with what its test said
-pub pick-cases : {A : Type 0} (P : A → Type 0) (t : Bool) (a b : A) → (t ≡ true → P a) → (t ≡ false → P b) → P (pick t a b)
-pick-cases P true a b x y = x refl
-pick-cases P false a b x y = y refl
-
-pub both-true : (a b : Bool) → both a b ≡ true → (a ≡ true) × (b ≡ true)
-both-true true b h = (refl, h)
-both-true false b h = absurd (false≢true h)
 
 -- whether a frame is one of those lent, by the two comparisons
 module _ (start total n : ℕ) where

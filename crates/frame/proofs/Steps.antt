@@ -8,6 +8,7 @@ use native.Mathlib.Nat.{add-sub-cancel}
 use lib.Dec.{eqb}
 use lib.ListN.{length, length-replicate}
 use Rattle.bits.specs.Bit.{pick, both}
+use Rattle.bits.proofs.Choice.{pick-comm, both-same}
 use Rattle.answer.specs.Numbers.{noFreeFrame}
 use Rattle.answer.specs.declared.Answer.{Answer}
 use Rattle.answer.specs.declared.Answer.the-variants.{Met}
@@ -275,17 +276,6 @@ mark-give fr n s free =
     ∙ with-give fr (n - fr .fa .start) s (inside-under _ _ _ h) (free-bit fr n free) n (inside-sum (fr .fa .start) (fr .fa .total) n h)
 
 -- Two frames are given back in either order: giving one back is a choice that the other frame does not decide.
-both-same : (t a b : Bool) → (t ≡ true → a ≡ b) → both t a ≡ both t b
-both-same true a b h = h refl
-both-same false a b h = refl
-
-pick-comm : {A : Type 0} (a b : Bool) (f g : A → A) (x : A) → g (f x) ≡ f (g x)
-    → pick b (g (pick a (f x) x)) (pick a (f x) x) ≡ pick a (f (pick b (g x) x)) (pick b (g x) x)
-pick-comm true true f g x h = h
-pick-comm true false f g x h = refl
-pick-comm false true f g x h = refl
-pick-comm false false f g x h = refl
-
 -- whether a frame is lent and marked, and what giving it back leaves
 abbrev held : Frames → ℕ → Bool
 held fr n = both (inside (fr .fa .start) (fr .fa .total) n) (isMarked (fr .bits) (n - fr .fa .start))

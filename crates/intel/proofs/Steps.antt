@@ -8,10 +8,10 @@ use native.Mathlib.Omega.{arith}
 use lib.Dec.{ltb}
 use lib.ListN.{getD}
 use Rattle.bits.specs.Bit.{flag}
+use Rattle.bits.proofs.Choice.{pick-cases}
 use Rattle.answer.specs.Numbers.{notMapped, outside}
 use Rattle.entry.specs.Entry.{frameOf}
 use Rattle.frame.specs.Frames.{inside}
-use Rattle.frame.proofs.Laws.{pick-cases}
 use Rattle.paging.specs.declared.Walked.{Walked}
 use Rattle.paging.specs.declared.Walked.the-variants.{At, Stop}
 use Rattle.paging.specs.declared.Leaf.{Leaf}

@@ -9,7 +9,7 @@ use lib.Dec.{eqb, leb}
 use lib.ListN.{length}
 use borrow.Author.Tests.{eqb-true, eqb-false, ne-eqb, leb-true, leb-false}
 use Rattle.bits.specs.Bit.{pick, both}
-use Rattle.frame.proofs.Laws.{pick-cases}
+use Rattle.bits.proofs.Choice.{pick-cases}
 use Rattle.allocator.specs.Round.{rounded, roundUp, lastPage}
 use Rattle.answer.specs.Numbers.{sizeZero, unaligned, tooLarge, brokenRecord, noFreeFrame, mapFailed, regionNotFound, listFull}
 use Rattle.answer.specs.declared.CountAnswer.the-variants.{Count, NoCount}

@@ -8,7 +8,7 @@ use lib.Dec.{ltb}
 use lib.ListN.{length}
 use borrow.Author.Tests.{ltb-true}
 use Rattle.bits.specs.Bit.{pick}
-use Rattle.frame.proofs.Laws.{both-true}
+use Rattle.bits.proofs.Choice.{both-true}
 use Rattle.answer.specs.Numbers.{noRegion}
 use Rattle.paging.specs.declared.Walked.{Walked}
 use Rattle.paging.specs.declared.Walked.the-variants.{At, Stop}

@@ -5,12 +5,13 @@ use mathlib.Core.Bool.{Bool, true, false}
 use mathlib.Core.List.{List}
 use native.Mathlib.Omega.{arith}
 use lib.ListN.{length, getD, take}
+use Rattle.bits.proofs.Choice.{both-true}
 use Rattle.answer.specs.Numbers.{brokenRecord, hugeUnaligned}
 use Rattle.answer.specs.declared.FlagAnswer.the-variants.{Flag, NoFlag}
 use Rattle.address.specs.Address.{aligned}
 use Rattle.entry.specs.Entry.{entryOf, hugeEntryOf, indices}
 use Rattle.frame.specs.Frames.{sound}
-use Rattle.frame.proofs.Laws.{both-true, sound-held}
+use Rattle.frame.proofs.Laws.{sound-held}
 use Rattle.paging.specs.declared.Walked.the-variants.{Stop}
 use Rattle.paging.specs.declared.HugePageSize.{HugePageSize}
 use Rattle.paging.specs.declared.HugePageSize.the-variants.{Size2MB, Size1GB}

@@ -7,6 +7,7 @@ use native.Mathlib.Omega.{arith}
 use native.Mathlib.Numerals.{add-one}
 use lib.ListN.{length, getD, set, length-set}
 use Rattle.bits.specs.Bit.{pick, flag}
+use Rattle.bits.proofs.Choice.{pick-cases}
 use Rattle.answer.specs.Numbers.{noFreeFrame, alreadyMapped, notMapped, outside}
 use Rattle.address.specs.declared.Frame.{Frame}
 use Rattle.address.specs.declared.FrameAnswer.{FrameAnswer}
@@ -14,7 +15,7 @@ use Rattle.address.specs.declared.FrameAnswer.the-variants.{AtFrame, NoFrame}
 use Rattle.bitmap.specs.Bitmap.{marked}
 use Rattle.entry.specs.Entry.{frameOf, entryOf}
 use Rattle.frame.specs.Frames.{Frames, Did, inside, withMark, takeFrame}
-use Rattle.frame.proofs.Laws.{pick-cases, inside-yes, take-cases}
+use Rattle.frame.proofs.Laws.{inside-yes, take-cases}
 use Rattle.paging.specs.declared.Walked.{Walked}
 use Rattle.paging.specs.declared.Walked.the-variants.{At, Stop}
 use Rattle.paging.specs.Walk.{place, reach, Lent}

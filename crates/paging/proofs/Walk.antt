@@ -10,10 +10,11 @@ use lib.ListN.{length, getD, take, drop, length-take, drop-of-length-le}
 use lib.Seq.{drop-cons, getD-take}
 use borrow.Author.Tests.{le-leb, lt-leb, lt-ltb, le-ltb, leb-true}
 use Rattle.bits.specs.Bit.{pick, flag}
+use Rattle.bits.proofs.Choice.{both-true}
 use Rattle.answer.specs.Numbers.{notMapped, outside}
 use Rattle.entry.specs.Entry.{frameOf}
 use Rattle.frame.specs.Frames.{inside}
-use Rattle.frame.proofs.Laws.{both-true, inside-from, inside-under}
+use Rattle.frame.proofs.Laws.{inside-from, inside-under}
 use Rattle.paging.specs.declared.Walked.the-variants.{At, Stop}
 use Rattle.paging.specs.declared.Leaf.{Leaf}
 use Rattle.paging.specs.declared.Leaf.the-variants.{Page, Large, NoLeaf}

@@ -8,7 +8,7 @@ use native.Mathlib.Nat.{add-assoc}
 use lib.Dec.{eqb, leb, ltb}
 use borrow.Author.Tests.{eq-eqb, ne-eqb, eqb-true}
 use Rattle.bits.specs.Bit.{pick, both}
-use Rattle.frame.proofs.Laws.{both-true}
+use Rattle.bits.proofs.Choice.{both-true}
 use Rattle.paging.specs.declared.Walked.the-variants.{At}
 use Rattle.vmalloc.specs.declared.VMRegion.{VMRegion}
 use Rattle.vmalloc.specs.Regions.{region, fits, firstFit, behind, cutFirst, freeFirst, joins, mergeFrom, merge}

@@ -7,7 +7,7 @@ use mathlib.Core.List.{List, [], _∷_, List·Memᴰ, List·Memᴰ·head, List·
 use lib.Dec.{eqb}
 use borrow.Author.Tests.{eq-eqb, eqb-true}
 use Rattle.bits.specs.Bit.{pick}
-use Rattle.frame.proofs.Laws.{both-true}
+use Rattle.bits.proofs.Choice.{both-true}
 use Rattle.release.specs.Demand3.{sameRun, among, different}
 use Rattle.release.proofs.Lists.{Once}
 

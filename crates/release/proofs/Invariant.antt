@@ -15,7 +15,7 @@ use Rattle.paging.specs.Pages.{Ran, mapFresh, mapPages, unmapLeaf, freePage, fr
 use Rattle.frame.specs.Frames.{Frames}
 use Rattle.tree.proofs.Ordered.{PlainIn, Ordered}
 use Rattle.tree.proofs.Accounts.{Accounted}
-use Rattle.tree.proofs.Books.{Takes, none, more, takes-plain, takes-accounted, takes-live, takes-tabled, Live, live-perm, Tabled}
+use Rattle.tree.proofs.Books.{Takes, none, more, takes-plain, takes-accounted, takes-live, takes-tabled, Live, live-perm, Tabled, perm-member}
 use Rattle.tree.proofs.Taking.{take-met, take-number}
 use Rattle.tree.proofs.Runs.{run, map-pages-on, map-pages-stop, map-pages-met, free-all-plain, free-all-accounted, free-all-live, free-all-tabled, free-pages}
 use Rattle.slots.proofs.Filled.{filled}
@@ -25,7 +25,7 @@ use Rattle.mmap.specs.declared.MappedRegion.{MappedRegion}
 use Rattle.mmap.specs.Regions.{noSlot as noUserSlot}
 use Rattle.board.specs.Board.{Board}
 use Rattle.release.specs.Demand3.{exhausted, Region, pagesFrom, pagesOf, concat}
-use Rattle.release.proofs.Lists.{Once, perm-member, perm-once, perm-concat}
+use Rattle.release.proofs.Lists.{Once, perm-once, perm-concat}
 use Rattle.release.proofs.Regions.{KernelList, UserList}
 
 -- what calls turned away with 11 or 13 leave behind: pages that stay mapped and belong to no live region, and frames that stay marked and are reached by nothing

@@ -2,21 +2,13 @@
 use mathlib.Core.Path.{_≡_, refl, sym, _∙_, ap, subst}
 use mathlib.Core.Logic.{⊎-elim}
 use mathlib.Core.List.{List, [], _∷_, _++_, map, append-assoc, List·Memᴰ, List·Memᴰ·head, List·Memᴰ·tail, List·Memᴰ·cases-cons, List·Memᴰ·not-nil, List·Memᴰ·append-cases, Memᴰ·cast, Memᴰ·append-left, Memᴰ·append-right, List·Permᴰ, List·Permᴰ·nil, List·Permᴰ·cons, List·Permᴰ·swap, List·Permᴰ·trans, Permᴰ·refl, Permᴰ·symm, Permᴰ·append-left, Permᴰ·middle}
+use Rattle.tree.proofs.Books.{perm-member}
 use Rattle.release.specs.Demand3.{concat, Region, Reordered, none, keep, swap, then}
 
 -- a list without repetition
 abbrev pub Once : {A : Type 0} → List A → Type 0
 Once {A} [] = Unit {0}
 Once {A} (a ∷ l) = (List·Memᴰ a l → ⊥) × Once l
-
-pub perm-member : {A : Type 0} {a : A} {l k : List A} → List·Permᴰ l k → List·Memᴰ a l → List·Memᴰ a k
-perm-member List·Permᴰ·nil m = m
-perm-member (List·Permᴰ·cons e d) m = ⊎-elim (λ q. List·Memᴰ·head (q ∙ e)) (λ q. List·Memᴰ·tail (perm-member d q)) (List·Memᴰ·cases-cons m)
-perm-member (List·Permᴰ·swap e e′) m =
-    ⊎-elim (λ q. List·Memᴰ·tail (List·Memᴰ·head (q ∙ e)))
-    (λ q. ⊎-elim (λ r. List·Memᴰ·head (r ∙ e′)) (λ r. List·Memᴰ·tail (List·Memᴰ·tail r)) (List·Memᴰ·cases-cons q))
-    (List·Memᴰ·cases-cons m)
-perm-member (List·Permᴰ·trans d d′) m = perm-member d′ (perm-member d m)
 
 pub perm-once : {A : Type 0} {l k : List A} → List·Permᴰ l k → Once l → Once k
 perm-once List·Permᴰ·nil o = o

@@ -6,9 +6,10 @@ use mathlib.Core.List.{List, [], _∷_, List·Memᴰ·not-nil}
 use native.Mathlib.Omega.{arith}
 use lib.Dec.{eqb, leb}
 use lib.ListN.{length}
-use borrow.Author.Tests.{leb-true, eqb-false}
+use borrow.Author.Tests.{leb-true, eqb-false, not-true}
 use Rattle.bits.specs.Bit.{pick, both}
-use Rattle.frame.proofs.Laws.{both-true, init-cases}
+use Rattle.bits.proofs.Choice.{both-true}
+use Rattle.frame.proofs.Laws.{init-cases}
 use Rattle.allocator.specs.Round.{roundUp}
 use Rattle.answer.specs.Numbers.{brokenRecord, noFreeFrame}
 use Rattle.answer.specs.declared.Answer.{Answer}
@@ -59,12 +60,8 @@ unfolding after events bookFrom liveFrom every
 run-inv [] {u = u} h e = (u, h)
 run-inv (c ∷ cs) {b} h e =
     let r = both-true (not (exhausted (play b c .answer))) _ e in
-    let s = step h c (flip (exhausted (play b c .answer)) (r .0)) in
+    let s = step h c (not-true (exhausted (play b c .answer)) (r .0)) in
     run-inv cs (s .1) (r .1)
-  where
-    flip : (x : Bool) → not x ≡ true → x ≡ false
-    flip true q = sym q
-    flip false q = refl
 
 -- ---- a fresh board
 

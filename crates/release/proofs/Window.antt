@@ -6,9 +6,9 @@ use mathlib.Core.List.{List, [], _∷_, foldl, List·Memᴰ·not-nil}
 use native.Mathlib.Omega.{arith}
 use lib.Dec.{leb, ltb, eqb}
 use lib.ListN.{length}
-use borrow.Author.Tests.{le-leb, ltb-false}
+use borrow.Author.Tests.{le-leb, ltb-false, not-true}
 use Rattle.bits.specs.Bit.{pick, both}
-use Rattle.frame.proofs.Laws.{both-true}
+use Rattle.bits.proofs.Choice.{both-true}
 use Rattle.allocator.specs.Round.{roundUp}
 use Rattle.answer.specs.Numbers.{regionNotFound}
 use Rattle.paging.specs.declared.Walked.{Walked}
@@ -75,10 +75,6 @@ module _ {b : Board} {k : List VMRegion} {u : List MappedRegion} {l : List Regio
   whole-step (mmaps wish size prot flags) = λ q. t
   whole-step (munmaps a size) = λ q. t
 
-not-flip : (x : Bool) → not x ≡ true → x ≡ false
-not-flip true e = sym e
-not-flip false e = refl
-
 -- a list of calls
 pub whole-run : (cs : List Call) {b : Board} {k : List VMRegion} {u : List MappedRegion} {l : List Region} {ever : List ℕ} {left : Leftover} → Inv left b k u l ever → neverExhausted (events b cs) ≡ true
     → uncutFrom k (events b cs) ≡ true → Whole k → Whole (bookFrom k (events b cs))
@@ -87,7 +83,7 @@ whole-run [] h e q t = t
 whole-run (c ∷ cs) {b} {k} h e q t =
     let r = both-true (not (exhausted (play b c .answer))) _ e in
     let s = both-true (not (cuts k c (play b c .answer))) _ q in
-    whole-run cs (step h c (not-flip (exhausted (play b c .answer)) (r .0)) .1) (r .1) (s .1) (whole-step h t c (not-flip (cuts k c (play b c .answer)) (s .0)))
+    whole-run cs (step h c (not-true (exhausted (play b c .answer)) (r .0)) .1) (r .1) (s .1) (whole-step h t c (not-true (cuts k c (play b c .answer)) (s .0)))
 
 pub whole-window : Whole (window ∷ [])
 whole-window = (refl, refl)

@@ -43,13 +43,13 @@ module _ {root up : ℕ} where
   takes-accounted none c = c
   takes-accounted (more t r) c = takes-accounted r (took-accounted c t)
 
-perm-mem : {A : Type 0} {x : A} {l k : List A} → List·Permᴰ l k → List·Memᴰ x l → List·Memᴰ x k
-perm-mem List·Permᴰ·nil i = i
-perm-mem (List·Permᴰ·cons e d) i = ⊎-elim (λ a. List·Memᴰ·head (a ∙ e)) (λ j. List·Memᴰ·tail (perm-mem d j)) (List·Memᴰ·cases-cons i)
-perm-mem (List·Permᴰ·swap e e′) i =
+pub perm-member : {A : Type 0} {x : A} {l k : List A} → List·Permᴰ l k → List·Memᴰ x l → List·Memᴰ x k
+perm-member List·Permᴰ·nil i = i
+perm-member (List·Permᴰ·cons e d) i = ⊎-elim (λ a. List·Memᴰ·head (a ∙ e)) (λ j. List·Memᴰ·tail (perm-member d j)) (List·Memᴰ·cases-cons i)
+perm-member (List·Permᴰ·swap e e′) i =
     ⊎-elim (λ a. List·Memᴰ·tail (List·Memᴰ·head (a ∙ e)))
     (λ j. ⊎-elim (λ b. List·Memᴰ·head (b ∙ e′)) (λ k. List·Memᴰ·tail (List·Memᴰ·tail k)) (List·Memᴰ·cases-cons j)) (List·Memᴰ·cases-cons i)
-perm-mem (List·Permᴰ·trans d d′) i = perm-mem d′ (perm-mem d i)
+perm-member (List·Permᴰ·trans d d′) i = perm-member d′ (perm-member d i)
 
 -- ---- pages
 
@@ -62,8 +62,8 @@ pub record Live (m : Memory) (root up : ℕ) (l : List ℕ) : Type 0 where
 -- the list in another order
 pub live-perm : {m : Memory} {root up : ℕ} {l k : List ℕ} → List·Permᴰ l k → Live m root up l → Live m root up k
 live-perm r a = record {
-  here = λ v i. a .here v (perm-mem (Permᴰ·symm r) i);
-  only = λ p f lp h. let b = a .only p f lp h in (b .0, perm-mem r (b .1), b .2);
+  here = λ v i. a .here v (perm-member (Permᴰ·symm r) i);
+  only = λ p f lp h. let b = a .only p f lp h in (b .0, perm-member r (b .1), b .2);
   apart = Permᴰ·pairwise (λ v v′. Π-prop (λ e. ⊥-prop)) (λ v v′ d e. d (sym e)) r (a .apart);
 }
 
@@ -104,8 +104,8 @@ pub record Tabled (m : Memory) (root up : ℕ) (l : List ℕ) : Type 0 where
 
 pub tabled-perm : {m : Memory} {root up : ℕ} {l k : List ℕ} → List·Permᴰ l k → Tabled m root up l → Tabled m root up k
 tabled-perm r a = record {
-  runs = λ v i. a .runs v (perm-mem (Permᴰ·symm r) i);
-  tables = λ p t l1 lp h. let b = a .tables p t l1 lp h in (b .0, perm-mem r (b .1), b .2);
+  runs = λ v i. a .runs v (perm-member (Permᴰ·symm r) i);
+  tables = λ p t l1 lp h. let b = a .tables p t l1 lp h in (b .0, perm-member r (b .1), b .2);
 }
 
 -- a page taken

@@ -8,10 +8,10 @@ use lib.Dec.{ltb}
 use lib.ListN.{getD}
 use borrow.Author.Tests.{ltb-true}
 use Rattle.bits.specs.Bit.{pick, flag}
+use Rattle.bits.proofs.Choice.{pick-cases}
 use Rattle.answer.specs.Numbers.{notMapped}
 use Rattle.entry.specs.Entry.{frameOf}
 use Rattle.frame.specs.Frames.{inside}
-use Rattle.frame.proofs.Laws.{pick-cases}
 use Rattle.paging.specs.declared.Walked.{Walked}
 use Rattle.paging.specs.declared.Walked.the-variants.{At, Stop}
 use Rattle.paging.specs.Walk.{place, andThen, present, entryAt, reach, judge, orLeaf, leaf}

@@ -6,7 +6,7 @@ use mathlib.Core.Logic.{_⊎_, inl, inr}
 use native.Mathlib.Omega.{arith}
 use lib.Dec.{eqb, leb}
 use borrow.Author.Tests.{eqb-true, eqb-false, ne-eqb, leb-true}
-use Rattle.frame.proofs.Laws.{pick-cases}
+use Rattle.bits.proofs.Choice.{pick-cases}
 use Rattle.allocator.specs.Round.{rounded, roundUp, lastPage}
 use Rattle.answer.specs.Numbers.{sizeZero, brokenRecord, tooLarge, regionNotFound}
 use Rattle.answer.specs.declared.CountAnswer.the-variants.{Count, NoCount}

@@ -6,9 +6,9 @@ use mathlib.Core.List.{List, [], _∷_, map}
 use native.Mathlib.Omega.{arith}
 use native.Mathlib.Nat.{add-assoc}
 use lib.Dec.{eqb}
-use borrow.Author.Tests.{eqb-true}
+use borrow.Author.Tests.{eqb-true, not-true}
 use Rattle.bits.specs.Bit.{pick, both}
-use Rattle.frame.proofs.Laws.{both-true}
+use Rattle.bits.proofs.Choice.{both-true}
 use Rattle.vmalloc.specs.declared.VMRegion.{VMRegion}
 use Rattle.vmalloc.specs.Regions.{region, joins, mergeFrom, merge}
 
@@ -26,11 +26,7 @@ pub joined : (r s : VMRegion) → joins r s ≡ true → Joined r s
 joined r s h =
     let a = both-true (not (r .used)) _ h in
     let b = both-true (not (s .used)) _ (a .1) in
-    record { first = flip (r .used) (a .0); second = flip (s .used) (b .0); meet = eqb-true _ _ (b .1) }
-  where
-    flip : (x : Bool) → not x ≡ true → x ≡ false
-    flip true e = sym e
-    flip false e = refl
+    record { first = not-true (r .used) (a .0); second = not-true (s .used) (b .0); meet = eqb-true _ _ (b .1) }
 
 -- a joined region adjoins what its last adjoins, and is adjoined where its first is
 pub left-of : (r s t : VMRegion) → joins s t ≡ true → joins r (join s t) ≡ joins r s

@@ -9,8 +9,8 @@ use lib.Dec.{eqb, leb, ltb}
 use lib.ListN.{length}
 use borrow.Author.Tests.{eq-eqb, ne-eqb, lt-ltb, le-leb, leb-true, ltb-true, eqb-true}
 use Rattle.bits.specs.Bit.{pick, both, one}
+use Rattle.bits.proofs.Choice.{both-true}
 use Rattle.allocator.specs.Round.{lastPage}
-use Rattle.frame.proofs.Laws.{both-true}
 use Rattle.paging.specs.declared.Walked.the-variants.{At}
 use Rattle.slots.specs.Slots.{every}
 use Rattle.vmalloc.specs.declared.VMRegion.{VMRegion}

@@ -1,14 +1,14 @@
 -- Regions without neighbours that join, and regions without gaps: a list of free ones of both kinds is a single region.
 use Prim.Native.Nat.{ℕ, _+_, _-_, _<_, _≤_}
-use mathlib.Core.Path.{_≡_, refl, sym, ap, subst}
+use mathlib.Core.Path.{_≡_, refl, ap, subst}
 use mathlib.Core.Bool.{Bool, true, false, not}
 use mathlib.Core.List.{List, [], _∷_}
 use native.Mathlib.Omega.{arith}
 use native.Mathlib.Nat.{add-assoc}
 use lib.Dec.{eqb, leb, ltb}
-use borrow.Author.Tests.{eq-eqb, ltb-false, leb-true}
+use borrow.Author.Tests.{eq-eqb, ltb-false, leb-true, not-true}
 use Rattle.bits.specs.Bit.{pick, both}
-use Rattle.frame.proofs.Laws.{both-true}
+use Rattle.bits.proofs.Choice.{both-true}
 use Rattle.vmalloc.specs.declared.VMRegion.{VMRegion}
 use Rattle.vmalloc.specs.Regions.{region, fits, behind, cutFirst, joins, mergeFrom, merge}
 use Rattle.vmalloc.proofs.Merge.{join, joined, freedAll}
@@ -80,11 +80,7 @@ module _ (n : ℕ) (room : Bool) where
   behind-apart r l f h = by (both room (ltb n (r .size))) refl l h
     where
       u : r .used ≡ false
-      u = flip (r .used) (both-true (not (r .used)) (leb n (r .size)) f .0)
-        where
-          flip : (x : Bool) → not x ≡ true → x ≡ false
-          flip true e = sym e
-          flip false e = refl
+      u = not-true (r .used) (both-true (not (r .used)) (leb n (r .size)) f .0)
 
       k : n ≤ r .size
       k = leb-true _ _ (both-true (not (r .used)) (leb n (r .size)) f .1)

@@ -5,19 +5,15 @@ use mathlib.Core.Bool.{Bool, true, false, not}
 use mathlib.Core.List.{List, [], _∷_}
 use native.Mathlib.Omega.{arith}
 use lib.Dec.{eqb, leb, ltb}
-use borrow.Author.Tests.{eq-eqb, ne-eqb, eqb-true}
+use borrow.Author.Tests.{eq-eqb, ne-eqb, eqb-true, not-true}
 use Rattle.bits.specs.Bit.{pick, both}
+use Rattle.bits.proofs.Choice.{both-true, both-false}
 use Rattle.answer.specs.Numbers.{regionNotFound}
-use Rattle.frame.proofs.Laws.{both-true}
 use Rattle.paging.specs.declared.Walked.the-variants.{At, Stop}
 use Rattle.vmalloc.specs.declared.VMRegion.{VMRegion}
 use Rattle.vmalloc.specs.Regions.{region, fits, firstFit, behind, cutFirst, usedSize, joins, mergeFrom, merge}
 use Rattle.vmalloc.proofs.Merge.{join, joined, freedAll}
 use Rattle.vmalloc.proofs.Rows.{Rows, rows-le, fit-from}
-
-both-false : (b : Bool) → both b false ≡ false
-both-false true = refl
-both-false false = refl
 
 -- a free region says nothing
 skip : (b : ℕ) (r : VMRegion) (l : List VMRegion) → r .used ≡ false → usedSize b (r ∷ l) ≡ usedSize b l
@@ -98,11 +94,7 @@ used-inside b n lo hi (r ∷ l) h e = by (both (eqb (r .start) b) (r .used)) ref
         record { from = omega (arith, m .from, h .0 .from); end = m .end; even = m .even; whole = m .whole; some = m .some }
 
 fits-free : (n : ℕ) (r : VMRegion) → fits n r ≡ true → r .used ≡ false
-fits-free n r e = not-true′ (r .used) (both-true (not (r .used)) (leb n (r .size)) e .0)
-  where
-    not-true′ : (x : Bool) → not x ≡ true → x ≡ false
-    not-true′ true h = sym h
-    not-true′ false h = refl
+fits-free n r e = not-true (r .used) (both-true (not (r .used)) (leb n (r .size)) e .0)
 
 -- the first region large enough was free, and is used after it is cut; the others stay
 module _ (n : ℕ) (room : Bool) where
