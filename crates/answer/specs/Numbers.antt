@@ -10,65 +10,87 @@ use Rattle.answer.specs.declared.CountAnswer.the-variants.{Count, NoCoun
 use Rattle.answer.specs.declared.FlagAnswer.{FlagAnswer}
 use Rattle.answer.specs.declared.FlagAnswer.the-variants.{Flag, NoFlag}
 
--- 'Numbers caused by the input'
+-- ---- 'Numbers caused by the input'
+
+-- size 0
 abbrev pub sizeZero : ℕ
 sizeZero = 1
 
+-- 'address unaligned (MAP_FIXED, munmap)'
 abbrev pub unaligned : ℕ
 unaligned = 2
 
+-- 'size above 2^64−4096, or a fixed or aligned hinted range ending above 2^64−4096'
 abbrev pub tooLarge : ℕ
 tooLarge = 3
 
+-- 'huge addresses unaligned'
 abbrev pub hugeUnaligned : ℕ
 hugeUnaligned = 4
 
+-- a fault with the reserved bit
 abbrev pub reservedBit : ℕ
 reservedBit = 5
 
+-- a fault at an invalid address
 abbrev pub invalidAddress : ℕ
 invalidAddress = 6
 
+-- a fault of an instruction fetch
 abbrev pub instructionFetch : ℕ
 instructionFetch = 7
 
+-- a protection violation
 abbrev pub protectionViolation : ℕ
 protectionViolation = 8
 
+-- '`mprotect`, always'
 abbrev pub notImplemented : ℕ
 notImplemented = 9
 
+-- a broken record, or a start that cannot be
 abbrev pub brokenRecord : ℕ
 brokenRecord = 10
 
--- 'Numbers caused by the state'
+-- ---- 'Numbers caused by the state'
+
+-- 'no free frame'
 abbrev pub noFreeFrame : ℕ
 noFreeFrame = 11
 
+-- 'already mapped'
 abbrev pub alreadyMapped : ℕ
 alreadyMapped = 12
 
-abbrev pub mapFailed : ℕ
-mapFailed = 13
+-- '`map_page` failed, by 11, 12 or 19, inside mmap or vmalloc'
+abbrev pub mapPageFailed : ℕ
+mapPageFailed = 13
 
+-- 'not mapped'
 abbrev pub notMapped : ℕ
 notMapped = 14
 
+-- 'no region'
 abbrev pub noRegion : ℕ
 noRegion = 15
 
+-- 'region not found'; also 'vfree of an unknown or null address'
 abbrev pub regionNotFound : ℕ
 regionNotFound = 16
 
+-- 'write to read-only'
 abbrev pub writeToReadOnly : ℕ
 writeToReadOnly = 17
 
+-- 'mapping failed, by 11, 12 or 19, in the first fault path, or the page to copy is not in a lent frame'
 abbrev pub pageTableError : ℕ
 pageTableError = 18
 
+-- 'a walk meets a table outside the lent frames'
 abbrev pub outside : ℕ
 outside = 19
 
+-- 'the 256 mmap regions or marked pages are full and the key is not among them'
 abbrev pub listFull : ℕ
 listFull = 20
 

@@ -28,7 +28,7 @@ pub const NO_FREE_FRAME: u64 = 11;
 
 pub const ALREADY_MAPPED: u64 = 12;
 
-pub const MAP_FAILED: u64 = 13;
+pub const MAP_PAGE_FAILED: u64 = 13;
 
 pub const NOT_MAPPED: u64 = 14;
 

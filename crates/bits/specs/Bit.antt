@@ -8,6 +8,10 @@ abbrev pub pick : {A : Type 0} → Bool → A → A → A
 pick true a b = a
 pick false a b = b
 
+-- a check of a call: a refusal unless it holds, then the rest
+abbrev pub unless : {A : Type 0} → Bool → A → A → A
+unless ok refusal rest = pick ok rest refusal
+
 abbrev pub both : Bool → Bool → Bool
 both true b = b
 both false b = false

@@ -4,7 +4,7 @@ use mathlib.Core.Bool.{Bool, true, false}
 use mathlib.Core.List.{List, [], _∷_, _++_}
 use lib.Dec.{leb, eqb}
 use lib.ListN.{length, replicate}
-use Rattle.bits.specs.Bit.{pick}
+use Rattle.bits.specs.Bit.{pick, unless}
 use Rattle.answer.specs.Numbers.{brokenRecord, noFreeFrame}
 use Rattle.answer.specs.declared.Answer.{Answer}
 use Rattle.answer.specs.declared.Answer.the-variants.{Met, Refused}
@@ -52,9 +52,9 @@ begun b fr = record {
 abbrev pub ready : Board → Answer → Frames → Did
 ready b (Refused n) fr = did (Stop n) b
 ready b Met fr =
-    pick (leb (fr .fa .total * 512) (length (b .mem .words)))
-    (pick (eqb (fr .fa .total) 0) (did (Stop noFreeFrame) b) (did (At 0) (begun b fr)))
-    (did (Stop brokenRecord) b)
+    unless (leb (fr .fa .total * 512) (length (b .mem .words))) (did (Stop brokenRecord) b)
+    (pick (eqb (fr .fa .total) 0) (did (Stop noFreeFrame) b)
+    (did (At 0) (begun b fr)))
 
 unfoldable pub start : Board → ℕ → ℕ → Did
 start b from to = ready b (init (b .mem .frames) from to .answer) (init (b .mem .frames) from to .frames)

@@ -8,7 +8,7 @@ use Rattle.allocator.specs.Round.{rounded}
 use Rattle.frame.specs.Frames.{Frames, init, isAllocated}
 use Rattle.frame.proofs.Laws.{inside-low, inside-high, reads-outside}
 use Rattle.answer.specs.declared.FlagAnswer.the-variants.{Flag}
-use Rattle.slots.specs.Slots.{live}
+use Rattle.slots.specs.Slots.{listed}
 use Rattle.vmalloc.specs.Regions.{firstFit}
 use Rattle.vmalloc.specs.Calls.{Kernel, vmalloc}
 use Rattle.mmap.specs.declared.MappedRegion.{MappedRegion}

@@ -12,12 +12,12 @@ use Rattle.allocator.specs.Round.{rounded}
 use Rattle.entry.specs.Entry.{indices, entryOf, hugeEntryOf}
 use Rattle.frame.specs.Frames.{Frames, init, sound, isAllocated}
 use Rattle.paging.specs.declared.Walked.the-variants.{At, Stop}
-use Rattle.slots.specs.Slots.{live}
+use Rattle.slots.specs.Slots.{listed}
 use Rattle.vmalloc.specs.Regions.{window}
 use Rattle.vmalloc.specs.Calls.{Kernel, soundKernel, vmalloc}
 use Rattle.vmalloc.specs.Calls.{did as didKernel}
 use Rattle.mmap.specs.Regions.{userStart, findFree, holds}
-use Rattle.mmap.specs.Calls.{User, Wish, soundUser, aligned, mmap, munmap}
+use Rattle.mmap.specs.Calls.{User, Wish, soundUser, onPage, mmap, munmap}
 use Rattle.mmap.specs.Calls.{did as didUser}
 
 pub record KeyCases : Type 0 where
@@ -40,9 +40,9 @@ pub record KeyCases : Type 0 where
   -- K9 fresh search: 0x6FFFFFFFE000 found, 0x6FFFFFFFF000 is 15
   pub k9 : (findFree [] userStart 0x6FFF_FFFF_E000 ≡ At userStart) × (findFree [] userStart 0x6FFF_FFFF_F000 ≡ Stop noRegion)
   -- K10 fresh vmalloc of 2^37+1 bytes: 15
-  pub k10 : (k : Kernel) (root : ℕ) → soundKernel k root ≡ true → live (k .regions) ≡ window ∷ [] → vmalloc 3 k root (2 ^ 37 + 1) ≡ didKernel (Stop noRegion) k
+  pub k10 : (k : Kernel) (root : ℕ) → soundKernel k root ≡ true → listed (k .regions) ≡ window ∷ [] → vmalloc 3 k root (2 ^ 37 + 1) ≡ didKernel (Stop noRegion) k
   -- K11 a two-page region: munmap with 4097 met, with 4096 is 16
-  pub k11 : (s : User) (root a : ℕ) → soundUser s root ≡ true → aligned a ≡ true → holds a 8192 (live (s .regions)) ≡ true
+  pub k11 : (s : User) (root a : ℕ) → soundUser s root ≡ true → onPage a ≡ true → holds a 8192 (listed (s .regions)) ≡ true
       → (munmap 3 s root a 4097 .answer ≡ At 0) × (munmap 3 s root a 4096 ≡ didUser (Stop regionNotFound) s)
   -- K12 mmap size 2^64−4095: 3
   pub k12 : (s : User) (root : ℕ) (wish : Wish) (prot flags : ℤ) → soundUser s root ≡ true → mmap 3 s root wish (2 ^ 64 - 4095) prot flags ≡ didUser (Stop tooLarge) s

@@ -4,7 +4,7 @@ use mathlib.Core.Bool.{Bool, true}
 use mathlib.Core.List.{List}
 use lib.Dec.{eqb, leb, ltb}
 use lib.ListN.{replicate}
-use Rattle.bits.specs.Bit.{pick, both}
+use Rattle.bits.specs.Bit.{pick, unless, both}
 use Rattle.answer.specs.Numbers.{brokenRecord, noFreeFrame}
 use Rattle.answer.specs.declared.Answer.{Answer}
 use Rattle.answer.specs.declared.Answer.the-variants.{Met, Refused}
@@ -49,9 +49,8 @@ sound fr =
 -- 'start_frame is start/4096 and total is (end − start)/4096, at most 8192, both rounded down'; 10 for 'start above end, end above 2^52'
 unfoldable pub init : Frames → ℕ → ℕ → Did Answer
 init fr s e =
-    pick (both (leb s e) (leb e (2 ^ 52)))
+    unless (both (leb s e) (leb e (2 ^ 52))) (did (Refused brokenRecord) fr)
     (did Met (frames (replicate 128 0) (record { start = s / 4096; total = min ((e - s) / 4096) 8192; allocated = 0 })))
-    (did (Refused brokenRecord) fr)
 
 -- frame start + j marked, or free again; 'only a bit that changes moves the counter'
 unfoldable pub withMark : Frames → ℕ → Frames
@@ -86,20 +85,20 @@ giveFrame fr n =
 
 -- The calls: 10 before every other check.
 unfoldable pub isAllocated : Frames → ℕ → FlagAnswer
-isAllocated fr n = pick (sound fr) (Flag (frameMarked fr n)) (NoFlag brokenRecord)
+isAllocated fr n = unless (sound fr) (NoFlag brokenRecord) (Flag (frameMarked fr n))
 
 unfoldable pub markAllocated : Frames → ℕ → Did Answer
-markAllocated fr n = pick (sound fr) (did Met (markFrame fr n)) (did (Refused brokenRecord) fr)
+markAllocated fr n = unless (sound fr) (did (Refused brokenRecord) fr) (did Met (markFrame fr n))
 
 unfoldable pub allocate : Frames → Did FrameAnswer
-allocate fr = pick (sound fr) (takeFrame fr) (did (NoFrame brokenRecord) fr)
+allocate fr = unless (sound fr) (did (NoFrame brokenRecord) fr) (takeFrame fr)
 
 unfoldable pub deallocate : Frames → ℕ → Did Answer
-deallocate fr n = pick (sound fr) (did Met (giveFrame fr n .frames)) (did (Refused brokenRecord) fr)
+deallocate fr n = unless (sound fr) (did (Refused brokenRecord) fr) (did Met (giveFrame fr n .frames))
 
 -- the three counts
 unfoldable pub counted : Frames → ℕ → CountAnswer
-counted fr n = pick (sound fr) (Count n) (NoCount brokenRecord)
+counted fr n = unless (sound fr) (NoCount brokenRecord) (Count n)
 
 abbrev pub freeFrames : Frames → CountAnswer
 freeFrames fr = counted fr (fr .fa .total - fr .fa .allocated)

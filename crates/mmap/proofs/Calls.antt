@@ -11,25 +11,25 @@ use borrow.Author.Tests.{eqb-true, eqb-false, ne-eqb, leb-true, leb-false}
 use Rattle.bits.specs.Bit.{pick, both}
 use Rattle.bits.proofs.Choice.{pick-cases}
 use Rattle.allocator.specs.Round.{rounded, roundUp, lastPage}
-use Rattle.answer.specs.Numbers.{sizeZero, unaligned, tooLarge, brokenRecord, noFreeFrame, mapFailed, regionNotFound, listFull}
+use Rattle.answer.specs.Numbers.{sizeZero, unaligned, tooLarge, brokenRecord, noFreeFrame, mapPageFailed, regionNotFound, listFull}
 use Rattle.answer.specs.declared.CountAnswer.the-variants.{Count, NoCount}
 use Rattle.paging.specs.declared.Walked.{Walked}
 use Rattle.paging.specs.declared.Walked.the-variants.{At, Stop}
 use Rattle.paging.specs.Map.{Memory}
 use Rattle.paging.specs.Pages.{clearPages, freePages}
-use Rattle.slots.specs.Slots.{live, store}
+use Rattle.slots.specs.Slots.{listed, store}
 use Rattle.vmalloc.proofs.Calls.{positive, walked-cases}
-use Rattle.mmap.specs.Regions.{fixed, noSlot, inTheWay, clearFrom, findFree, starts, holds, remove}
-use Rattle.mmap.specs.Calls.{User, user, Did, did, soundUser, Wish, anywhere, wished, aligned, inRange, chosen, full, userPages, leftover, mapped, placed, sized, mmap, unmapped, munmap}
+use Rattle.mmap.specs.Regions.{fixed, noSlot, inTheWay, orPast, findFree, starts, holds, remove}
+use Rattle.mmap.specs.Calls.{User, user, Did, did, soundUser, Wish, anywhere, wished, onPage, inRange, chosen, full, userPages, leftover, mapped, placed, sized, mmap, unmapped, munmap}
 use Rattle.mmap.proofs.Rising.{Rising}
 use Rattle.mmap.proofs.Search.{search-place}
 
 -- the list has room for a new region, or the region replaces one
-pub room : (s : User) (a : ℕ) → full s a ≡ false → (length (live (s .regions)) < 256) ⊎ (starts a (live (s .regions)) ≡ true)
-room s a h = by (leb 256 (length (live (s .regions)))) refl (starts a (live (s .regions))) refl h
+pub room : (s : User) (a : ℕ) → full s a ≡ false → (length (listed (s .regions)) < 256) ⊎ (starts a (listed (s .regions)) ≡ true)
+room s a h = by (leb 256 (length (listed (s .regions)))) refl (starts a (listed (s .regions))) refl h
   where
-    by : (x : Bool) → leb 256 (length (live (s .regions))) ≡ x → (y : Bool) → starts a (live (s .regions)) ≡ y → both x (not y) ≡ false
-        → (length (live (s .regions)) < 256) ⊎ (starts a (live (s .regions)) ≡ true)
+    by : (x : Bool) → leb 256 (length (listed (s .regions))) ≡ x → (y : Bool) → starts a (listed (s .regions)) ≡ y → both x (not y) ≡ false
+        → (length (listed (s .regions)) < 256) ⊎ (starts a (listed (s .regions)) ≡ true)
     by x e true f g = inr f
     by true e false f g = let z : _≡_ {A = Bool} true false = g in let y : _≡_ {A = ℕ} 0 1 = cc in absurd (omega arith)
     by false e false f g = inl (leb-false _ _ e)
@@ -61,36 +61,36 @@ module _ (up : ℕ) (s : User) (root : ℕ) where
   -- every outcome of a munmap
   pub munmap-cases : (a size : ℕ) (P : Did → Type 0)
       → (soundUser s root ≡ false → P (did (Stop brokenRecord) s))
-      → ((e : ℕ) → ((n : ℕ) → rounded size ≡ Count n → aligned a ≡ true → 0 < size → holds a n (live (s .regions)) ≡ false) → P (did (Stop e) s))
-      → (soundUser s root ≡ true → 0 < size → size ≤ lastPage → holds a (roundUp 12 size) (live (s .regions)) ≡ true
-      → P (did (At 0) (user (freePages up (s .mem) root a (roundUp 12 size / 4096)) (store noSlot (remove a (live (s .regions))) (s .regions)) (s .next))))
+      → ((e : ℕ) → ((n : ℕ) → rounded size ≡ Count n → onPage a ≡ true → 0 < size → holds a n (listed (s .regions)) ≡ false) → P (did (Stop e) s))
+      → (soundUser s root ≡ true → 0 < size → size ≤ lastPage → holds a (roundUp 12 size) (listed (s .regions)) ≡ true
+      → P (did (At 0) (user (freePages up (s .mem) root a (roundUp 12 size / 4096)) (store noSlot (remove a (listed (s .regions))) (s .regions)) (s .next))))
       → P (munmap up s root a size)
   unfolding munmap rounded
   munmap-cases a size P broken none met =
       pick-cases P (soundUser s root) _ _
       (λ t. pick-cases P (eqb size 0) _ _
       (λ z. none sizeZero (λ n r e pos. absurd (omega (arith, eqb-true size 0 z))))
-      (λ z. pick-cases P (aligned a) _ _
+      (λ z. pick-cases P (onPage a) _ _
       (λ e. pick-cases (λ c. c ≡ rounded size → P (unmapped up s root a c)) (leb size lastPage) (Count (roundUp 12 size)) (NoCount tooLarge)
-      (λ l q. pick-cases P (holds a (roundUp 12 size) (live (s .regions))) _ _
+      (λ l q. pick-cases P (holds a (roundUp 12 size) (listed (s .regions))) _ _
       (λ h. met t (positive size (eqb-false size 0 z)) (leb-true _ _ l) h)
-      (λ h. none regionNotFound (λ n r _ _. let m : roundUp 12 size ≡ n = cc in subst (λ (k : ℕ). holds a k (live (s .regions)) ≡ false) m h)))
+      (λ h. none regionNotFound (λ n r _ _. let m : roundUp 12 size ≡ n = cc in subst (λ (k : ℕ). holds a k (listed (s .regions)) ≡ false) m h)))
       (λ l q. none tooLarge (λ n r _ _. let y : _≡_ {A = ℕ} 0 1 = cc in absurd (omega arith)))
       refl)
       (λ e. none unaligned (λ n r f _. let y : _≡_ {A = ℕ} 0 1 = cc in absurd (omega arith)))))
       broken
 
--- where a chosen range lies: aligned, and ending at most at the last page
-pub chosen-place : (s : User) (wish : Wish) (n : ℕ) (flags : ℤ) (a : ℕ) → Rising 0 (live (s .regions)) → s .next % 4096 ≡ 0 → chosen s wish n flags ≡ At a
+-- where a chosen range lies: onPage, and ending at most at the last page
+pub chosen-place : (s : User) (wish : Wish) (n : ℕ) (flags : ℤ) (a : ℕ) → Rising 0 (listed (s .regions)) → s .next % 4096 ≡ 0 → chosen s wish n flags ≡ At a
     → (a % 4096 ≡ 0) × (a + n ≤ lastPage)
 unfolding chosen
-chosen-place s anywhere n flags a h e c = let r = search-place _ (live (s .regions)) n (s .next) a 0 h e c in (r .0, omega (arith, r .1))
+chosen-place s anywhere n flags a h e c = let r = search-place _ (listed (s .regions)) n (s .next) a 0 h e c in (r .0, omega (arith, r .1))
 chosen-place s (wished v) n flags a h e c = one (fixed flags) c
   where
-    found : findFree (live (s .regions)) (s .next) n ≡ At a → (a % 4096 ≡ 0) × (a + n ≤ lastPage)
-    found g = let r = search-place _ (live (s .regions)) n (s .next) a 0 h e g in (r .0, omega (arith, r .1))
+    found : findFree (listed (s .regions)) (s .next) n ≡ At a → (a % 4096 ≡ 0) × (a + n ≤ lastPage)
+    found g = let r = search-place _ (listed (s .regions)) n (s .next) a 0 h e g in (r .0, omega (arith, r .1))
 
-    here : aligned v ≡ true → (x : Bool) → leb (v + n) lastPage ≡ x → (w : Walked) → pick x w (Stop tooLarge) ≡ At a → (w ≡ At a → (v ≡ a) ⊎ (findFree (live (s .regions)) (s .next) n ≡ At a))
+    here : onPage v ≡ true → (x : Bool) → leb (v + n) lastPage ≡ x → (w : Walked) → pick x w (Stop tooLarge) ≡ At a → (w ≡ At a → (v ≡ a) ⊎ (findFree (listed (s .regions)) (s .next) n ≡ At a))
         → (a % 4096 ≡ 0) × (a + n ≤ lastPage)
     here f true l w g more =
         ⊎-elim (λ q. (omega (arith, eqb-true (v % 4096) 0 f), omega (arith, leb-true (v + n) lastPage l))) found (more g)
@@ -99,36 +99,36 @@ chosen-place s (wished v) n flags a h e c = one (fixed flags) c
     same : (x y : ℕ) → At x ≡ At y → x ≡ y
     same x y q = cc
 
-    free : (w : Walked) → clearFrom w (At v) (λ _. findFree (live (s .regions)) (s .next) n) ≡ At a → (v ≡ a) ⊎ (findFree (live (s .regions)) (s .next) n ≡ At a)
+    free : (w : Walked) → orPast w (At v) (λ _. findFree (listed (s .regions)) (s .next) n) ≡ At a → (v ≡ a) ⊎ (findFree (listed (s .regions)) (s .next) n ≡ At a)
     free (At z) g = inr g
     free (Stop z) g = inl (same v a g)
 
-    exact : (x : Bool) → aligned v ≡ x → pick x (inRange v n (At v)) (Stop unaligned) ≡ At a → (a % 4096 ≡ 0) × (a + n ≤ lastPage)
+    exact : (x : Bool) → onPage v ≡ x → pick x (inRange v n (At v)) (Stop unaligned) ≡ At a → (a % 4096 ≡ 0) × (a + n ≤ lastPage)
     exact true f g = here f (leb (v + n) lastPage) refl (At v) g (λ q. inl (same v a q))
     exact false f g = let y : _≡_ {A = ℕ} 0 1 = cc in absurd (omega arith)
 
-    hint : (x : Bool) → aligned v ≡ x
-        → pick x (inRange v n (clearFrom (inTheWay v n (live (s .regions))) (At v) (λ _. findFree (live (s .regions)) (s .next) n))) (findFree (live (s .regions)) (s .next) n) ≡ At a
+    hint : (x : Bool) → onPage v ≡ x
+        → pick x (inRange v n (orPast (inTheWay v n (listed (s .regions))) (At v) (λ _. findFree (listed (s .regions)) (s .next) n))) (findFree (listed (s .regions)) (s .next) n) ≡ At a
         → (a % 4096 ≡ 0) × (a + n ≤ lastPage)
-    hint true f g = here f (leb (v + n) lastPage) refl _ g (free (inTheWay v n (live (s .regions))))
+    hint true f g = here f (leb (v + n) lastPage) refl _ g (free (inTheWay v n (listed (s .regions))))
     hint false f g = found g
 
     one : (x : Bool)
-        → pick x (pick (aligned v) (inRange v n (At v)) (Stop unaligned))
-        (pick (aligned v) (inRange v n (clearFrom (inTheWay v n (live (s .regions))) (At v) (λ _. findFree (live (s .regions)) (s .next) n))) (findFree (live (s .regions)) (s .next) n)) ≡ At a
+        → pick x (pick (onPage v) (inRange v n (At v)) (Stop unaligned))
+        (pick (onPage v) (inRange v n (orPast (inTheWay v n (listed (s .regions))) (At v) (λ _. findFree (listed (s .regions)) (s .next) n))) (findFree (listed (s .regions)) (s .next) n)) ≡ At a
         → (a % 4096 ≡ 0) × (a + n ≤ lastPage)
-    one true g = exact (aligned v) refl g
-    one false g = hint (aligned v) refl g
+    one true g = exact (onPage v) refl g
+    one false g = hint (onPage v) refl g
 
 -- what a refused mmap leaves: after 11 the pages that were mapped stay, after 13 their leaves are cleared; frames stay marked in both
 pub left-by-11 : (up root a done : ℕ) (m : Memory) → leftover up root a noFreeFrame done m ≡ m
 left-by-11 up root a done m = refl
 
-pub left-by-13 : (up root a done : ℕ) (m : Memory) → leftover up root a mapFailed done m ≡ clearPages up m root a done
+pub left-by-13 : (up root a done : ℕ) (m : Memory) → leftover up root a mapPageFailed done m ≡ clearPages up m root a done
 left-by-13 up root a done m = refl
 
 -- a munmap that is met
-pub munmap-met : (up : ℕ) (s : User) (root a size n : ℕ) → soundUser s root ≡ true → 0 < size → aligned a ≡ true → rounded size ≡ Count n → holds a n (live (s .regions)) ≡ true
-    → munmap up s root a size ≡ did (At 0) (user (freePages up (s .mem) root a (n / 4096)) (store noSlot (remove a (live (s .regions))) (s .regions)) (s .next))
+pub munmap-met : (up : ℕ) (s : User) (root a size n : ℕ) → soundUser s root ≡ true → 0 < size → onPage a ≡ true → rounded size ≡ Count n → holds a n (listed (s .regions)) ≡ true
+    → munmap up s root a size ≡ did (At 0) (user (freePages up (s .mem) root a (n / 4096)) (store noSlot (remove a (listed (s .regions))) (s .regions)) (s .next))
 unfolding munmap
 munmap-met up s root a size n t pos e r h = rw (t, ne-eqb size 0 (λ z. omega arith), e, r, h)

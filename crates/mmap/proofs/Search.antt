@@ -1,4 +1,4 @@
--- Where the search for a free range ends: at an aligned address below the user's end.
+-- Where the search for a free range ends: at an onPage address below the user's end.
 use Prim.Native.Nat.{ℕ, zero, suc, _+_, _%_, _<_, _≤_}
 use mathlib.Core.Path.{_≡_, refl}
 use mathlib.Core.Bool.{Bool, true, false}
@@ -13,7 +13,7 @@ use Rattle.answer.specs.Numbers.{noRegion}
 use Rattle.paging.specs.declared.Walked.{Walked}
 use Rattle.paging.specs.declared.Walked.the-variants.{At, Stop}
 use Rattle.mmap.specs.declared.MappedRegion.{MappedRegion}
-use Rattle.mmap.specs.Regions.{userEnd, overlaps, inTheWay, clearFrom, searchFrom, findFree}
+use Rattle.mmap.specs.Regions.{userEnd, overlaps, inTheWay, orPast, searchFrom, findFree}
 use Rattle.mmap.proofs.Rising.{Rising}
 
 pub way-even : (a n e lo : ℕ) (l : List MappedRegion) → Rising lo l → inTheWay a n l ≡ At e → e % 4096 ≡ 0
@@ -42,12 +42,12 @@ unfolding searchFrom
 search-place zero l n a b lo h e g = let z : _≡_ {A = ℕ} 0 1 = cc in absurd (omega arith)
 search-place (suc k) l n a b lo h e g = one (ltb (a + n) userEnd) refl g (λ c q. search-place k l n c b lo h q)
   where
-    two : a + n < userEnd → (w : Walked) → inTheWay a n l ≡ w → clearFrom w (At a) (searchFrom k l n) ≡ At b
+    two : a + n < userEnd → (w : Walked) → inTheWay a n l ≡ w → orPast w (At a) (searchFrom k l n) ≡ At b
         → ((c : ℕ) → c % 4096 ≡ 0 → searchFrom k l n c ≡ At b → (b % 4096 ≡ 0) × (b + n < userEnd)) → (b % 4096 ≡ 0) × (b + n < userEnd)
     two u (At c) w g more = more c (way-even a n c lo l h w) g
     two u (Stop z) w g more = let y : a ≡ b = cc in (omega arith, omega arith)
 
-    one : (x : Bool) → ltb (a + n) userEnd ≡ x → pick x (clearFrom (inTheWay a n l) (At a) (searchFrom k l n)) (Stop noRegion) ≡ At b
+    one : (x : Bool) → ltb (a + n) userEnd ≡ x → pick x (orPast (inTheWay a n l) (At a) (searchFrom k l n)) (Stop noRegion) ≡ At b
         → ((c : ℕ) → c % 4096 ≡ 0 → searchFrom k l n c ≡ At b → (b % 4096 ≡ 0) × (b + n < userEnd)) → (b % 4096 ≡ 0) × (b + n < userEnd)
     one true u g more = two (ltb-true _ _ u) (inTheWay a n l) refl g more
     one false u g more = let z : _≡_ {A = ℕ} 0 1 = cc in absurd (omega arith)
@@ -58,11 +58,11 @@ unfolding searchFrom
 search-from zero l n a b g = let z : _≡_ {A = ℕ} 0 1 = cc in absurd (omega arith)
 search-from (suc k) l n a b g = one (ltb (a + n) userEnd) g (λ c. search-from k l n c b)
   where
-    two : (w : Walked) → inTheWay a n l ≡ w → clearFrom w (At a) (searchFrom k l n) ≡ At b → ((c : ℕ) → searchFrom k l n c ≡ At b → c ≤ b) → a ≤ b
+    two : (w : Walked) → inTheWay a n l ≡ w → orPast w (At a) (searchFrom k l n) ≡ At b → ((c : ℕ) → searchFrom k l n c ≡ At b → c ≤ b) → a ≤ b
     two (At c) w g more = omega (arith, way-past a n c l w, more c g)
     two (Stop z) w g more = let y : a ≡ b = cc in omega arith
 
-    one : (x : Bool) → pick x (clearFrom (inTheWay a n l) (At a) (searchFrom k l n)) (Stop noRegion) ≡ At b → ((c : ℕ) → searchFrom k l n c ≡ At b → c ≤ b) → a ≤ b
+    one : (x : Bool) → pick x (orPast (inTheWay a n l) (At a) (searchFrom k l n)) (Stop noRegion) ≡ At b → ((c : ℕ) → searchFrom k l n c ≡ At b → c ≤ b) → a ≤ b
     one true g more = two (inTheWay a n l) refl g more
     one false g more = let z : _≡_ {A = ℕ} 0 1 = cc in absurd (omega arith)
 

@@ -4,19 +4,19 @@ use mathlib.Core.Bool.{Bool, true, not}
 use lib.IntN.{ℤ}
 use lib.Dec.{eqb, leb}
 use lib.ListN.{length}
-use Rattle.bits.specs.Bit.{pick, both}
+use Rattle.bits.specs.Bit.{pick, unless, both}
 use Rattle.allocator.specs.Round.{rounded, lastPage}
-use Rattle.answer.specs.Numbers.{sizeZero, unaligned, tooLarge, notImplemented, brokenRecord, mapFailed, regionNotFound, listFull}
+use Rattle.answer.specs.Numbers.{sizeZero, unaligned, tooLarge, notImplemented, brokenRecord, mapPageFailed, regionNotFound, listFull}
 use Rattle.answer.specs.declared.CountAnswer.{CountAnswer}
 use Rattle.answer.specs.declared.CountAnswer.the-variants.{Count, NoCount}
 use Rattle.paging.specs.declared.Walked.{Walked}
 use Rattle.paging.specs.declared.Walked.the-variants.{At, Stop}
 use Rattle.paging.specs.Map.{Memory}
 use Rattle.paging.specs.Calls.{whole}
-use Rattle.slots.specs.Slots.{Slots, live, store}
+use Rattle.slots.specs.Slots.{Slots, listed, store}
 use Rattle.paging.specs.Pages.{Ran, mapPages, clearPages, freePages}
 use Rattle.mmap.specs.declared.MappedRegion.{MappedRegion}
-use Rattle.mmap.specs.Regions.{writable, fixed, region, noSlot, soundMappings, inTheWay, clearFrom, findFree, starts, insert, holds, remove}
+use Rattle.mmap.specs.Regions.{writable, fixed, region, noSlot, soundMappings, inTheWay, orPast, findFree, starts, insert, holds, remove}
 
 -- what mmap and munmap are lent: words and frames, the root beside them, the list and next_addr
 pub record User : Type 0 where
@@ -37,30 +37,31 @@ did a s = record { answer = a; user = s }
 abbrev pub soundUser : User → ℕ → Bool
 soundUser s root = both (whole (s .mem) root) (soundMappings (s .regions) (s .next))
 
--- what a caller asks: an address or none, the size, prot and flags
+-- the address that a caller gives, or none
 pub data Wish : Type 0 where
   anywhere : Wish
   wished : ℕ → Wish
 
-abbrev pub aligned : ℕ → Bool
-aligned a = eqb (a % 4096) 0
+-- page-aligned
+abbrev pub onPage : ℕ → Bool
+onPage a = eqb (a % 4096) 0
 
 -- a range that must end at most at 2^64 − 4096, else 3
 abbrev pub inRange : ℕ → ℕ → Walked → Walked
-inRange a n then = pick (leb (a + n) lastPage) then (Stop tooLarge)
+inRange a n then = unless (leb (a + n) lastPage) (Stop tooLarge) then
 
 -- where n bytes go: '2, 3 for the range, 15'
 unfoldable pub chosen : User → Wish → ℕ → ℤ → Walked
-chosen s anywhere n flags = findFree (live (s .regions)) (s .next) n
+chosen s anywhere n flags = findFree (listed (s .regions)) (s .next) n
 chosen s (wished a) n flags =
     pick (fixed flags)
-    (pick (aligned a) (inRange a n (At a)) (Stop unaligned))
-    (pick (aligned a) (inRange a n (clearFrom (inTheWay a n (live (s .regions))) (At a) (λ _. findFree (live (s .regions)) (s .next) n)))
-    (findFree (live (s .regions)) (s .next) n))
+    (unless (onPage a) (Stop unaligned) (inRange a n (At a)))
+    (pick (onPage a) (inRange a n (orPast (inTheWay a n (listed (s .regions))) (At a) (λ _. findFree (listed (s .regions)) (s .next) n)))
+    (findFree (listed (s .regions)) (s .next) n))
 
 -- '20: the 256 mmap regions are full and the key is not among them'
 abbrev pub full : User → ℕ → Bool
-full s a = both (leb 256 (length (live (s .regions)))) (not (starts a (live (s .regions))))
+full s a = both (leb 256 (length (listed (s .regions)))) (not (starts a (listed (s .regions))))
 
 -- 'pages are always user', and writable by PROT_WRITE
 abbrev pub userPages : ℕ → Memory → ℕ → ℕ → ℕ → ℤ → Ran
@@ -68,12 +69,12 @@ userPages up m root a n prot = mapPages up (writable prot) true m root a 0 (n / 
 
 -- 11: 'pages before i stay mapped, no region'; 13: 'those entries are cleared'
 abbrev pub leftover : ℕ → ℕ → ℕ → ℕ → ℕ → Memory → Memory
-leftover up root a e done m = pick (eqb e mapFailed) (clearPages up m root a done) m
+leftover up root a e done m = pick (eqb e mapPageFailed) (clearPages up m root a done) m
 
 -- the region at a once its pages are mapped, `done` of them before a refusal
 abbrev pub mapped : ℕ → User → ℕ → ℕ → ℕ → ℤ → ℤ → Walked → ℕ → Memory → Did
 mapped up s root a n prot flags (At x) done m =
-    did (At a) (user m (store noSlot (insert (region a n prot flags) (live (s .regions))) (s .regions)) (a + n))
+    did (At a) (user m (store noSlot (insert (region a n prot flags) (listed (s .regions))) (s .regions)) (a + n))
 mapped up s root a n prot flags (Stop e) done m = did (Stop e) (user (leftover up root a e done m) (s .regions) (s .next))
 
 abbrev pub placed : ℕ → User → ℕ → ℕ → ℤ → ℤ → Walked → Did
@@ -89,24 +90,24 @@ sized up s root wish prot flags (NoCount e) = did (Stop e) s
 -- 'mmap: 1, 3 for the size, 2, 3 for the range, 15, 20', after 10
 unfoldable pub mmap : ℕ → User → ℕ → Wish → ℕ → ℤ → ℤ → Did
 mmap up s root wish size prot flags =
-    pick (soundUser s root)
-    (pick (eqb size 0) (did (Stop sizeZero) s) (sized up s root wish prot flags (rounded size)))
-    (did (Stop brokenRecord) s)
+    unless (soundUser s root) (did (Stop brokenRecord) s)
+    (pick (eqb size 0) (did (Stop sizeZero) s)
+    (sized up s root wish prot flags (rounded size)))
 
 -- 'needs a region's start and its rounded size, and frees its frames'
 abbrev pub unmapped : ℕ → User → ℕ → ℕ → CountAnswer → Did
 unmapped up s root a (Count n) =
-    pick (holds a n (live (s .regions)))
-    (did (At 0) (user (freePages up (s .mem) root a (n / 4096)) (store noSlot (remove a (live (s .regions))) (s .regions)) (s .next)))
-    (did (Stop regionNotFound) s)
+    unless (holds a n (listed (s .regions))) (did (Stop regionNotFound) s)
+    (did (At 0) (user (freePages up (s .mem) root a (n / 4096)) (store noSlot (remove a (listed (s .regions))) (s .regions)) (s .next)))
 unmapped up s root a (NoCount e) = did (Stop e) s
 
 -- 'munmap: 1, 2, 3, 16', after 10
 unfoldable pub munmap : ℕ → User → ℕ → ℕ → ℕ → Did
 munmap up s root a size =
-    pick (soundUser s root)
-    (pick (eqb size 0) (did (Stop sizeZero) s) (pick (aligned a) (unmapped up s root a (rounded size)) (did (Stop unaligned) s)))
-    (did (Stop brokenRecord) s)
+    unless (soundUser s root) (did (Stop brokenRecord) s)
+    (pick (eqb size 0) (did (Stop sizeZero) s)
+    (unless (onPage a) (did (Stop unaligned) s)
+    (unmapped up s root a (rounded size))))
 
 -- '9 `mprotect`, always'
 abbrev pub mprotect : Walked

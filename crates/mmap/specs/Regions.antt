@@ -11,7 +11,7 @@ use Rattle.bits.specs.Bit.{pick, both, flag}
 use Rattle.answer.specs.Numbers.{noRegion}
 use Rattle.paging.specs.declared.Walked.{Walked}
 use Rattle.paging.specs.declared.Walked.the-variants.{At, Stop}
-use Rattle.slots.specs.Slots.{Slots, live, every}
+use Rattle.slots.specs.Slots.{Slots, listed, every}
 use Rattle.vmalloc.specs.Regions.{wellPlaced}
 use Rattle.mmap.specs.declared.MappedRegion.{MappedRegion}
 
@@ -40,7 +40,7 @@ region start size prot flags = record { start = start; size = size; prot = prot;
 abbrev pub noSlot : MappedRegion
 noSlot = region 0 0 (pos 0) (pos 0)
 
--- whether starts rise strictly, all above those that came before
+-- whether starts rise strictly, the first being `from` or above
 unfoldable pub risingFrom : ℕ → List MappedRegion → Bool
 risingFrom from [] = true
 risingFrom from (r ∷ l) = both (leb from (r .start)) (risingFrom (suc (r .start)) l)
@@ -48,11 +48,11 @@ risingFrom from (r ∷ l) = both (leb from (r .start)) (risingFrom (suc (r .star
 abbrev pub wellPlacedRegion : MappedRegion → Bool
 wellPlacedRegion r = wellPlaced (r .start) (r .size)
 
--- not broken: at most 256 regions, strictly rising, each well placed, and an aligned next_addr
+-- not broken: at most 256 regions, strictly rising, each well placed, and an onPage next_addr
 unfoldable pub soundMappings : Slots MappedRegion → ℕ → Bool
 soundMappings s next =
     both (leb (s .count) 256)
-    (both (risingFrom 0 (live s)) (both (every wellPlacedRegion (live s)) (eqb (next % 4096) 0)))
+    (both (risingFrom 0 (listed s)) (both (every wellPlacedRegion (listed s)) (eqb (next % 4096) 0)))
 
 abbrev pub overlaps : ℕ → ℕ → MappedRegion → Bool
 overlaps a n r = both (ltb a (r .start + r .size)) (ltb (r .start) (a + n))
@@ -62,15 +62,15 @@ unfoldable pub inTheWay : ℕ → ℕ → List MappedRegion → Walked
 inTheWay a n [] = Stop 0
 inTheWay a n (r ∷ l) = pick (overlaps a n r) (At (r .start + r .size)) (inTheWay a n l)
 
-abbrev pub clearFrom : Walked → Walked → (ℕ → Walked) → Walked
-clearFrom (At end) here next = next end
-clearFrom (Stop z) here next = here
+abbrev pub orPast : Walked → Walked → (ℕ → Walked) → Walked
+orPast (At end) here next = next end
+orPast (Stop z) here next = here
 
 -- 'At the first overlapping region it moves to that region's end and scans again. The exact sum is used.' Each region is moved past once at most, so that one scan more
 -- than there are regions is always enough
 unfoldable pub searchFrom : ℕ → List MappedRegion → ℕ → ℕ → Walked
 searchFrom zero l n a = Stop noRegion
-searchFrom (suc k) l n a = pick (ltb (a + n) userEnd) (clearFrom (inTheWay a n l) (At a) (searchFrom k l n)) (Stop noRegion)
+searchFrom (suc k) l n a = pick (ltb (a + n) userEnd) (orPast (inTheWay a n l) (At a) (searchFrom k l n)) (Stop noRegion)
 
 -- `find_free_region`: 'starts at next_addr and needs addr + size < 0x00007FFFFFFFF000'; 15 where there is none
 abbrev pub findFree : List MappedRegion → ℕ → ℕ → Walked

@@ -3,7 +3,7 @@ use Prim.Native.Nat.{ℕ, suc, _+_, _-_, _^_}
 use mathlib.Core.Bool.{Bool, true, false}
 use mathlib.Core.List.{List}
 use lib.ListN.{length, getD, take}
-use Rattle.bits.specs.Bit.{pick, both, flag}
+use Rattle.bits.specs.Bit.{pick, unless, both, flag}
 use Rattle.answer.specs.Numbers.{brokenRecord, hugeUnaligned}
 use Rattle.answer.specs.declared.Answer.{Answer}
 use Rattle.answer.specs.declared.Answer.the-variants.{Met, Refused}
@@ -49,7 +49,8 @@ whole m root = both (lent (length (m .words)) (startOf m) (totalOf m) root) (sou
 
 unfoldable pub translate : ℕ → List ℕ → ℕ → ℕ → ℕ → ℕ → Walked
 translate up ws start total root v =
-    pick (lent (length ws) start total root) (address v (leaf ws start total root (indices (suc up) v))) (Stop brokenRecord)
+    unless (lent (length ws) start total root) (Stop brokenRecord)
+    (address v (leaf ws start total root (indices (suc up) v)))
 
 -- 'read if the leaf has USER, write if it has USER and WRITABLE; no where nothing translates or a third-level HUGE entry does'
 abbrev pub userLeaf : Bool → Leaf → Bool
@@ -59,15 +60,16 @@ userLeaf write (NoLeaf n) = false
 
 unfoldable pub userMay : ℕ → List ℕ → ℕ → ℕ → ℕ → ℕ → Bool → FlagAnswer
 userMay up ws start total root v write =
-    pick (lent (length ws) start total root) (Flag (userLeaf write (leaf ws start total root (indices (suc up) v)))) (NoFlag brokenRecord)
+    unless (lent (length ws) start total root) (NoFlag brokenRecord)
+    (Flag (userLeaf write (leaf ws start total root (indices (suc up) v))))
 
--- the entry e of address v below k tables
+-- the entry e of address v, k steps below the root
 abbrev pub mapAt : ℕ → ℕ → Bool → Memory → ℕ → ℕ → ℕ → Out
 mapAt up k u m root v e = mapEntry u m root (take k (indices (suc up) v)) (getD (indices (suc up) v) k 0) e
 
 -- '`map_page` walks three levels'
 unfoldable pub mapPage : ℕ → Memory → ℕ → ℕ → ℕ → Bool → Bool → Out
-mapPage up m root v p w u = pick (whole m root) (mapAt up up u m root v (entryOf p w u)) (out (Stop brokenRecord) m)
+mapPage up m root v p w u = unless (whole m root) (out (Stop brokenRecord) m) (mapAt up up u m root v (entryOf p w u))
 
 abbrev pub sizeOf : HugePageSize → ℕ
 sizeOf Size2MB = 2 ^ 21
@@ -81,14 +83,12 @@ tablesAbove up Size1GB = up - 1
 -- '4 huge addresses unaligned'
 unfoldable pub mapHuge : ℕ → Memory → ℕ → ℕ → ℕ → HugePageSize → Bool → Bool → Out
 mapHuge up m root v p s w u =
-    pick (whole m root)
-    (pick (both (aligned v (sizeOf s)) (aligned p (sizeOf s))) (mapAt up (tablesAbove up s) u m root v (hugeEntryOf p w u))
-    (out (Stop hugeUnaligned) m))
-    (out (Stop brokenRecord) m)
+    unless (whole m root) (out (Stop brokenRecord) m)
+    (unless (both (aligned v (sizeOf s)) (aligned p (sizeOf s))) (out (Stop hugeUnaligned) m)
+    (mapAt up (tablesAbove up s) u m root v (hugeEntryOf p w u)))
 
 -- '`unmap_page` clears the leaf and returns its frame without freeing it'
 unfoldable pub unmapPage : ℕ → List ℕ → ℕ → ℕ → ℕ → ℕ → Left
 unmapPage up ws start total root v =
-    pick (lent (length ws) start total root)
+    unless (lent (length ws) start total root) (left (Stop brokenRecord) ws)
     (unmapEntry ws start total root (take up (indices (suc up) v)) (getD (indices (suc up) v) up 0))
-    (left (Stop brokenRecord) ws)

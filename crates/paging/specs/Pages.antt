@@ -3,7 +3,7 @@ use Prim.Native.Nat.{ℕ, zero, suc, _+_, _*_, _^_}
 use mathlib.Core.Bool.{Bool}
 use mathlib.Core.List.{List}
 use lib.ListN.{getD, take}
-use Rattle.answer.specs.Numbers.{mapFailed}
+use Rattle.answer.specs.Numbers.{mapPageFailed}
 use Rattle.address.specs.declared.FrameAnswer.{FrameAnswer}
 use Rattle.address.specs.declared.FrameAnswer.the-variants.{AtFrame, NoFrame}
 use Rattle.entry.specs.Entry.{entryOf, indices}
@@ -24,7 +24,7 @@ freshFrame m = zeroed m (takeFrame (m .frames) .answer) (takeFrame (m .frames) .
 -- '13 `map_page` failed, by 11, 12 or 19, inside mmap or vmalloc'
 abbrev pub orFailed : Walked → Walked
 orFailed (At x) = At x
-orFailed (Stop n) = Stop mapFailed
+orFailed (Stop n) = Stop mapPageFailed
 
 -- a page: 11 where it has no frame, 13 where its frame cannot be mapped
 unfoldable pub mapFresh : ℕ → Bool → Bool → Memory → ℕ → ℕ → Out

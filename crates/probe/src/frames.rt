@@ -35,10 +35,11 @@ pub extern "C" fn probe_init(
     ensures { λ _. ⌜ now (fields .exit) ≡ wordsOf (init (lentFrames (now (bitmap .entry)) (now (fields .entry))) from to .frames .fa) ⌝ }
     ensures { λ _. ⌜ now (bitmap .exit) ≡ init (lentFrames (now (bitmap .entry)) (now (fields .entry))) from to .frames .bits ⌝ }
 {
-    let did = record_of(fields).init(bitmap, from, to);
-    let left = did.frames;
+    let old = record_of(fields);
+    let did = old.init(bitmap, from, to);
+    let fresh = did.frames;
     let a = did.answer;
-    put_record(fields, left);
+    put_record(fields, fresh);
     answer::answer_line(a)
 }
 

@@ -11,7 +11,7 @@ use Rattle.bits.specs.Bit.{pick, both}
 use Rattle.bits.proofs.Choice.{both-true}
 use Rattle.paging.specs.declared.Walked.the-variants.{At}
 use Rattle.vmalloc.specs.declared.VMRegion.{VMRegion}
-use Rattle.vmalloc.specs.Regions.{region, fits, firstFit, behind, cutFirst, freeFirst, joins, mergeFrom, merge}
+use Rattle.vmalloc.specs.Regions.{region, fits, firstFit, behind, takeFirst, freeFirst, joins, mergeFrom, merge}
 use Rattle.vmalloc.proofs.Merge.{join, left-of, right-of}
 use Rattle.vmalloc.proofs.Rows.{Rows, fit-from}
 use Rattle.vmalloc.proofs.Tiles.{larger}
@@ -29,8 +29,8 @@ module _ (n a lo hi : ℕ) (r : VMRegion) (l : List VMRegion) (h : Rows lo hi (r
       by true = refl
       by false = refl
 
-pub take-cut : (n a lo hi : ℕ) (room : Bool) (l : List VMRegion) → Rows lo hi l → firstFit n l ≡ At a → takePart a n room l ≡ cutFirst true n room l
-unfolding takePart cutFirst firstFit
+pub take-cut : (n a lo hi : ℕ) (room : Bool) (l : List VMRegion) → Rows lo hi l → firstFit n l ≡ At a → takePart a n room l ≡ takeFirst true n room l
+unfolding takePart takeFirst firstFit
 take-cut n a lo hi room [] h e = refl
 take-cut n a lo hi room (r ∷ l) h e = by (fits n r) refl e (take-cut n a (r .start + r .size) hi room l (h .1))
   where
@@ -40,8 +40,8 @@ take-cut n a lo hi room (r ∷ l) h e = by (fits n r) refl e (take-cut n a (r .s
     tail false true = refl
     tail false false = refl
 
-    by : (x : Bool) → fits n r ≡ x → pick x (At (r .start)) (firstFit n l) ≡ At a → (firstFit n l ≡ At a → takePart a n room l ≡ cutFirst true n room l)
-        → takePart a n room (r ∷ l) ≡ pick x (region (r .start) n true ∷ behind n room r l) (r ∷ cutFirst true n room l)
+    by : (x : Bool) → fits n r ≡ x → pick x (At (r .start)) (firstFit n l) ≡ At a → (firstFit n l ≡ At a → takePart a n room l ≡ takeFirst true n room l)
+        → takePart a n room (r ∷ l) ≡ pick x (region (r .start) n true ∷ behind n room r l) (r ∷ takeFirst true n room l)
     by true f g more =
         let k : r .start ≡ a = cc in
         rw (both-true (not (r .used)) (leb n (r .size)) f .0, eq-eqb (r .start) a k, ← k)

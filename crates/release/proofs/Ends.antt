@@ -10,7 +10,7 @@ use Rattle.answer.specs.declared.CountAnswer.the-variants.{Count}
 use Rattle.paging.specs.declared.Walked.the-variants.{At}
 use Rattle.paging.specs.Map.{Memory}
 use Rattle.paging.specs.Pages.{freePages}
-use Rattle.slots.specs.Slots.{live, store}
+use Rattle.slots.specs.Slots.{listed, store}
 use Rattle.slots.proofs.Filled.{filled}
 use Rattle.vmalloc.specs.declared.VMRegion.{VMRegion}
 use Rattle.vmalloc.specs.Regions.{windowStart, windowEnd, usedSize, freeFirst, merge}
@@ -62,7 +62,7 @@ module _ {b : Board} {k : List VMRegion} {u : List MappedRegion} {l : List Regio
   used : usedSize a k ≡ At n
   used = h .kernelList .live a n (List·Memᴰ·head refl)
 
-  lists : store noKernelSlot (merge (freeFirst a (live (b .kernel)))) (b .kernel) ≡ filled noKernelSlot (merge (freedAll a k))
+  lists : store noKernelSlot (merge (freeFirst a (listed (b .kernel)))) (b .kernel) ≡ filled noKernelSlot (merge (freedAll a k))
   lists =
       ap (λ (x : List VMRegion). store noKernelSlot (merge x) (b .kernel)) (ap (freeFirst a) (kernel-listed h) ∙ freed-first a windowStart windowEnd k (h .kernelList .rows))
       ∙ kernel-stored h (merge (freedAll a k)) (omega (arith, length-merge (freedAll a k), length-freed a k, h .kernelList .few))
@@ -108,7 +108,7 @@ module _ {b : Board} {k : List VMRegion} {u : List MappedRegion} {l : List Regio
           absurd (omega (arith, holds-placed a n 0 u (h .userList .rising) held .some))
       by (suc z) e = omega arith
 
-  maps : store noUserSlot (remove a (live (b .user))) (b .user) ≡ filled noUserSlot (remove a u)
+  maps : store noUserSlot (remove a (listed (b .user))) (b .user) ≡ filled noUserSlot (remove a u)
   maps =
       ap (λ (x : List MappedRegion). store noUserSlot (remove a x) (b .user)) (user-listed h)
       ∙ user-stored h (remove a u) (omega (arith, length-remove a u, h .userList .few))

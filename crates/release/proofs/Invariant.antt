@@ -6,7 +6,7 @@ use mathlib.Core.Bool.{Bool, true}
 use mathlib.Core.Logic.{⊎-elim}
 use mathlib.Core.List.{List, [], _∷_, _++_, append-assoc, List·Permᴰ, Permᴰ·symm, Permᴰ·append-right}
 use native.Mathlib.Omega.{arith}
-use Rattle.answer.specs.Numbers.{noFreeFrame, mapFailed}
+use Rattle.answer.specs.Numbers.{noFreeFrame, mapPageFailed}
 use Rattle.frame.proofs.Steps.{span-give}
 use Rattle.paging.specs.declared.Walked.{Walked}
 use Rattle.paging.specs.declared.Walked.the-variants.{At, Stop}
@@ -24,7 +24,7 @@ use Rattle.vmalloc.specs.Regions.{noSlot as noKernelSlot}
 use Rattle.mmap.specs.declared.MappedRegion.{MappedRegion}
 use Rattle.mmap.specs.Regions.{noSlot as noUserSlot}
 use Rattle.board.specs.Board.{Board}
-use Rattle.release.specs.Demand3.{exhausted, Region, pagesFrom, pagesOf, concat}
+use Rattle.release.specs.Demand3.{turnedAway, Region, pagesFrom, pagesOf, concat}
 use Rattle.release.proofs.Lists.{Once, perm-once, perm-concat}
 use Rattle.release.proofs.Regions.{KernelList, UserList}
 
@@ -120,26 +120,26 @@ module _ (w u : Bool) {m : Memory} {root : ℕ} {pages ever lost : List ℕ} (h 
   pub take-start : startOf (mapPages 3 w u m root v 0 n .mem) ≡ startOf m
   take-start = takes-start met
 
-named : (e n : ℕ) → e ≡ n → exhausted (Stop n) ≡ true → exhausted (Stop e) ≡ true
-named e n q h = subst (λ (x : ℕ). exhausted (Stop x) ≡ true) (sym q) h
+named : (e n : ℕ) → e ≡ n → turnedAway (Stop n) ≡ true → turnedAway (Stop e) ≡ true
+named e n q h = subst (λ (x : ℕ). turnedAway (Stop x) ≡ true) (sym q) h
 
 -- a run that is not had is turned away with 11 or 13
-stop-number : (w u : Bool) (n : ℕ) {m : Memory} {root : ℕ} → Ordered m root 4 → (v k e : ℕ) → mapPages 3 w u m root v k n .walked ≡ Stop e → exhausted (Stop e) ≡ true
+stop-number : (w u : Bool) (n : ℕ) {m : Memory} {root : ℕ} → Ordered m root 4 → (v k e : ℕ) → mapPages 3 w u m root v k n .walked ≡ Stop e → turnedAway (Stop e) ≡ true
 unfolding mapPages
 stop-number w u zero o v k e h = let z : _≡_ {A = ℕ} 0 1 = cc in absurd (omega arith)
 stop-number w u (suc n) {m} {root} o v k e h = go (mapFresh 3 w u m root v .walked) refl (λ g. stop-number w u n g (v + 4096) (suc k) e)
   where
     go : (y : Walked) → mapFresh 3 w u m root v .walked ≡ y
-        → (Ordered (mapFresh 3 w u m root v .mem) root 4 → mapPages 3 w u (mapFresh 3 w u m root v .mem) root (v + 4096) (suc k) n .walked ≡ Stop e → exhausted (Stop e) ≡ true)
-        → exhausted (Stop e) ≡ true
+        → (Ordered (mapFresh 3 w u m root v .mem) root 4 → mapPages 3 w u (mapFresh 3 w u m root v .mem) root (v + 4096) (suc k) n .walked ≡ Stop e → turnedAway (Stop e) ≡ true)
+        → turnedAway (Stop e) ≡ true
     go (At x) f later = later (take-met o w u v x f .1 .grew .order) (ap (λ (q : Ran). q .walked) (sym (map-pages-on 3 w u m root v k n x f)) ∙ h)
     go (Stop a) f later =
         let q : Stop a ≡ Stop e = ap (λ (q : Ran). q .walked) (sym (map-pages-stop 3 w u m root v k n a f)) ∙ h in
         let z : a ≡ e = cc in
-        ⊎-elim (λ g. named e noFreeFrame (sym z ∙ g) refl) (λ g. named e mapFailed (sym z ∙ g) refl) (take-number o w u v a f)
+        ⊎-elim (λ g. named e noFreeFrame (sym z ∙ g) refl) (λ g. named e mapPageFailed (sym z ∙ g) refl) (take-number o w u v a f)
 
 pub paged-stop : (w u : Bool) {m : Memory} {root : ℕ} {pages ever lost : List ℕ} → Paged m root pages ever lost → (v n e : ℕ) → mapPages 3 w u m root v 0 n .walked ≡ Stop e
-    → exhausted (Stop e) ≡ true
+    → turnedAway (Stop e) ≡ true
 paged-stop w u h v n e f = stop-number w u n (h .account .order) v 0 e f
 
 -- and freed again

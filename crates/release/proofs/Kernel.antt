@@ -10,18 +10,18 @@ use Rattle.allocator.proofs.Round.{round-multiple, round-pos}
 use Rattle.paging.specs.declared.Walked.{Walked}
 use Rattle.paging.specs.declared.Walked.the-variants.{At, Stop}
 use Rattle.paging.specs.Pages.{freePages}
-use Rattle.slots.specs.Slots.{live, store}
-use Rattle.slots.proofs.Filled.{filled, live-filled, store-filled}
+use Rattle.slots.specs.Slots.{listed, store}
+use Rattle.slots.proofs.Filled.{filled, listed-filled, store-filled}
 use Rattle.vmalloc.specs.declared.VMRegion.{VMRegion}
-use Rattle.vmalloc.specs.Regions.{windowStart, windowEnd, firstFit, cut, usedSize, freeFirst, merge}
+use Rattle.vmalloc.specs.Regions.{windowStart, windowEnd, firstFit, taken, usedSize, freeFirst, merge}
 use Rattle.vmalloc.specs.Regions.{noSlot as noKernelSlot}
-use Rattle.vmalloc.specs.Calls.{Kernel, kernel, Did, cutSlots, kernelPages, mapped, vmalloc, vfree}
-use Rattle.vmalloc.proofs.Rows.{freed-first, cut-few}
-use Rattle.vmalloc.proofs.Used.{cut-was-free}
+use Rattle.vmalloc.specs.Calls.{Kernel, kernel, Did, takenSlots, kernelPages, mapped, vmalloc, vfree}
+use Rattle.vmalloc.proofs.Rows.{freed-first, taken-few}
+use Rattle.vmalloc.proofs.Used.{taken-was-free}
 use Rattle.vmalloc.proofs.Calls.{vmalloc-cases, vfree-cases}
 use Rattle.mmap.specs.declared.MappedRegion.{MappedRegion}
 use Rattle.board.specs.Board.{Board}
-use Rattle.release.specs.Demand3.{vmallocs, vfrees, exhausted, Region, kernels, dropKernel, liveStep, pagesFrom, takePart, bookStep}
+use Rattle.release.specs.Demand3.{vmallocs, vfrees, turnedAway, Region, kernels, dropKernel, liveStep, pagesFrom, takePart, bookStep}
 use Rattle.release.proofs.Book.{take-cut, free-part, join-parts}
 use Rattle.release.proofs.Regions.{KernelList, kernel-take, kernel-give, user-more, user-fewer, drop-kernel, not-both, same-at}
 use Rattle.release.proofs.Invariant.{Leftover, Inv, inv-perm, paged-take, paged-stop, take-start, paged-give, give-start}
@@ -37,8 +37,8 @@ morePages ever (At a) n = pagesFrom a (n / 4096) ++ ever
 morePages ever (Stop e) n = ever
 
 module _ {b : Board} {k : List VMRegion} {u : List MappedRegion} {l : List Region} {ever : List ℕ} {left : Leftover} (h : Inv left b k u l ever) where
-  pub kernel-listed : live (b .kernel) ≡ k
-  kernel-listed = ap live (h .kernelIs) ∙ live-filled noKernelSlot k
+  pub kernel-listed : listed (b .kernel) ≡ k
+  kernel-listed = ap listed (h .kernelIs) ∙ listed-filled noKernelSlot k
 
   -- a list stored in the kernel's slots
   pub kernel-stored : (k′ : List VMRegion) → length k′ ≤ 256 → store noKernelSlot k′ (b .kernel) ≡ filled noKernelSlot k′
@@ -46,12 +46,12 @@ module _ {b : Board} {k : List VMRegion} {u : List MappedRegion} {l : List Regio
 
   -- a region that is taken
   took : (n a x : ℕ) → n % 4096 ≡ 0 → 0 < n → firstFit n k ≡ At a → kernelPages 3 (b .mem) (b .root) a n .walked ≡ At x
-      → Inv left (withKernel b (kernel (kernelPages 3 (b .mem) (b .root) a n .mem) (cutSlots true n (b .kernel)))) (takePart a n (ltb (length k) 256) k) u (kernels a n ∷ l) (pagesFrom a (n / 4096) ++ ever)
+      → Inv left (withKernel b (kernel (kernelPages 3 (b .mem) (b .root) a n .mem) (takenSlots true n (b .kernel)))) (takePart a n (ltb (length k) 256) k) u (kernels a n ∷ l) (pagesFrom a (n / 4096) ++ ever)
   took n a x full pos f met =
       rw (take-cut n a windowStart windowEnd (ltb (length k) 256) k (h .kernelList .rows) f) (record {
         paged = paged-take true false (h .paged) a (n / 4096) x met;
         first = h .first ∙ sym (take-start true false (h .paged) a (n / 4096) x met);
-        kernelIs = ap (λ (s : List VMRegion). store noKernelSlot (cut true n s) (b .kernel)) kernel-listed ∙ kernel-stored (cut true n k) (cut-few true n k (h .kernelList .few));
+        kernelIs = ap (λ (s : List VMRegion). store noKernelSlot (taken true n s) (b .kernel)) kernel-listed ∙ kernel-stored (taken true n k) (taken-few true n k (h .kernelList .few));
         kernelList = kernel-take a n full pos (h .kernelList) f;
         userIs = h .userIs;
         userList = user-more a n (h .userList);
@@ -60,10 +60,10 @@ module _ {b : Board} {k : List VMRegion} {u : List MappedRegion} {l : List Regio
       })
     where
       new : List·Memᴰ (kernels a n) l → ⊥
-      new m = not-both (h .kernelList .live a n m) (cut-was-free n (ltb (length k) 256) a windowStart windowEnd k (h .kernelList .rows) f)
+      new m = not-both (h .kernelList .live a n m) (taken-was-free n (ltb (length k) 256) a windowStart windowEnd k (h .kernelList .rows) f)
 
   -- vmalloc
-  pub vmalloc-step : (size : ℕ) → let d = vmalloc 3 (kernel (b .mem) (b .kernel)) (b .root) size in exhausted (d .answer) ≡ false
+  pub vmalloc-step : (size : ℕ) → let d = vmalloc 3 (kernel (b .mem) (b .kernel)) (b .root) size in turnedAway (d .answer) ≡ false
       → Inv left (withKernel b (d .kernel)) (bookStep k (vmallocs size) (d .answer)) u (liveStep l (vmallocs size) (d .answer)) (morePages ever (d .answer) (roundUp 12 size))
   vmalloc-step size =
       vmalloc-cases 3 (kernel (b .mem) (b .kernel)) (b .root) size P
@@ -71,7 +71,7 @@ module _ {b : Board} {k : List VMRegion} {u : List MappedRegion} {l : List Regio
       (λ s pos le a f. by a (subst (λ (x : List VMRegion). firstFit (roundUp 12 size) x ≡ At a) kernel-listed f) pos (kernelPages 3 (b .mem) (b .root) a (roundUp 12 size) .walked) refl)
     where
       P : Did → Type 0
-      P d = exhausted (d .answer) ≡ false → Inv left (withKernel b (d .kernel)) (bookStep k (vmallocs size) (d .answer)) u (liveStep l (vmallocs size) (d .answer)) (morePages ever (d .answer) (roundUp 12 size))
+      P d = turnedAway (d .answer) ≡ false → Inv left (withKernel b (d .kernel)) (bookStep k (vmallocs size) (d .answer)) u (liveStep l (vmallocs size) (d .answer)) (morePages ever (d .answer) (roundUp 12 size))
 
       by : (a : ℕ) → firstFit (roundUp 12 size) k ≡ At a → 0 < size → (w : Walked) → kernelPages 3 (b .mem) (b .root) a (roundUp 12 size) .walked ≡ w
           → P (mapped a (roundUp 12 size) (b .kernel) w (kernelPages 3 (b .mem) (b .root) a (roundUp 12 size) .mem))

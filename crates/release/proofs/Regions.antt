@@ -15,11 +15,11 @@ use Rattle.answer.specs.Numbers.{regionNotFound}
 use Rattle.paging.specs.declared.Walked.{Walked}
 use Rattle.paging.specs.declared.Walked.the-variants.{At, Stop}
 use Rattle.vmalloc.specs.declared.VMRegion.{VMRegion}
-use Rattle.vmalloc.specs.Regions.{windowStart, windowEnd, firstFit, cutFirst, usedSize, merge}
+use Rattle.vmalloc.specs.Regions.{windowStart, windowEnd, firstFit, takeFirst, usedSize, merge}
 use Rattle.vmalloc.proofs.Merge.{freedAll}
-use Rattle.vmalloc.proofs.Rows.{Rows, rows-cut, length-cut, rows-freed, length-freed, rows-merge, length-merge}
-use Rattle.vmalloc.proofs.Used.{used-merge, used-freed, used-gone, cut-used, cut-was-free, cut-others}
-use Rattle.vmalloc.proofs.Tiles.{Apart, apart-cut, apart-merge}
+use Rattle.vmalloc.proofs.Rows.{Rows, rows-taken, length-taken, rows-freed, length-freed, rows-merge, length-merge}
+use Rattle.vmalloc.proofs.Used.{used-merge, used-freed, used-gone, taken-used, taken-was-free, taken-others}
+use Rattle.vmalloc.proofs.Tiles.{Apart, apart-taken, apart-merge}
 use Rattle.mmap.specs.declared.MappedRegion.{MappedRegion}
 use Rattle.mmap.specs.Regions.{region, starts, holds, insert, remove}
 use Rattle.mmap.proofs.Rising.{Rising, Placed, rising-insert, length-insert, holds-inserted, holds-others, holds-none, holds-one, rising-remove, length-remove, holds-removed, holds-kept}
@@ -67,32 +67,32 @@ same-at e f = cc
 
 -- a region of n bytes is taken at a
 pub kernel-take : (a n : ℕ) {k : List VMRegion} {l : List Region} → n % 4096 ≡ 0 → 0 < n → KernelList k l → firstFit n k ≡ At a
-    → KernelList (cutFirst true n (ltb (length k) 256) k) (kernels a n ∷ l)
+    → KernelList (takeFirst true n (ltb (length k) 256) k) (kernels a n ∷ l)
 kernel-take a n {k} {l} full pos h f = record {
-  rows = rows-cut true n room full pos windowStart windowEnd k (h .rows);
-  apart = apart-cut n room k (h .apart);
+  rows = rows-taken true n room full pos windowStart windowEnd k (h .rows);
+  apart = apart-taken n room k (h .apart);
   few = short room refl;
   used = λ b m e. by b m e (ℕ-discrete b a);
   live = λ b m e. ⊎-elim
-      (λ q. subst (λ (x : ℕ). usedSize x (cutFirst true n room k) ≡ At m) (sym (kernel-start q))
-      (cut-used n room a windowStart windowEnd k (h .rows) f ∙ ap At (sym (kernel-size q))))
-      (λ q. cut-others n room true a b k f (λ d. not-both (subst (λ (x : ℕ). usedSize x k ≡ At m) d (h .live b m q)) (cut-was-free n room a windowStart windowEnd k (h .rows) f)) ∙ h .live b m q)
+      (λ q. subst (λ (x : ℕ). usedSize x (takeFirst true n room k) ≡ At m) (sym (kernel-start q))
+      (taken-used n room a windowStart windowEnd k (h .rows) f ∙ ap At (sym (kernel-size q))))
+      (λ q. taken-others n room true a b k f (λ d. not-both (subst (λ (x : ℕ). usedSize x k ≡ At m) d (h .live b m q)) (taken-was-free n room a windowStart windowEnd k (h .rows) f)) ∙ h .live b m q)
       (List·Memᴰ·cases-cons e);
 }
   where
     room : Bool
     room = ltb (length k) 256
 
-    short : (y : Bool) → ltb (length k) 256 ≡ y → length (cutFirst true n y k) ≤ 256
-    short true e = omega (arith, length-cut true n true k, ltb-true (length k) 256 e)
-    short false e = omega (arith, length-cut true n false k, h .few)
+    short : (y : Bool) → ltb (length k) 256 ≡ y → length (takeFirst true n y k) ≤ 256
+    short true e = omega (arith, length-taken true n true k, ltb-true (length k) 256 e)
+    short false e = omega (arith, length-taken true n false k, h .few)
 
-    by : (b m : ℕ) → usedSize b (cutFirst true n room k) ≡ At m → Dec (b ≡ a) → List·Memᴰ (kernels b m) (kernels a n ∷ l)
+    by : (b m : ℕ) → usedSize b (takeFirst true n room k) ≡ At m → Dec (b ≡ a) → List·Memᴰ (kernels b m) (kernels a n ∷ l)
     by b m e (yes d) =
-        let z : m ≡ n = same-at (subst (λ (x : ℕ). usedSize x (cutFirst true n room k) ≡ At m) d e) (cut-used n room a windowStart windowEnd k (h .rows) f) in
+        let z : m ≡ n = same-at (subst (λ (x : ℕ). usedSize x (takeFirst true n room k) ≡ At m) d e) (taken-used n room a windowStart windowEnd k (h .rows) f) in
         let q : kernels b m ≡ kernels a n = cc in
         List·Memᴰ·head q
-    by b m e (no d) = List·Memᴰ·tail (h .used b m (sym (cut-others n room true a b k f d) ∙ e))
+    by b m e (no d) = List·Memᴰ·tail (h .used b m (sym (taken-others n room true a b k f d) ∙ e))
 
 -- the region at a is released
 pub kernel-give : (a n : ℕ) {k : List VMRegion} {l : List Region} → KernelList k (kernels a n ∷ l) → Once (kernels a n ∷ l) → KernelList (merge (freedAll a k)) l

@@ -4,19 +4,15 @@ use mathlib.Core.Path.{_≡_, refl, sym, ap, subst}
 use mathlib.Core.Bool.{Bool, true, false, not, false≢true}
 use mathlib.Core.List.{List, [], _∷_, List·Memᴰ·not-nil}
 use native.Mathlib.Omega.{arith}
-use lib.Dec.{eqb, leb}
+use lib.Dec.{eqb}
 use lib.ListN.{length}
-use borrow.Author.Tests.{leb-true, eqb-false, not-true}
+use borrow.Author.Tests.{not-true}
 use Rattle.bits.specs.Bit.{pick, both}
 use Rattle.bits.proofs.Choice.{both-true}
-use Rattle.frame.proofs.Laws.{init-cases}
 use Rattle.allocator.specs.Round.{roundUp}
 use Rattle.answer.specs.Numbers.{brokenRecord, noFreeFrame}
-use Rattle.answer.specs.declared.Answer.{Answer}
-use Rattle.answer.specs.declared.Answer.the-variants.{Met}
 use Rattle.frame.proofs.Steps.{span-with}
 use Rattle.paging.specs.Map.{startOf}
-use Rattle.frame.specs.Frames.{Did as FramesDid}
 use Rattle.paging.specs.declared.Walked.{Walked}
 use Rattle.paging.specs.declared.Walked.the-variants.{At, Stop}
 use Rattle.tree.proofs.Books.{bare-live, bare-tabled}
@@ -26,8 +22,9 @@ use Rattle.vmalloc.specs.declared.VMRegion.{VMRegion}
 use Rattle.vmalloc.specs.Regions.{windowStart, windowEnd, window, usedSize}
 use Rattle.mmap.specs.declared.MappedRegion.{MappedRegion}
 use Rattle.mmap.specs.Regions.{holds}
-use Rattle.board.specs.Board.{Board, Did, did, begun, ready, start}
-use Rattle.release.specs.Demand3.{Call, vmallocs, vfrees, mmaps, munmaps, play, after, Event, events, exhausted, neverExhausted, Region, liveStep, liveFrom, bookStep, bookFrom}
+use Rattle.board.specs.Board.{Board, Did, did, begun, start}
+use Rattle.board.proofs.Start.{start-cases}
+use Rattle.release.specs.Demand3.{Call, vmallocs, vfrees, mmaps, munmaps, play, after, Event, events, turnedAway, noneTurnedAway, Region, liveStep, liveFrom, bookStep, bookFrom}
 use Rattle.release.proofs.Regions.{KernelList, UserList}
 use Rattle.release.proofs.Invariant.{Leftover, nothingLeft, Inv}
 use Rattle.release.proofs.Kernel.{morePages, vmalloc-step, vfree-step}
@@ -45,7 +42,7 @@ everFrom ever [] = ever
 everFrom ever (e ∷ es) = everFrom (everStep ever (e .call) (e .answer)) es
 
 -- one call
-pub step : {b : Board} {k : List VMRegion} {u : List MappedRegion} {l : List Region} {ever : List ℕ} {left : Leftover} → Inv left b k u l ever → (c : Call) → exhausted (play b c .answer) ≡ false
+pub step : {b : Board} {k : List VMRegion} {u : List MappedRegion} {l : List Region} {ever : List ℕ} {left : Leftover} → Inv left b k u l ever → (c : Call) → turnedAway (play b c .answer) ≡ false
     → (u′ : List MappedRegion) × Inv left (play b c .board) (bookStep k c (play b c .answer)) u′ (liveStep l c (play b c .answer)) (everStep ever c (play b c .answer))
 unfolding play
 step {u = u} h (vmallocs size) e = (u, vmalloc-step h size e)
@@ -54,13 +51,13 @@ step h (mmaps wish size prot flags) e = mmap-step h wish size prot flags e
 step h (munmaps a size) e = munmap-step h a size
 
 -- a list of calls
-pub run-inv : (cs : List Call) {b : Board} {k : List VMRegion} {u : List MappedRegion} {l : List Region} {ever : List ℕ} {left : Leftover} → Inv left b k u l ever → neverExhausted (events b cs) ≡ true
+pub run-inv : (cs : List Call) {b : Board} {k : List VMRegion} {u : List MappedRegion} {l : List Region} {ever : List ℕ} {left : Leftover} → Inv left b k u l ever → noneTurnedAway (events b cs) ≡ true
     → (u′ : List MappedRegion) × Inv left (after b cs) (bookFrom k (events b cs)) u′ (liveFrom l (events b cs)) (everFrom ever (events b cs))
 unfolding after events bookFrom liveFrom every
 run-inv [] {u = u} h e = (u, h)
 run-inv (c ∷ cs) {b} h e =
-    let r = both-true (not (exhausted (play b c .answer))) _ e in
-    let s = step h c (not-true (exhausted (play b c .answer)) (r .0)) in
+    let r = both-true (not (turnedAway (play b c .answer))) _ e in
+    let s = step h c (not-true (turnedAway (play b c .answer)) (r .0)) in
     run-inv cs (s .1) (r .1)
 
 -- ---- a fresh board
@@ -118,23 +115,9 @@ module _ (old : Board) (s t : ℕ) (some : 0 < t) (few : t ≤ 8192) (enough : t
 
 -- 'what any met start leaves, whatever the lent record held before'
 pub fresh-inv : (old fresh : Board) (from to : ℕ) → start old from to ≡ did (At 0) fresh → Inv nothingLeft fresh (window ∷ []) [] [] []
-unfolding start
 fresh-inv old fresh from to =
-    init-cases (old .mem .frames) from to P
-    (λ le top e. met (from / 4096) (min ((to - from) / 4096) 8192) (omega arith) (omega arith) e)
+    start-cases old from to (λ (d : Did). d ≡ did (At 0) fresh → Inv nothingLeft fresh (window ∷ []) [] [] [])
+    (λ le top some enough e. subst (λ (x : Board). Inv nothingLeft x (window ∷ []) [] [] []) (ap (λ (d : Did). d .board) e)
+    (begun-inv old (from / 4096) (min ((to - from) / 4096) 8192) some (omega arith) enough (omega arith)))
     (λ e. absurd (refused brokenRecord old fresh e))
-  where
-    P : FramesDid Answer → Type 0
-    P d = ready old (d .answer) (d .frames) ≡ did (At 0) fresh → Inv nothingLeft fresh (window ∷ []) [] [] []
-
-    met : (s t : ℕ) → t ≤ 8192 → s + t ≤ 2 ^ 40 → ready old Met (unused s t) ≡ did (At 0) fresh → Inv nothingLeft fresh (window ∷ []) [] [] []
-    met s t few low e = one (leb (t * 512) (length (old .mem .words))) refl (eqb t 0) refl e
-      where
-        one : (x : Bool) → leb (t * 512) (length (old .mem .words)) ≡ x → (y : Bool) → eqb t 0 ≡ y
-            → pick x (pick y (did (Stop noFreeFrame) old) (did (At 0) (begun old (unused s t)))) (did (Stop brokenRecord) old) ≡ did (At 0) fresh
-            → Inv nothingLeft fresh (window ∷ []) [] [] []
-        one true enough true zero′ e = absurd (refused noFreeFrame old fresh e)
-        one true enough false some e =
-            subst (λ (x : Board). Inv nothingLeft x (window ∷ []) [] [] []) (ap (λ (d : Did). d .board) e)
-            (begun-inv old s t (omega (arith, eqb-false t 0 some)) few (leb-true _ _ enough) low)
-        one false enough y some e = absurd (refused brokenRecord old fresh e)
+    (λ e. absurd (refused noFreeFrame old fresh e))

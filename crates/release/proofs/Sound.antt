@@ -7,7 +7,7 @@ use native.Mathlib.Omega.{arith}
 use lib.ListN.{length}
 use borrow.Author.Tests.{le-leb, eq-eqb}
 use Rattle.tree.proofs.Ordered.{ordered-whole}
-use Rattle.slots.proofs.Filled.{filled, live-filled, drop-filled, every-zero}
+use Rattle.slots.proofs.Filled.{filled, listed-filled, drop-filled, every-zero}
 use Rattle.vmalloc.specs.declared.VMRegion.{VMRegion}
 use Rattle.vmalloc.specs.Regions.{windowStart, windowEnd, isNoSlot, soundRegions}
 use Rattle.vmalloc.specs.Regions.{noSlot as noKernelSlot}
@@ -26,13 +26,13 @@ use Rattle.release.proofs.Invariant.{Leftover, Inv}
 regions-sound : {k : List VMRegion} {l : List Region} → KernelList k l → soundRegions (filled noKernelSlot k) ≡ true
 unfolding soundRegions
 regions-sound {k} h =
-    rw (le-leb _ _ (h .few), live-filled noKernelSlot k, rows-placed windowStart windowEnd k (omega arith) (h .rows), drop-filled noKernelSlot k)
+    rw (le-leb _ _ (h .few), listed-filled noKernelSlot k, rows-placed windowStart windowEnd k (omega arith) (h .rows), drop-filled noKernelSlot k)
     (every-zero noKernelSlot isNoSlot refl (256 - length k))
 
 mappings-sound : {u : List MappedRegion} {l : List Region} (next : ℕ) → UserList u l → next % 4096 ≡ 0 → soundMappings (filled noUserSlot u) next ≡ true
 unfolding soundMappings
 mappings-sound {u} next h e =
-    rw (le-leb _ _ (h .few), live-filled noUserSlot u, rising-test 0 u (h .rising), rising-placed 0 u (h .rising), eq-eqb (next % 4096) 0 e)
+    rw (le-leb _ _ (h .few), listed-filled noUserSlot u, rising-test 0 u (h .rising), rising-placed 0 u (h .rising), eq-eqb (next % 4096) 0 e)
 
 module _ {b : Board} {k : List VMRegion} {u : List MappedRegion} {l : List Region} {ever : List ℕ} {left : Leftover} (h : Inv left b k u l ever) where
   pub kernel-sound : soundKernel (kernel (b .mem) (b .kernel)) (b .root) ≡ true

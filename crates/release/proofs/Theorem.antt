@@ -1,5 +1,6 @@
 -- Demand 3.
 use Prim.Native.Nat.{ℕ, zero, suc, _+_, _-_, _/_, _<_, _≤_}
+use mathlib.Core.Bool.{true}
 use mathlib.Core.Path.{_≡_, refl, sym, _∙_, ap, subst}
 use mathlib.Core.Logic.{_⊎_, inl, inr, ⊎-elim, ∥∥₁-elim}
 use mathlib.Core.HLevel.{⊥-prop}
@@ -21,13 +22,13 @@ use Rattle.tree.proofs.Paths.{Leads, leads-take, leads-length, take-leads, path
 use Rattle.tree.proofs.Ordered.{reachIn, markIn, Ordered, root-marked}
 use Rattle.tree.proofs.Books.{Live, silent, tables-only}
 use Rattle.tree.proofs.Counts.{counter-paths}
-use Rattle.slots.proofs.Filled.{filled, live-filled}
-use Rattle.slots.specs.Slots.{live}
+use Rattle.slots.proofs.Filled.{filled, listed-filled}
+use Rattle.slots.specs.Slots.{listed}
 use Rattle.vmalloc.specs.declared.VMRegion.{VMRegion}
-use Rattle.vmalloc.specs.Regions.{noSlot as noKernelSlot}
+use Rattle.vmalloc.specs.Regions.{window, noSlot as noKernelSlot}
 use Rattle.mmap.specs.declared.MappedRegion.{MappedRegion}
 use Rattle.board.specs.Board.{Board}
-use Rattle.release.specs.Demand3.{Call, vmallocs, vfrees, mmaps, munmaps, after, Event, events, bornBy, everLive, pagesFrom, pagesOf, runsOf, concat, leadingRuns, different, PageTable, book, Demand3}
+use Rattle.release.specs.Demand3.{Call, vmallocs, vfrees, mmaps, munmaps, after, Event, events, bornBy, everLive, pagesFrom, pagesOf, runsOf, concat, leadingRuns, different, PageTable, book, neverCut, Ended, BookHolds, Demand3}
 use Rattle.release.proofs.Lists.{Once, concat-append, concat-member, member-concat}
 use Rattle.release.proofs.Different.{among-member, member-among, different-from, different-all, different-once}
 use Rattle.release.proofs.Invariant.{nothingLeft, Inv}
@@ -173,31 +174,41 @@ nothing r s e = omega arith
 
 -- ---- the theorem
 
+-- an end is one with no live region
+ended : {x : Board} {k : List VMRegion} {u : List MappedRegion} (es : List Event) → Inv nothingLeft x k u [] (everFrom [] es)
+    → (neverCut es ≡ true → k ≡ window ∷ []) → Ended es x
+ended {x} es g whole =
+    let tree = g .paged .account .order .tree in
+    record {
+      no-address = λ v. silent (none-live es g) (g .paged .account .order) (g .paged .plain) v;
+      root-first = g .first;
+      root-marked = ap (marked (x .mem .frames .bits)) (nothing _ _ (g .first)) ∙ root-kept es g;
+      tables-marked = λ f t.
+          let ins = tree .into (t .path) f (omega (arith, t .above)) (t .reached) in
+          let from = inside-from (startOf (x .mem)) (totalOf (x .mem)) f ins in
+          (from, omega (arith, from, inside-under (startOf (x .mem)) (totalOf (x .mem)) f ins), tree .kept (t .path) f (omega (arith, t .above)) (t .reached));
+      no-other-marked = other-marked es g;
+      counter = counter-is es g;
+      run-has-table = λ p m. let t = run-table es g p (among-member p (leadingRuns es) m) in (t .0, t .1);
+      table-has-run = λ f t. member-among (t .path) (leadingRuns es) (table-run es g (t .path) f (t .proper) (t .above) (t .reached));
+      one-run-each = λ f t t′. tree .once (t .path) (t′ .path) f (omega (arith, t .above)) (omega (arith, t′ .above)) (t .reached) (t′ .reached);
+      one-window = λ q. g .kernelIs ∙ ap (filled noKernelSlot) (whole q);
+    }
+
 pub demand3 : Demand3
 demand3 old fresh from to st cs ne lr rs rs′ o o′ =
     let es = events fresh cs in
     let b = after fresh cs in
     let r = run-inv cs (fresh-inv old fresh from to st) ne in
-    let h = r .1 in
-    let e = order-end h o in
-    let root : after b rs .root ≡ b .root = ap (λ (y : Board). y .root) (e .leaves) in
+    let e = order-end (r .1) o in
     let g : Inv nothingLeft (after b rs) (foldl kernelAfter (book es) (o .0)) (foldl userAfter (r .0) (o .0)) [] (everFrom [] es) =
     subst (λ (y : Board). Inv nothingLeft y (foldl kernelAfter (book es) (o .0)) (foldl userAfter (r .0) (o .0)) [] (everFrom [] es)) (sym (e .leaves)) (e .inv) in
-    let tree = g .paged .account .order .tree in
     record {
-      book-holds = ap live (h .kernelIs) ∙ live-filled noKernelSlot (book es);
       met = e .met;
-      same = one-board h o o′;
-      no-address = λ v. silent (none-live es g) (g .paged .account .order) (g .paged .plain) v;
-      root-marked = (sym root ∙ g .first, ap (marked (after b rs .mem .frames .bits)) (nothing _ _ (g .first)) ∙ root-kept es g);
-      tables-marked = λ f t.
-          let ins = tree .into (t .path) f (omega (arith, t .above)) (t .reached) in
-          (inside-from _ _ f ins, omega (arith, inside-from (startOf (after b rs .mem)) (totalOf (after b rs .mem)) f ins, inside-under (startOf (after b rs .mem)) (totalOf (after b rs .mem)) f ins), tree .kept (t .path) f (omega (arith, t .above)) (t .reached));
-      no-other-marked = other-marked es g;
-      counter = counter-is es g;
-      run-has-table = λ p m. let t = run-table es g p (among-member p (leadingRuns es) m) in (t .0, subst (λ (y : ℕ). reachIn (after b rs .mem) y p ≡ At (t .0)) root (t .1));
-      table-has-run = λ f t. member-among (t .path) (leadingRuns es) (table-run es g (t .path) f (t .proper) (t .above) (t .reached));
-      one-table-each = λ f t t′. tree .once (t .path) (t′ .path) f (omega (arith, t .above)) (omega (arith, t′ .above)) (t .reached) (t′ .reached);
-      one-window = λ q. g .kernelIs ∙ ap (filled noKernelSlot)
-          (one-window (g .kernelList) (whole-end (o .0) (book es) (whole-run cs (fresh-inv old fresh from to st) ne q whole-window)));
+      same = one-board (r .1) o o′;
+      ended = ended es g (λ q. one-window (g .kernelList) (whole-end (o .0) (book es) (whole-run cs (fresh-inv old fresh from to st) ne q whole-window)));
     }
+
+pub book-holds : BookHolds
+book-holds old fresh from to st cs ne =
+    ap listed (run-inv cs (fresh-inv old fresh from to st) ne .1 .kernelIs) ∙ listed-filled noKernelSlot (book (events fresh cs))

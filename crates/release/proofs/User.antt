@@ -20,8 +20,8 @@ use Rattle.tree.proofs.Paths.{path}
 use Rattle.tree.proofs.Ordered.{reachIn}
 use Rattle.tree.proofs.Books.{Takes, none, more}
 use Rattle.tree.proofs.Runs.{run, map-pages-met}
-use Rattle.slots.specs.Slots.{live, store}
-use Rattle.slots.proofs.Filled.{filled, live-filled, store-filled}
+use Rattle.slots.specs.Slots.{listed, store}
+use Rattle.slots.proofs.Filled.{filled, listed-filled, store-filled}
 use Rattle.vmalloc.specs.declared.VMRegion.{VMRegion}
 use Rattle.mmap.specs.declared.MappedRegion.{MappedRegion}
 use Rattle.mmap.specs.Regions.{writable, region, starts, insert, holds, remove}
@@ -30,7 +30,7 @@ use Rattle.mmap.specs.Calls.{User, user, Did, Wish, full, userPages, mapped, mm
 use Rattle.mmap.proofs.Rising.{Placed, holds-placed, holds-one, holds-none}
 use Rattle.mmap.proofs.Calls.{room, mmap-cases, munmap-cases, chosen-place}
 use Rattle.board.specs.Board.{Board}
-use Rattle.release.specs.Demand3.{mmaps, munmaps, exhausted, Region, users, dropUser, liveStep, pagesFrom, pagesOf}
+use Rattle.release.specs.Demand3.{mmaps, munmaps, turnedAway, Region, users, dropUser, liveStep, pagesFrom, pagesOf}
 use Rattle.release.proofs.Lists.{member-concat}
 use Rattle.release.proofs.Regions.{kernel-more, kernel-fewer, user-take, user-give, drop-user}
 use Rattle.release.proofs.Invariant.{Leftover, with-is, Inv, inv-perm, paged-take, paged-stop, take-start, paged-give, give-start}
@@ -60,8 +60,8 @@ first-off [] none k e x r = let z : _≡_ {A = ℕ} 0 1 = cc in omega arith
 first-off {root} {v} {m} (v′ ∷ l) (more t s) k e x r = let q : v′ ≡ v = cc in t .off x (ap (λ (y : ℕ). reachIn m root (path 3 y)) q ∙ r)
 
 module _ {b : Board} {k : List VMRegion} {u : List MappedRegion} {l : List Region} {ever : List ℕ} {left : Leftover} (h : Inv left b k u l ever) where
-  pub user-listed : live (b .user) ≡ u
-  user-listed = ap live (h .userIs) ∙ live-filled noUserSlot u
+  pub user-listed : listed (b .user) ≡ u
+  user-listed = ap listed (h .userIs) ∙ listed-filled noUserSlot u
 
   pub user-stored : (u′ : List MappedRegion) → length u′ ≤ 256 → store noUserSlot u′ (b .user) ≡ filled noUserSlot u′
   user-stored u′ few = ap (store noUserSlot u′) (h .userIs) ∙ store-filled noUserSlot u u′ (h .userList .few) few
@@ -108,7 +108,7 @@ module _ {b : Board} {k : List VMRegion} {u : List MappedRegion} {l : List Regio
       }
 
   -- mmap
-  pub mmap-step : (wish : Wish) (size : ℕ) (prot flags : ℤ) → let d = mmap 3 (userOf b) (b .root) wish size prot flags in exhausted (d .answer) ≡ false
+  pub mmap-step : (wish : Wish) (size : ℕ) (prot flags : ℤ) → let d = mmap 3 (userOf b) (b .root) wish size prot flags in turnedAway (d .answer) ≡ false
       → (u′ : List MappedRegion) × Inv left (withUser b (d .user)) k u′ (liveStep l (mmaps wish size prot flags) (d .answer)) (morePages ever (d .answer) (roundUp 12 size))
   mmap-step wish size prot flags =
       mmap-cases 3 (userOf b) (b .root) wish size prot flags P
@@ -118,7 +118,7 @@ module _ {b : Board} {k : List VMRegion} {u : List MappedRegion} {l : List Regio
       by a (record { even = q .0; whole = round-multiple 12 size; some = round-pos 12 size pos; end = q .1 }) f (userPages 3 (b .mem) (b .root) a (roundUp 12 size) prot .walked) refl)
     where
       P : Did → Type 0
-      P d = exhausted (d .answer) ≡ false → (u′ : List MappedRegion) × Inv left (withUser b (d .user)) k u′ (liveStep l (mmaps wish size prot flags) (d .answer)) (morePages ever (d .answer) (roundUp 12 size))
+      P d = turnedAway (d .answer) ≡ false → (u′ : List MappedRegion) × Inv left (withUser b (d .user)) k u′ (liveStep l (mmaps wish size prot flags) (d .answer)) (morePages ever (d .answer) (roundUp 12 size))
 
       by : (a : ℕ) → Placed a (roundUp 12 size) → full (userOf b) a ≡ false → (w : Walked) → userPages 3 (b .mem) (b .root) a (roundUp 12 size) prot .walked ≡ w
           → P (mapped 3 (userOf b) (b .root) a (roundUp 12 size) prot flags w (userPages 3 (b .mem) (b .root) a (roundUp 12 size) prot .done) (userPages 3 (b .mem) (b .root) a (roundUp 12 size) prot .mem))

@@ -15,16 +15,16 @@ use Rattle.paging.specs.declared.Walked.{Walked}
 use Rattle.paging.specs.declared.Walked.the-variants.{At, Stop}
 use Rattle.slots.specs.Slots.{every}
 use Rattle.vmalloc.specs.declared.VMRegion.{VMRegion}
-use Rattle.vmalloc.specs.Regions.{windowStart, windowEnd, window, firstFit, cutFirst, usedSize, freeFirst, merge}
+use Rattle.vmalloc.specs.Regions.{windowStart, windowEnd, window, firstFit, takeFirst, usedSize, freeFirst, merge}
 use Rattle.vmalloc.specs.Calls.{Did, kernel, kernelPages, mapped, vmalloc}
 use Rattle.vmalloc.proofs.Merge.{freedAll}
 use Rattle.vmalloc.proofs.Rows.{freed-first}
 use Rattle.vmalloc.proofs.Used.{all-free}
-use Rattle.vmalloc.proofs.Tiles.{apart-merged, Tiled, tiled-freed, tiled-merge, tiled-cut, cut-exact, one-region}
+use Rattle.vmalloc.proofs.Tiles.{apart-merged, Tiled, tiled-freed, tiled-merge, tiled-taken, taken-exact, one-region}
 use Rattle.vmalloc.proofs.Calls.{vmalloc-cases, walked-cases}
 use Rattle.mmap.specs.declared.MappedRegion.{MappedRegion}
 use Rattle.board.specs.Board.{Board}
-use Rattle.release.specs.Demand3.{Call, vmallocs, vfrees, mmaps, munmaps, play, events, exhausted, neverExhausted, Region, kernels, users, takePart, freePart, joinParts, exceeds, bookStep, bookFrom, cuts, uncutFrom}
+use Rattle.release.specs.Demand3.{Call, vmallocs, vfrees, mmaps, munmaps, play, events, turnedAway, noneTurnedAway, Region, kernels, users, takePart, freePart, joinParts, exceeds, bookStep, bookFrom, cuts, uncutFrom}
 use Rattle.release.proofs.Book.{take-cut, exceeds-larger, free-part, join-parts}
 use Rattle.release.proofs.Regions.{KernelList, not-both}
 use Rattle.release.proofs.Invariant.{Leftover, Inv}
@@ -54,11 +54,11 @@ module _ {b : Board} {k : List VMRegion} {u : List MappedRegion} {l : List Regio
   whole-take : (n a : ℕ) → firstFit n k ≡ At a → both (leb 256 (length k)) (exceeds a n k) ≡ false → Whole (takePart a n (ltb (length k) 256) k)
   whole-take n a f q = rw (take-cut n a windowStart windowEnd (ltb (length k) 256) k (h .kernelList .rows) f) (by (ltb (length k) 256) refl)
     where
-      by : (room : Bool) → ltb (length k) 256 ≡ room → Whole (cutFirst true n room k)
-      by true e = tiled-cut true n windowStart windowEnd k t
+      by : (room : Bool) → ltb (length k) 256 ≡ room → Whole (takeFirst true n room k)
+      by true e = tiled-taken true n windowStart windowEnd k t
       by false e =
           let x : exceeds a n k ≡ false = subst (λ (y : Bool). both y (exceeds a n k) ≡ false) (le-leb 256 (length k) (ltb-false (length k) 256 e)) q in
-          rw (cut-exact true false n k (sym (exceeds-larger n a windowStart windowEnd k (h .kernelList .rows) f) ∙ x)) (tiled-cut true n windowStart windowEnd k t)
+          rw (taken-exact true false n k (sym (exceeds-larger n a windowStart windowEnd k (h .kernelList .rows) f) ∙ x)) (tiled-taken true n windowStart windowEnd k t)
 
   whole-give : (a : ℕ) → Whole (joinParts (freePart a k))
   whole-give a =
@@ -76,14 +76,14 @@ module _ {b : Board} {k : List VMRegion} {u : List MappedRegion} {l : List Regio
   whole-step (munmaps a size) = λ q. t
 
 -- a list of calls
-pub whole-run : (cs : List Call) {b : Board} {k : List VMRegion} {u : List MappedRegion} {l : List Region} {ever : List ℕ} {left : Leftover} → Inv left b k u l ever → neverExhausted (events b cs) ≡ true
+pub whole-run : (cs : List Call) {b : Board} {k : List VMRegion} {u : List MappedRegion} {l : List Region} {ever : List ℕ} {left : Leftover} → Inv left b k u l ever → noneTurnedAway (events b cs) ≡ true
     → uncutFrom k (events b cs) ≡ true → Whole k → Whole (bookFrom k (events b cs))
 unfolding events bookFrom uncutFrom every
 whole-run [] h e q t = t
 whole-run (c ∷ cs) {b} {k} h e q t =
-    let r = both-true (not (exhausted (play b c .answer))) _ e in
+    let r = both-true (not (turnedAway (play b c .answer))) _ e in
     let s = both-true (not (cuts k c (play b c .answer))) _ q in
-    whole-run cs (step h c (not-true (exhausted (play b c .answer)) (r .0)) .1) (r .1) (s .1) (whole-step h t c (not-true (cuts k c (play b c .answer)) (s .0)))
+    whole-run cs (step h c (not-true (turnedAway (play b c .answer)) (r .0)) .1) (r .1) (s .1) (whole-step h t c (not-true (cuts k c (play b c .answer)) (s .0)))
 
 pub whole-window : Whole (window ∷ [])
 whole-window = (refl, refl)

@@ -1,5 +1,5 @@
--- Demand 3, the release paper, as one statement. It speaks of the definitions of the four calls (crates vmalloc and mmap) and of the board's start (crate board); what
--- 'live', 'page tables', 'the window book' and 'cut' mean is defined here from calls and answers, as document 01 does under 'The release paper'.
+-- Demand 3, the release paper, as one statement. It speaks of the definitions of the four calls (crates vmalloc and mmap) and of the board's start (crate board). What
+-- 'live', 'the window book' and 'cut' mean is defined here from calls and answers, and 'page tables' from the words, as document 01 does under 'The release paper'.
 use Prim.Native.Nat.{ℕ, zero, suc, _+_, _-_, _/_, _^_, _≤_, _<_}
 use mathlib.Core.Path.{_≡_}
 use mathlib.Core.Bool.{Bool, true, false, not}
@@ -10,7 +10,7 @@ use lib.Dec.{eqb, leb, ltb}
 use lib.ListN.{length, take, replicate}
 use Rattle.bits.specs.Bit.{pick, both}
 use Rattle.allocator.specs.Round.{rounded, roundUp}
-use Rattle.answer.specs.Numbers.{noFreeFrame, mapFailed, notMapped}
+use Rattle.answer.specs.Numbers.{noFreeFrame, mapPageFailed, notMapped}
 use Rattle.answer.specs.declared.CountAnswer.the-variants.{Count}
 use Rattle.entry.specs.Entry.{indices}
 use Rattle.bitmap.specs.Bitmap.{marked as markOf}
@@ -19,12 +19,12 @@ use Rattle.paging.specs.declared.Walked.the-variants.{At, Stop}
 use Rattle.paging.specs.Walk.{reach}
 use Rattle.paging.specs.Map.{startOf, totalOf}
 use Rattle.paging.specs.Calls.{translate}
-use Rattle.slots.specs.Slots.{live as liveSlots, every}
+use Rattle.slots.specs.Slots.{listed, every}
 use Rattle.vmalloc.specs.declared.VMRegion.{VMRegion}
 use Rattle.vmalloc.specs.Regions.{window, noSlot, region, joins}
 use Rattle.vmalloc.specs.Calls.{kernel, vmalloc, vfree}
 use Rattle.mmap.specs.Regions.{fixed}
-use Rattle.mmap.specs.Calls.{user, Wish, anywhere, wished, aligned, mmap, munmap}
+use Rattle.mmap.specs.Calls.{user, Wish, anywhere, wished, onPage, mmap, munmap}
 use Rattle.board.specs.Board.{Board, Did, did, start}
 
 -- ---- lists of calls
@@ -71,15 +71,15 @@ isMet (At x) = true
 isMet (Stop n) = false
 
 -- turned away with 11 or 13
-abbrev pub exhausted : Walked → Bool
-exhausted (At x) = false
-exhausted (Stop n) = pick (eqb n noFreeFrame) true (eqb n mapFailed)
+abbrev pub turnedAway : Walked → Bool
+turnedAway (At x) = false
+turnedAway (Stop n) = pick (eqb n noFreeFrame) true (eqb n mapPageFailed)
 
 -- ---- the two conditions
 
 -- 'no call was turned away with 11 or 13'
-abbrev pub neverExhausted : List Event → Bool
-neverExhausted es = every (λ e. not (exhausted (e .answer))) es
+abbrev pub noneTurnedAway : List Event → Bool
+noneTurnedAway es = every (λ e. not (turnedAway (e .answer))) es
 
 -- 'every fixed or page-aligned hinted range ends at or below 2^47': it 'runs from the given address over the rounded size; it counts where its mmap is met or turned away
 -- with 11 or 13'
@@ -87,11 +87,11 @@ abbrev pub lowRange : Call → Bool
 lowRange (vmallocs size) = true
 lowRange (vfrees a) = true
 lowRange (mmaps anywhere size prot flags) = true
-lowRange (mmaps (wished a) size prot flags) = pick (pick (fixed flags) true (aligned a)) (leb (a + roundUp 12 size) (2 ^ 47)) true
+lowRange (mmaps (wished a) size prot flags) = pick (pick (fixed flags) true (onPage a)) (leb (a + roundUp 12 size) (2 ^ 47)) true
 lowRange (munmaps a size) = true
 
 abbrev pub counts : Walked → Bool
-counts w = pick (isMet w) true (exhausted w)
+counts w = pick (isMet w) true (turnedAway w)
 
 abbrev pub lowRanges : List Event → Bool
 lowRanges es = every (λ e. pick (counts (e .answer)) (lowRange (e .call)) true) es
@@ -285,32 +285,45 @@ neverCut es = uncutFrom (window ∷ []) es
 
 -- ---- the statement
 
--- what holds of a board b that the events es led to, for two orders rs and rs′ of releasing
+-- what holds of the board e that is left when all regions are released which the events es left live
+pub record Ended (es : List Event) (e : Board) : Type 0 where
+  -- 'There no address translates'
+  pub no-address : (v : ℕ) → translate 3 (e .mem .words) (startOf (e .mem)) (totalOf (e .mem)) (e .root) v ≡ Stop notMapped
+  -- 'exactly the root and the page tables are still marked': the root is the first of the lent frames
+  pub root-first : e .root ≡ startOf (e .mem)
+  pub root-marked : markOf (e .mem .frames .bits) 0 ≡ 1
+  pub tables-marked : (f : ℕ) → PageTable e f
+      → (startOf (e .mem) ≤ f) × (f < startOf (e .mem) + totalOf (e .mem)) × (markOf (e .mem .frames .bits) (f - startOf (e .mem)) ≡ 1)
+  pub no-other-marked : (f : ℕ) → f < totalOf (e .mem) → markOf (e .mem .frames .bits) f ≡ 1 → (f ≡ 0) ⊎ PageTable e (startOf (e .mem) + f)
+  -- 'counter = 1 + page tables', where there is 'one for each different run of leading indices .. of pages of all regions ever live': each of these runs comes to a page
+  -- table, each page table lies at such a run, and at one alone, so that there are as many page tables as different runs. The root is none of them: were it
+  -- reached along a run, then a walk round that loop would make some address translate
+  pub counter : e .mem .frames .fa .allocated ≡ 1 + length (different (leadingRuns es))
+  pub run-has-table : (p : List ℕ) → among p (leadingRuns es) ≡ true → (f : ℕ) × (reach (e .mem .words) (startOf (e .mem)) (totalOf (e .mem)) (e .root) p ≡ At f)
+  pub table-has-run : (f : ℕ) (t : PageTable e f) → among (t .path) (leadingRuns es) ≡ true
+  pub one-run-each : (f : ℕ) (t t′ : PageTable e f) → t .path ≡ t′ .path
+  -- 'if no vmalloc cut a larger region while the vmalloc list held 256, the kernel window is one free region again'
+  pub one-window : neverCut es ≡ true → e .kernel ≡ record { slots = window ∷ replicate 255 noSlot; count = 1 }
+
+-- what holds of the board b that the events es led to, for two orders rs and rs′ of releasing; each may stand in the other's place
 pub record Released (b : Board) (es : List Event) (rs rs′ : List Call) : Type 0 where
-  -- 'the vmalloc list holds exactly the book's parts' (in the book's order, even)
-  pub book-holds : liveSlots (b .kernel) ≡ book es
   -- 'each release is met'
   pub met : every (λ e. isMet (e .answer)) (events b rs) ≡ true
-  -- 'both end in one and the same state, every lent word and record equal' (the order of the vmalloc slots too)
+  -- 'both end in one and the same state, every lent word and record equal' (the order of the vmalloc slots too, after a cut as well)
   pub same : after b rs ≡ after b rs′
-  -- 'There no address translates'
-  pub no-address : (v : ℕ) → translate 3 (after b rs .mem .words) (startOf (after b rs .mem)) (totalOf (after b rs .mem)) (after b rs .root) v ≡ Stop notMapped
-  -- 'exactly the root and the page tables are still marked'
-  pub root-marked : (b .root ≡ startOf (after b rs .mem)) × (markOf (after b rs .mem .frames .bits) 0 ≡ 1)
-  pub tables-marked : (f : ℕ) → PageTable (after b rs) f → (startOf (after b rs .mem) ≤ f) × (f < startOf (after b rs .mem) + totalOf (after b rs .mem)) × (markOf (after b rs .mem .frames .bits) (f - startOf (after b rs .mem)) ≡ 1)
-  pub no-other-marked : (f : ℕ) → f < totalOf (after b rs .mem) → markOf (after b rs .mem .frames .bits) f ≡ 1 → (f ≡ 0) ⊎ PageTable (after b rs) (startOf (after b rs .mem) + f)
-  -- 'counter = 1 + page tables', where there is 'one for each different run of leading indices .. of pages of all regions ever live'
-  pub counter : after b rs .mem .frames .fa .allocated ≡ 1 + length (different (leadingRuns es))
-  pub run-has-table : (p : List ℕ) → among p (leadingRuns es) ≡ true → (f : ℕ) × (reach (after b rs .mem .words) (startOf (after b rs .mem)) (totalOf (after b rs .mem)) (b .root) p ≡ At f)
-  pub table-has-run : (f : ℕ) (t : PageTable (after b rs) f) → among (t .path) (leadingRuns es) ≡ true
-  pub one-table-each : (f : ℕ) (t t′ : PageTable (after b rs) f) → t .path ≡ t′ .path
-  -- 'if no vmalloc cut a larger region while the vmalloc list held 256, the kernel window is one free region again'
-  pub one-window : neverCut es ≡ true → after b rs .kernel ≡ record { slots = window ∷ replicate 255 noSlot; count = 1 }
+  pub ended : Ended es (after b rs)
 
 -- 'For every list of vmalloc, vfree, mmap and munmap calls, refused ones included, from a fresh board': 'what any met start leaves', whatever the lent parts held before
 abbrev pub Demand3 : Type 0
 Demand3 =
     (old fresh : Board) (from to : ℕ) → start old from to ≡ did (At 0) fresh
-    → (cs : List Call) → neverExhausted (events fresh cs) ≡ true → lowRanges (events fresh cs) ≡ true
+    → (cs : List Call) → noneTurnedAway (events fresh cs) ≡ true → lowRanges (events fresh cs) ≡ true
     → (rs rs′ : List Call) → Order (live (events fresh cs)) rs → Order (live (events fresh cs)) rs′
     → Released (after fresh cs) (events fresh cs) rs rs′
+
+-- 'While no call was turned away with 11 or 13, the vmalloc list holds exactly the book's parts, free and used alike' (in the order of their addresses)
+abbrev pub BookHolds : Type 0
+BookHolds =
+    (old fresh : Board) (from to : ℕ) → start old from to ≡ did (At 0) fresh
+    → (cs : List Call) → noneTurnedAway (events fresh cs) ≡ true
+    → listed (after fresh cs .kernel) ≡ book (events fresh cs)

@@ -1,4 +1,4 @@
--- Lists of 256 slots whose slots past the count are zero: storing a new live part leaves such a list.
+-- Lists of 256 slots whose slots past the count are zero: storing a new list leaves such slots.
 use Prim.Native.Nat.{ℕ, zero, suc, _+_, _-_, _≤_, max}
 use mathlib.Core.Path.{_≡_, refl, _∙_, ap}
 use mathlib.Core.Bool.{Bool, true}
@@ -7,15 +7,15 @@ use native.Mathlib.Omega.{arith}
 use native.Mathlib.Decide.{decLe}
 use lib.ListN.{length, drop, replicate, replicate-append-replicate}
 use lib.Seq.{take-at, drop-at, drop-append-add}
-use Rattle.slots.specs.Slots.{Slots, live, store, every}
+use Rattle.slots.specs.Slots.{Slots, listed, store, every}
 
 module _ {A : Type 0} (z : A) where
-  -- the live part l, and zero slots up to 256
+  -- l listed, and zero slots up to 256
   abbrev pub filled : List A → Slots A
   filled l = record { slots = l ++ replicate (256 - length l) z; count = length l }
 
-  pub live-filled : (l : List A) → live (filled l) ≡ l
-  live-filled l = take-at l (replicate (256 - length l) z) (length l) refl
+  pub listed-filled : (l : List A) → listed (filled l) ≡ l
+  listed-filled l = take-at l (replicate (256 - length l) z) (length l) refl
 
   pub drop-filled : (l : List A) → drop (length l) (filled l .slots) ≡ replicate (256 - length l) z
   drop-filled l = drop-at l (replicate (256 - length l) z) (length l) refl
@@ -25,7 +25,7 @@ module _ {A : Type 0} (z : A) where
   drop-replicate (suc k) zero = let e : 0 - suc k ≡ 0 = omega arith in rw e
   drop-replicate (suc k) (suc n) = let e : suc n - suc k ≡ n - k = omega arith in rw e (drop-replicate k n)
 
-  -- what follows a new live part of m slots after one of k
+  -- what follows m listed slots after k of them were
   rest : (l : List A) (m : ℕ) → length l ≤ 256 → m ≤ 256
       → replicate (length l - m) z ++ drop (max (length l) m) (filled l .slots) ≡ replicate (256 - m) z
   rest l m h k = by (decLe (length l) m)

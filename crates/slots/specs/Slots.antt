@@ -1,4 +1,4 @@
--- A list lent as a slice of slots and a count: the first `count` slots are live.
+-- A list lent as slots and a count: the first `count` slots are listed. All three lists of the board are lent as 256 slots, by their type.
 use Prim.Native.Nat.{ℕ, _-_, max}
 use mathlib.Core.Bool.{Bool, true}
 use mathlib.Core.List.{List, [], _∷_, _++_}
@@ -9,13 +9,13 @@ pub record Slots (A : Type 0) : Type 0 where
   pub slots : List A
   pub count : ℕ
 
-abbrev pub live : {A : Type 0} → Slots A → List A
-live s = take (s .count) (s .slots)
+abbrev pub listed : {A : Type 0} → Slots A → List A
+listed s = take (s .count) (s .slots)
 
--- the slots once their live part is l: 'a removal zeroes the slot that falls past the count'; the others past it stay as they are
+-- the slots once l is what they list: 'a removal zeroes the slot that falls past the count'; the others past it stay as they are
 unfoldable pub store : {A : Type 0} → A → List A → Slots A → Slots A
-store zero l s = record {
-  slots = l ++ (replicate (s .count - length l) zero ++ drop (max (s .count) (length l)) (s .slots));
+store blank l s = record {
+  slots = l ++ (replicate (s .count - length l) blank ++ drop (max (s .count) (length l)) (s .slots));
   count = length l;
 }
 

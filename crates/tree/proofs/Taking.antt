@@ -5,7 +5,7 @@ use mathlib.Core.Bool.{Bool}
 use mathlib.Core.List.{List, _∷_}
 use mathlib.Core.Logic.{_⊎_, inl, inr}
 use native.Mathlib.Omega.{arith}
-use Rattle.answer.specs.Numbers.{noFreeFrame, mapFailed}
+use Rattle.answer.specs.Numbers.{noFreeFrame, mapPageFailed}
 use Rattle.address.specs.declared.FrameAnswer.{FrameAnswer}
 use Rattle.bitmap.specs.Bitmap.{marked}
 use Rattle.entry.specs.Entry.{entryOf}
@@ -23,7 +23,7 @@ use Rattle.tree.proofs.Taken.{Took, Lost, mapFrame, frame-took, frame-l
 
 module _ {m : Memory} {root up : ℕ} (o : Ordered m root (suc up)) (w u : Bool) (v : ℕ) where
   -- the three outcomes: 11 and nothing done, 13 and a frame lost, met
-  pub take-page-cases : (P : Out → Type 0) → P (out (Stop noFreeFrame) m) → ((f : ℕ) (m′ : Memory) → Lost m root up v f m′ → P (out (Stop mapFailed) m′))
+  pub take-page-cases : (P : Out → Type 0) → P (out (Stop noFreeFrame) m) → ((f : ℕ) (m′ : Memory) → Lost m root up v f m′ → P (out (Stop mapPageFailed) m′))
       → ((f x : ℕ) (m′ : Memory) → Took m root up v f m′ → P (out (At x) m′)) → P (mapFresh up w u m root v)
   unfolding mapFresh freshFrame
   take-page-cases P none fails met =
@@ -51,15 +51,15 @@ module _ {m : Memory} {root up : ℕ} (o : Ordered m root (suc up)) (w u : Bool)
       (λ h. refl) (λ f m′ l h. let z : _≡_ {A = ℕ} 13 11 = cc in absurd (omega arith)) (λ f y m′ t h. absurd (nowhere (sym h)))
 
   -- 13: a frame is lost
-  pub take-failed : mapFresh up w u m root v .walked ≡ Stop mapFailed → (f : ℕ) × Lost m root up v f (mapFresh up w u m root v .mem)
+  pub take-failed : mapFresh up w u m root v .walked ≡ Stop mapPageFailed → (f : ℕ) × Lost m root up v f (mapFresh up w u m root v .mem)
   take-failed =
-      take-page-cases (λ (r : Out). r .walked ≡ Stop mapFailed → (f : ℕ) × Lost m root up v f (r .mem))
+      take-page-cases (λ (r : Out). r .walked ≡ Stop mapPageFailed → (f : ℕ) × Lost m root up v f (r .mem))
       (λ h. let z : _≡_ {A = ℕ} 11 13 = cc in absurd (omega arith)) (λ f m′ l h. (f, l)) (λ f y m′ t h. absurd (nowhere (sym h)))
 
   -- no other number is said
-  pub take-number : (a : ℕ) → mapFresh up w u m root v .walked ≡ Stop a → (a ≡ noFreeFrame) ⊎ (a ≡ mapFailed)
+  pub take-number : (a : ℕ) → mapFresh up w u m root v .walked ≡ Stop a → (a ≡ noFreeFrame) ⊎ (a ≡ mapPageFailed)
   take-number a =
-      take-page-cases (λ (r : Out). r .walked ≡ Stop a → (a ≡ noFreeFrame) ⊎ (a ≡ mapFailed))
+      take-page-cases (λ (r : Out). r .walked ≡ Stop a → (a ≡ noFreeFrame) ⊎ (a ≡ mapPageFailed))
       (λ h. inl (cc)) (λ f m′ l h. inr (cc)) (λ f y m′ t h. absurd (nowhere (sym h)))
 
 -- the account of the frames: one is lost with 13 alone
@@ -70,5 +70,5 @@ module _ {m : Memory} {root up : ℕ} {lost : List ℕ} (c : Accounted m root (s
   pub full-accounted : mapFresh up w u m root v .walked ≡ Stop noFreeFrame → Accounted (mapFresh up w u m root v .mem) root (suc up) lost
   full-accounted h = rw (take-full (c .order) w u v h) c
 
-  pub failed-accounted : mapFresh up w u m root v .walked ≡ Stop mapFailed → (f : ℕ) × Accounted (mapFresh up w u m root v .mem) root (suc up) (f ∷ lost)
+  pub failed-accounted : mapFresh up w u m root v .walked ≡ Stop mapPageFailed → (f : ℕ) × Accounted (mapFresh up w u m root v .mem) root (suc up) (f ∷ lost)
   failed-accounted h = let t = take-failed (c .order) w u v h in (t .0, lost-accounted c (t .1))

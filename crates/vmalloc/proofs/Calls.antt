@@ -13,7 +13,7 @@ use Rattle.answer.specs.declared.CountAnswer.the-variants.{Count, NoCount}
 use Rattle.paging.specs.declared.Walked.{Walked}
 use Rattle.paging.specs.declared.Walked.the-variants.{At, Stop}
 use Rattle.paging.specs.Pages.{freePages}
-use Rattle.slots.specs.Slots.{live, store}
+use Rattle.slots.specs.Slots.{listed, store}
 use Rattle.vmalloc.specs.Regions.{noSlot, firstFit, usedSize, freeFirst, merge}
 use Rattle.vmalloc.specs.Calls.{Kernel, kernel, Did, did, soundKernel, mapped, kernelPages, placed, sized, released, vmalloc, vfree}
 
@@ -31,8 +31,8 @@ module _ (up : ℕ) (k : Kernel) (root : ℕ) where
       → (soundKernel k root ≡ false → P (did (Stop brokenRecord) k))
       → P (did (Stop sizeZero) k)
       → P (did (Stop tooLarge) k)
-      → ((e : ℕ) → firstFit (roundUp 12 size) (live (k .regions)) ≡ Stop e → P (did (Stop e) k))
-      → (soundKernel k root ≡ true → 0 < size → size ≤ lastPage → (a : ℕ) → firstFit (roundUp 12 size) (live (k .regions)) ≡ At a
+      → ((e : ℕ) → firstFit (roundUp 12 size) (listed (k .regions)) ≡ Stop e → P (did (Stop e) k))
+      → (soundKernel k root ≡ true → 0 < size → size ≤ lastPage → (a : ℕ) → firstFit (roundUp 12 size) (listed (k .regions)) ≡ At a
       → P (mapped a (roundUp 12 size) (k .regions) (kernelPages up (k .mem) root a (roundUp 12 size) .walked) (kernelPages up (k .mem) root a (roundUp 12 size) .mem)))
       → P (vmalloc up k root size)
   unfolding vmalloc rounded
@@ -41,26 +41,26 @@ module _ (up : ℕ) (k : Kernel) (root : ℕ) where
       (λ s. pick-cases P (eqb size 0) _ _ (λ _. empty) (λ z.
       let pos : 0 < size = positive size (eqb-false size 0 z) in
       pick-cases (λ c. P (sized up k root c)) (leb size lastPage) (Count (roundUp 12 size)) (NoCount tooLarge)
-      (λ l. walked-cases (λ w. P (placed up k root (roundUp 12 size) w)) (firstFit (roundUp 12 size) (live (k .regions))) (fits s pos (leb-true _ _ l)) none)
+      (λ l. walked-cases (λ w. P (placed up k root (roundUp 12 size) w)) (firstFit (roundUp 12 size) (listed (k .regions))) (fits s pos (leb-true _ _ l)) none)
       (λ _. large)))
       broken
 
   -- every outcome of a vfree
   pub vfree-cases : (a : ℕ) (P : Did → Type 0)
       → (soundKernel k root ≡ false → P (did (Stop brokenRecord) k))
-      → ((e : ℕ) → (a ≡ 0) ⊎ (usedSize a (live (k .regions)) ≡ Stop e) → P (did (Stop e) k))
-      → (soundKernel k root ≡ true → 0 < a → (n : ℕ) → usedSize a (live (k .regions)) ≡ At n
-      → P (did (At 0) (kernel (freePages up (k .mem) root a (n / 4096)) (store noSlot (merge (freeFirst a (live (k .regions)))) (k .regions)))))
+      → ((e : ℕ) → (a ≡ 0) ⊎ (usedSize a (listed (k .regions)) ≡ Stop e) → P (did (Stop e) k))
+      → (soundKernel k root ≡ true → 0 < a → (n : ℕ) → usedSize a (listed (k .regions)) ≡ At n
+      → P (did (At 0) (kernel (freePages up (k .mem) root a (n / 4096)) (store noSlot (merge (freeFirst a (listed (k .regions)))) (k .regions)))))
       → P (vfree up k root a)
   unfolding vfree
   vfree-cases a P broken none met =
       pick-cases P (soundKernel k root) _ _
       (λ s. pick-cases P (eqb a 0) _ _ (λ z. none regionNotFound (inl (eqb-true a 0 z))) (λ z.
-      walked-cases (λ w. P (released up k root a w)) (usedSize a (live (k .regions))) (met s (positive a (eqb-false a 0 z))) (λ e f. none e (inr f))))
+      walked-cases (λ w. P (released up k root a w)) (usedSize a (listed (k .regions))) (met s (positive a (eqb-false a 0 z))) (λ e f. none e (inr f))))
       broken
 
 -- a vfree that is met
-pub vfree-met : (up : ℕ) (k : Kernel) (root a n : ℕ) → soundKernel k root ≡ true → 0 < a → usedSize a (live (k .regions)) ≡ At n
-    → vfree up k root a ≡ did (At 0) (kernel (freePages up (k .mem) root a (n / 4096)) (store noSlot (merge (freeFirst a (live (k .regions)))) (k .regions)))
+pub vfree-met : (up : ℕ) (k : Kernel) (root a n : ℕ) → soundKernel k root ≡ true → 0 < a → usedSize a (listed (k .regions)) ≡ At n
+    → vfree up k root a ≡ did (At 0) (kernel (freePages up (k .mem) root a (n / 4096)) (store noSlot (merge (freeFirst a (listed (k .regions)))) (k .regions)))
 unfolding vfree
 vfree-met up k root a n s pos e = rw (s, ne-eqb a 0 (λ z. omega arith), e)

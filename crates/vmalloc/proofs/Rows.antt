@@ -14,7 +14,7 @@ use Rattle.allocator.specs.Round.{lastPage}
 use Rattle.paging.specs.declared.Walked.the-variants.{At}
 use Rattle.slots.specs.Slots.{every}
 use Rattle.vmalloc.specs.declared.VMRegion.{VMRegion}
-use Rattle.vmalloc.specs.Regions.{region, wellPlacedRegion, fits, firstFit, behind, cutFirst, cut, freeFirst, joins, mergeFrom, merge}
+use Rattle.vmalloc.specs.Regions.{region, wellPlacedRegion, fits, firstFit, behind, takeFirst, taken, freeFirst, joins, mergeFrom, merge}
 use Rattle.vmalloc.proofs.Merge.{join, joined, freedAll}
 
 -- a region from lo on, aligned and not empty
@@ -132,10 +132,10 @@ length-merge (r ∷ l) = length-from r l
 
 -- cutting keeps the rows, and makes the list longer by one at most, where there is room
 module _ (used : Bool) (n : ℕ) (room : Bool) (full : n % 4096 ≡ 0) (pos : 0 < n) where
-  pub rows-cut : (lo hi : ℕ) (l : List VMRegion) → Rows lo hi l → Rows lo hi (cutFirst used n room l)
-  unfolding cutFirst
-  rows-cut lo hi [] h = h
-  rows-cut lo hi (r ∷ l) h = by (fits n r) refl (rows-cut (r .start + r .size) hi l (h .1))
+  pub rows-taken : (lo hi : ℕ) (l : List VMRegion) → Rows lo hi l → Rows lo hi (takeFirst used n room l)
+  unfolding takeFirst
+  rows-taken lo hi [] h = h
+  rows-taken lo hi (r ∷ l) h = by (fits n r) refl (rows-taken (r .start + r .size) hi l (h .1))
     where
       head : fits n r ≡ true → Row lo (region (r .start) n used)
       head e = record { from = h .0 .from; even = h .0 .even; whole = full; some = pos }
@@ -151,14 +151,14 @@ module _ (used : Bool) (n : ℕ) (room : Bool) (full : n % 4096 ≡ 0) (pos : 0 
           )
       rest e false g = rows-earlier (r .start + n) (r .start + r .size) hi l (omega (arith, large e)) (h .1)
 
-      by : (x : Bool) → fits n r ≡ x → Rows (r .start + r .size) hi (cutFirst used n room l) → Rows lo hi (pick x (region (r .start) n used ∷ behind n room r l) (r ∷ cutFirst used n room l))
+      by : (x : Bool) → fits n r ≡ x → Rows (r .start + r .size) hi (takeFirst used n room l) → Rows lo hi (pick x (region (r .start) n used ∷ behind n room r l) (r ∷ takeFirst used n room l))
       by true e more = (head e, rest e (both room (ltb n (r .size))) refl)
       by false e more = (h .0, more)
 
-pub length-cut : (used : Bool) (n : ℕ) (room : Bool) (l : List VMRegion) → length (cutFirst used n room l) ≤ length l + one room
-unfolding cutFirst
-length-cut used n room [] = omega arith
-length-cut used n room (r ∷ l) = by (fits n r) (length-cut used n room l)
+pub length-taken : (used : Bool) (n : ℕ) (room : Bool) (l : List VMRegion) → length (takeFirst used n room l) ≤ length l + one room
+unfolding takeFirst
+length-taken used n room [] = omega arith
+length-taken used n room (r ∷ l) = by (fits n r) (length-taken used n room l)
   where
     rest : (y : Bool) → length (pick (both y (ltb n (r .size))) (region (r .start + n) (r .size - n) false ∷ l) l) ≤ length l + one y
     rest true = tail (ltb n (r .size))
@@ -168,15 +168,15 @@ length-cut used n room (r ∷ l) = by (fits n r) (length-cut used n room l)
         tail false = omega arith
     rest false = omega arith
 
-    by : (x : Bool) → length (cutFirst used n room l) ≤ length l + one room
-        → length (pick x (region (r .start) n used ∷ behind n room r l) (r ∷ cutFirst used n room l)) ≤ suc (length l) + one room
+    by : (x : Bool) → length (takeFirst used n room l) ≤ length l + one room
+        → length (pick x (region (r .start) n used ∷ behind n room r l) (r ∷ takeFirst used n room l)) ≤ suc (length l) + one room
     by true more = omega (arith, rest room)
     by false more = omega arith
 
 -- the list never passes 256: 'at 256 the tail is lost'
-pub cut-few : (used : Bool) (n : ℕ) (l : List VMRegion) → length l ≤ 256 → length (cut used n l) ≤ 256
-cut-few used n l h = by (ltb (length l) 256) refl
+pub taken-few : (used : Bool) (n : ℕ) (l : List VMRegion) → length l ≤ 256 → length (taken used n l) ≤ 256
+taken-few used n l h = by (ltb (length l) 256) refl
   where
-    by : (room : Bool) → ltb (length l) 256 ≡ room → length (cutFirst used n room l) ≤ 256
-    by true e = omega (arith, length-cut used n true l, ltb-true (length l) 256 e)
-    by false e = omega (arith, length-cut used n false l)
+    by : (room : Bool) → ltb (length l) 256 ≡ room → length (takeFirst used n room l) ≤ 256
+    by true e = omega (arith, length-taken used n true l, ltb-true (length l) 256 e)
+    by false e = omega (arith, length-taken used n false l)

@@ -10,7 +10,7 @@ use borrow.Author.Tests.{eq-eqb, ltb-false, leb-true, not-true}
 use Rattle.bits.specs.Bit.{pick, both}
 use Rattle.bits.proofs.Choice.{both-true}
 use Rattle.vmalloc.specs.declared.VMRegion.{VMRegion}
-use Rattle.vmalloc.specs.Regions.{region, fits, behind, cutFirst, joins, mergeFrom, merge}
+use Rattle.vmalloc.specs.Regions.{region, fits, behind, takeFirst, joins, mergeFrom, merge}
 use Rattle.vmalloc.proofs.Merge.{join, joined, freedAll}
 use Rattle.vmalloc.proofs.Used.{AllFree}
 
@@ -100,23 +100,23 @@ module _ (n : ℕ) (room : Bool) where
       by true = refl
       by false = refl
 
-  apart-cut-from : (q : VMRegion) (l : List VMRegion) → ApartFrom q l → ApartFrom q (cutFirst true n room l)
-  unfolding cutFirst
-  apart-cut-from q [] h = tt
-  apart-cut-from q (r ∷ l) h = by (fits n r) refl (apart-cut-from r l (h .1))
+  apart-taken-from : (q : VMRegion) (l : List VMRegion) → ApartFrom q l → ApartFrom q (takeFirst true n room l)
+  unfolding takeFirst
+  apart-taken-from q [] h = tt
+  apart-taken-from q (r ∷ l) h = by (fits n r) refl (apart-taken-from r l (h .1))
     where
-      by : (x : Bool) → fits n r ≡ x → ApartFrom r (cutFirst true n room l) → ApartFrom q (pick x (region (r .start) n true ∷ behind n room r l) (r ∷ cutFirst true n room l))
+      by : (x : Bool) → fits n r ≡ x → ApartFrom r (takeFirst true n room l) → ApartFrom q (pick x (region (r .start) n true ∷ behind n room r l) (r ∷ takeFirst true n room l))
       by true f more = (before-used q (r .start), behind-apart r l f (h .1))
       by false f more = (h .0, more)
 
-  pub apart-cut : (l : List VMRegion) → Apart l → Apart (cutFirst true n room l)
-  unfolding cutFirst
-  apart-cut [] h = tt
-  apart-cut (r ∷ l) h = by (fits n r) refl
+  pub apart-taken : (l : List VMRegion) → Apart l → Apart (takeFirst true n room l)
+  unfolding takeFirst
+  apart-taken [] h = tt
+  apart-taken (r ∷ l) h = by (fits n r) refl
     where
-      by : (x : Bool) → fits n r ≡ x → Apart (pick x (region (r .start) n true ∷ behind n room r l) (r ∷ cutFirst true n room l))
+      by : (x : Bool) → fits n r ≡ x → Apart (pick x (region (r .start) n true ∷ behind n room r l) (r ∷ takeFirst true n room l))
       by true f = behind-apart r l f h
-      by false f = apart-cut-from r l h
+      by false f = apart-taken-from r l h
 
 -- regions from lo to hi with no gap
 abbrev pub Tiled : ℕ → ℕ → List VMRegion → Type 0
@@ -143,16 +143,16 @@ tiled-merge lo hi [] h = h
 tiled-merge lo hi (r ∷ l) h = tiled-from lo hi r l h
 
 -- a cut leaves no gap where the tail is kept, or where there is none
-pub tiled-cut : (used : Bool) (n lo hi : ℕ) (l : List VMRegion) → Tiled lo hi l → Tiled lo hi (cutFirst used n true l)
-unfolding cutFirst
-tiled-cut used n lo hi [] h = h
-tiled-cut used n lo hi (r ∷ l) h = by (fits n r) refl (tiled-cut used n (lo + r .size) hi l (h .1))
+pub tiled-taken : (used : Bool) (n lo hi : ℕ) (l : List VMRegion) → Tiled lo hi l → Tiled lo hi (takeFirst used n true l)
+unfolding takeFirst
+tiled-taken used n lo hi [] h = h
+tiled-taken used n lo hi (r ∷ l) h = by (fits n r) refl (tiled-taken used n (lo + r .size) hi l (h .1))
   where
     rest : n ≤ r .size → (x : Bool) → ltb n (r .size) ≡ x → Tiled (lo + n) hi (pick x (region (r .start + n) (r .size - n) false ∷ l) l)
     rest k true e = (ap (λ (a : ℕ). a + n) (h .0), subst (λ (a : ℕ). Tiled a hi l) (omega arith) (h .1))
     rest k false e = subst (λ (a : ℕ). Tiled a hi l) (omega (arith, ltb-false n (r .size) e)) (h .1)
 
-    by : (x : Bool) → fits n r ≡ x → Tiled (lo + r .size) hi (cutFirst used n true l) → Tiled lo hi (pick x (region (r .start) n used ∷ behind n true r l) (r ∷ cutFirst used n true l))
+    by : (x : Bool) → fits n r ≡ x → Tiled (lo + r .size) hi (takeFirst used n true l) → Tiled lo hi (pick x (region (r .start) n used ∷ behind n true r l) (r ∷ takeFirst used n true l))
     by true f more = (h .0, rest (leb-true _ _ (both-true (not (r .used)) (leb n (r .size)) f .1)) (ltb n (r .size)) refl)
     by false f more = (h .0, more)
 
@@ -162,17 +162,17 @@ larger n [] = false
 larger n (r ∷ l) = pick (fits n r) (ltb n (r .size)) (larger n l)
 
 -- then the tail does not matter
-pub cut-exact : (used room : Bool) (n : ℕ) (l : List VMRegion) → larger n l ≡ false → cutFirst used n room l ≡ cutFirst used n true l
-unfolding cutFirst
-cut-exact used room n [] h = refl
-cut-exact used room n (r ∷ l) h = by (fits n r) h (cut-exact used room n l)
+pub taken-exact : (used room : Bool) (n : ℕ) (l : List VMRegion) → larger n l ≡ false → takeFirst used n room l ≡ takeFirst used n true l
+unfolding takeFirst
+taken-exact used room n [] h = refl
+taken-exact used room n (r ∷ l) h = by (fits n r) h (taken-exact used room n l)
   where
     same : (y : Bool) → ltb n (r .size) ≡ false → pick (both y (ltb n (r .size))) (region (r .start + n) (r .size - n) false ∷ l) l ≡ pick (ltb n (r .size)) (region (r .start + n) (r .size - n) false ∷ l) l
     same true e = refl
     same false e = rw e
 
-    by : (x : Bool) → pick x (ltb n (r .size)) (larger n l) ≡ false → (larger n l ≡ false → cutFirst used n room l ≡ cutFirst used n true l)
-        → pick x (region (r .start) n used ∷ behind n room r l) (r ∷ cutFirst used n room l) ≡ pick x (region (r .start) n used ∷ behind n true r l) (r ∷ cutFirst used n true l)
+    by : (x : Bool) → pick x (ltb n (r .size)) (larger n l) ≡ false → (larger n l ≡ false → takeFirst used n room l ≡ takeFirst used n true l)
+        → pick x (region (r .start) n used ∷ behind n room r l) (r ∷ takeFirst used n room l) ≡ pick x (region (r .start) n used ∷ behind n true r l) (r ∷ takeFirst used n true l)
     by true e more = ap (λ (xs : List VMRegion). region (r .start) n used ∷ xs) (same room e)
     by false e more = ap (λ (xs : List VMRegion). r ∷ xs) (more e)
 

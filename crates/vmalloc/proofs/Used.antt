@@ -11,7 +11,7 @@ use Rattle.bits.proofs.Choice.{both-true, both-false}
 use Rattle.answer.specs.Numbers.{regionNotFound}
 use Rattle.paging.specs.declared.Walked.the-variants.{At, Stop}
 use Rattle.vmalloc.specs.declared.VMRegion.{VMRegion}
-use Rattle.vmalloc.specs.Regions.{region, fits, firstFit, behind, cutFirst, usedSize, joins, mergeFrom, merge}
+use Rattle.vmalloc.specs.Regions.{region, fits, firstFit, behind, takeFirst, usedSize, joins, mergeFrom, merge}
 use Rattle.vmalloc.proofs.Merge.{join, joined, freedAll}
 use Rattle.vmalloc.proofs.Rows.{Rows, rows-le, fit-from}
 
@@ -105,22 +105,22 @@ module _ (n : ℕ) (room : Bool) where
       by true = skip b (region (r .start + n) (r .size - n) false) l refl
       by false = refl
 
-  pub cut-used : (a lo hi : ℕ) (l : List VMRegion) → Rows lo hi l → firstFit n l ≡ At a → usedSize a (cutFirst true n room l) ≡ At n
-  unfolding firstFit cutFirst usedSize
-  cut-used a lo hi [] h e = let z : _≡_ {A = ℕ} 0 1 = cc in absurd (omega arith)
-  cut-used a lo hi (r ∷ l) h e = by (fits n r) refl e (cut-used a (r .start + r .size) hi l (h .1))
+  pub taken-used : (a lo hi : ℕ) (l : List VMRegion) → Rows lo hi l → firstFit n l ≡ At a → usedSize a (takeFirst true n room l) ≡ At n
+  unfolding firstFit takeFirst usedSize
+  taken-used a lo hi [] h e = let z : _≡_ {A = ℕ} 0 1 = cc in absurd (omega arith)
+  taken-used a lo hi (r ∷ l) h e = by (fits n r) refl e (taken-used a (r .start + r .size) hi l (h .1))
     where
-      by : (x : Bool) → fits n r ≡ x → pick x (At (r .start)) (firstFit n l) ≡ At a → (firstFit n l ≡ At a → usedSize a (cutFirst true n room l) ≡ At n)
-          → usedSize a (pick x (region (r .start) n true ∷ behind n room r l) (r ∷ cutFirst true n room l)) ≡ At n
+      by : (x : Bool) → fits n r ≡ x → pick x (At (r .start)) (firstFit n l) ≡ At a → (firstFit n l ≡ At a → usedSize a (takeFirst true n room l) ≡ At n)
+          → usedSize a (pick x (region (r .start) n true ∷ behind n room r l) (r ∷ takeFirst true n room l)) ≡ At n
       by true f g more = let k : r .start ≡ a = cc in rw (eq-eqb (r .start) a k)
       by false f g more =
           let d : eqb (r .start) a ≡ false = ne-eqb (r .start) a (λ k. omega (arith, fit-from n (r .start + r .size) hi a l (h .1) g, h .0 .some)) in
           rw d (more g)
 
-  pub cut-was-free : (a lo hi : ℕ) (l : List VMRegion) → Rows lo hi l → firstFit n l ≡ At a → usedSize a l ≡ Stop regionNotFound
+  pub taken-was-free : (a lo hi : ℕ) (l : List VMRegion) → Rows lo hi l → firstFit n l ≡ At a → usedSize a l ≡ Stop regionNotFound
   unfolding firstFit usedSize
-  cut-was-free a lo hi [] h e = refl
-  cut-was-free a lo hi (r ∷ l) h e = by (fits n r) refl e (cut-was-free a (r .start + r .size) hi l (h .1))
+  taken-was-free a lo hi [] h e = refl
+  taken-was-free a lo hi (r ∷ l) h e = by (fits n r) refl e (taken-was-free a (r .start + r .size) hi l (h .1))
     where
       by : (x : Bool) → fits n r ≡ x → pick x (At (r .start)) (firstFit n l) ≡ At a → (firstFit n l ≡ At a → usedSize a l ≡ Stop regionNotFound)
           → usedSize a (r ∷ l) ≡ Stop regionNotFound
@@ -131,13 +131,13 @@ module _ (n : ℕ) (room : Bool) where
           let d : eqb (r .start) a ≡ false = ne-eqb (r .start) a (λ k. omega (arith, fit-from n (r .start + r .size) hi a l (h .1) g, h .0 .some)) in
           rw d (more g)
 
-  pub cut-others : (used : Bool) (a b : ℕ) (l : List VMRegion) → firstFit n l ≡ At a → (b ≡ a → ⊥) → usedSize b (cutFirst used n room l) ≡ usedSize b l
-  unfolding firstFit cutFirst usedSize
-  cut-others used a b [] e d = refl
-  cut-others used a b (r ∷ l) e d = by (fits n r) refl e (λ g. cut-others used a b l g d)
+  pub taken-others : (used : Bool) (a b : ℕ) (l : List VMRegion) → firstFit n l ≡ At a → (b ≡ a → ⊥) → usedSize b (takeFirst used n room l) ≡ usedSize b l
+  unfolding firstFit takeFirst usedSize
+  taken-others used a b [] e d = refl
+  taken-others used a b (r ∷ l) e d = by (fits n r) refl e (λ g. taken-others used a b l g d)
     where
-      by : (x : Bool) → fits n r ≡ x → pick x (At (r .start)) (firstFit n l) ≡ At a → (firstFit n l ≡ At a → usedSize b (cutFirst used n room l) ≡ usedSize b l)
-          → usedSize b (pick x (region (r .start) n used ∷ behind n room r l) (r ∷ cutFirst used n room l)) ≡ usedSize b (r ∷ l)
+      by : (x : Bool) → fits n r ≡ x → pick x (At (r .start)) (firstFit n l) ≡ At a → (firstFit n l ≡ At a → usedSize b (takeFirst used n room l) ≡ usedSize b l)
+          → usedSize b (pick x (region (r .start) n used ∷ behind n room r l) (r ∷ takeFirst used n room l)) ≡ usedSize b (r ∷ l)
       by true f g more =
           let k : r .start ≡ a = cc in
           let z : eqb (r .start) b ≡ false = ne-eqb (r .start) b (λ q. d (sym q ∙ k)) in

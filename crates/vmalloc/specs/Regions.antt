@@ -9,7 +9,7 @@ use Rattle.allocator.specs.Round.{lastPage}
 use Rattle.answer.specs.Numbers.{noRegion, regionNotFound}
 use Rattle.paging.specs.declared.Walked.{Walked}
 use Rattle.paging.specs.declared.Walked.the-variants.{At, Stop}
-use Rattle.slots.specs.Slots.{Slots, live, every}
+use Rattle.slots.specs.Slots.{Slots, listed, every}
 use Rattle.vmalloc.specs.declared.VMRegion.{VMRegion}
 
 -- 'The window runs from 0xFFFFFFC000000000 up to, not including, 0xFFFFFFE000000000'
@@ -43,7 +43,7 @@ isNoSlot r = both (eqb (r .start) 0) (both (eqb (r .size) 0) (not (r .used)))
 -- not broken: at most 256 regions, each well placed, and zero slots past the count
 unfoldable pub soundRegions : Slots VMRegion → Bool
 soundRegions s =
-    both (leb (s .count) 256) (both (every wellPlacedRegion (live s)) (every isNoSlot (drop (s .count) (s .slots))))
+    both (leb (s .count) 256) (both (every wellPlacedRegion (listed s)) (every isNoSlot (drop (s .count) (s .slots))))
 
 -- a free region of n bytes or more
 abbrev pub fits : ℕ → VMRegion → Bool
@@ -58,14 +58,14 @@ firstFit n (r ∷ l) = pick (fits n r) (At (r .start)) (firstFit n l)
 abbrev pub behind : ℕ → Bool → VMRegion → List VMRegion → List VMRegion
 behind n room r l = pick (both room (ltb n (r .size))) (region (r .start + n) (r .size - n) false ∷ l) l
 
--- the first free region large enough is cut to n bytes and marked used, or free
-unfoldable pub cutFirst : Bool → ℕ → Bool → List VMRegion → List VMRegion
-cutFirst used n room [] = []
-cutFirst used n room (r ∷ l) =
-    pick (fits n r) (region (r .start) n used ∷ behind n room r l) (r ∷ cutFirst used n room l)
+-- n bytes taken of the first free region large enough: it has n bytes then, and is used or free
+unfoldable pub takeFirst : Bool → ℕ → Bool → List VMRegion → List VMRegion
+takeFirst used n room [] = []
+takeFirst used n room (r ∷ l) =
+    pick (fits n r) (region (r .start) n used ∷ behind n room r l) (r ∷ takeFirst used n room l)
 
-abbrev pub cut : Bool → ℕ → List VMRegion → List VMRegion
-cut used n l = cutFirst used n (ltb (length l) 256) l
+abbrev pub taken : Bool → ℕ → List VMRegion → List VMRegion
+taken used n l = takeFirst used n (ltb (length l) 256) l
 
 -- the size of the used region at a; 16 where there is none
 unfoldable pub usedSize : ℕ → List VMRegion → Walked
