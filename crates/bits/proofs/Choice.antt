@@ -1,7 +1,9 @@
 -- Choices by a test, case by case.
-use mathlib.Core.Path.{_≡_, refl}
+use Prim.Native.Nat.{ℕ, _<_}
+use mathlib.Core.Path.{_≡_, refl, ap}
 use mathlib.Core.Bool.{Bool, true, false, false≢true}
-use Rattle.bits.specs.Bit.{pick, both}
+use lib.Dec.{eqb, lit<}
+use Rattle.bits.specs.Bit.{pick, both, one, bit, flag}
 
 -- both ways of a choice, with what its test said
 pub pick-cases : {A : Type 0} (P : A → Type 0) (t : Bool) (a b : A) → (t ≡ true → P a) → (t ≡ false → P b) → P (pick t a b)
@@ -28,3 +30,12 @@ both-false false = refl
 pub both-same : (t a b : Bool) → (t ≡ true → a ≡ b) → both t a ≡ both t b
 both-same true a b h = h refl
 both-same false a b h = refl
+
+-- a truth value as a bit
+pub one-lt : (t : Bool) → one t < 2
+one-lt true = lit< tt
+one-lt false = lit< tt
+
+pub flag-is : (k e : ℕ) (t : Bool) → bit k e ≡ one t → flag k e ≡ t
+flag-is k e true h = ap (λ (n : ℕ). eqb n 1) h
+flag-is k e false h = ap (λ (n : ℕ). eqb n 1) h

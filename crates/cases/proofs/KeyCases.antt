@@ -1,19 +1,24 @@
 -- The key cases hold.
-use Prim.Native.Nat.{ℕ, _+_, _-_, _^_}
-use mathlib.Core.Path.{_≡_, refl, sym, _∙_, ap}
-use mathlib.Core.Bool.{Bool, true, false}
+use Prim.Native.Nat.{ℕ, _+_, _-_, _%_, _^_}
+use mathlib.Core.Path.{_≡_, refl, sym, _∙_, ap, subst}
+use mathlib.Core.Bool.{Bool, true, false, false≢true}
 use mathlib.Core.List.{List, [], _∷_}
 use native.Mathlib.Omega.{arith}
+use lib.Dec.{eqb, leb}
+use borrow.Author.Tests.{eqb-true}
+use Rattle.bits.specs.Bit.{pick}
+use Rattle.bits.proofs.Choice.{both-true}
 use Rattle.allocator.specs.Round.{rounded}
+use Rattle.paging.specs.Calls.{whole}
 use Rattle.frame.specs.Frames.{Frames, init, isAllocated}
 use Rattle.frame.proofs.Laws.{inside-low, inside-high, reads-outside}
 use Rattle.answer.specs.declared.FlagAnswer.the-variants.{Flag}
-use Rattle.slots.specs.Slots.{listed}
+use Rattle.slots.specs.Slots.{listed, every}
 use Rattle.vmalloc.specs.Regions.{firstFit}
 use Rattle.vmalloc.specs.Calls.{Kernel, vmalloc}
 use Rattle.mmap.specs.declared.MappedRegion.{MappedRegion}
-use Rattle.mmap.specs.Regions.{inTheWay, searchFrom, holds}
-use Rattle.mmap.specs.Calls.{User, mmap, munmap}
+use Rattle.mmap.specs.Regions.{inTheWay, searchFrom, risingFrom, wellPlacedRegion, soundMappings, holds}
+use Rattle.mmap.specs.Calls.{User, onPage, soundUser, mmap, munmap}
 use Rattle.mmap.proofs.Rising.{holds-one}
 use Rattle.cases.specs.KeyCases.{KeyCases}
 
@@ -24,6 +29,24 @@ one-size a l h = by (holds a 4096 l) refl
     by : (x : Bool) → holds a 4096 l ≡ x → holds a 4096 l ≡ false
     by false e = e
     by true e = let z : _≡_ {A = ℕ} 8192 4096 = holds-one a 8192 4096 l h e in absurd (omega arith)
+
+-- a recorded region starts at a page
+placed-start : (a n : ℕ) (l : List MappedRegion) → every wellPlacedRegion l ≡ true → holds a n l ≡ true → onPage a ≡ true
+unfolding every holds
+placed-start a n [] h g = absurd (false≢true g)
+placed-start a n (r ∷ l) h g = by (eqb (r .start) a) refl g (placed-start a n l (both-true (wellPlacedRegion r) _ h .1))
+  where
+    by : (x : Bool) → eqb (r .start) a ≡ x → pick x (eqb (r .size) n) (holds a n l) ≡ true → (holds a n l ≡ true → onPage a ≡ true) → onPage a ≡ true
+    by true e g more =
+        subst (λ (s : ℕ). onPage s ≡ true) (eqb-true (r .start) a e) (both-true (eqb (r .start % 4096) 0) _ (both-true (wellPlacedRegion r) _ h .0) .0)
+    by false e g more = more g
+
+sound-start : (s : User) (root a n : ℕ) → soundUser s root ≡ true → holds a n (listed (s .regions)) ≡ true → onPage a ≡ true
+unfolding soundMappings
+sound-start s root a n h g =
+    let m = both-true (whole (s .mem) root) _ h .1 in
+    let t = both-true (risingFrom 0 (listed (s .regions))) _ (both-true (leb (s .regions .count) 256) _ m .1) .1 in
+    placed-start a n (listed (s .regions)) (both-true (every wellPlacedRegion (listed (s .regions))) _ t .0) g
 
 pub key-cases : KeyCases
 unfolding rounded init isAllocated inTheWay searchFrom firstFit vmalloc mmap munmap
@@ -41,6 +64,6 @@ key-cases = record {
   );
   k9 = (refl, refl);
   k10 = λ k root h l. rw (h, l);
-  k11 = λ s root a h e g. (rw (h, e, g), rw (h, e, one-size a _ g));
+  k11 = λ s root a h g. let e = sound-start s root a 8192 h g in (rw (h, e, g), rw (h, e, one-size a _ g));
   k12 = λ s root wish prot flags h. rw h;
 }

@@ -17,7 +17,7 @@ use Rattle.vmalloc.specs.Regions.{window}
 use Rattle.vmalloc.specs.Calls.{Kernel, soundKernel, vmalloc}
 use Rattle.vmalloc.specs.Calls.{did as didKernel}
 use Rattle.mmap.specs.Regions.{userStart, findFree, holds}
-use Rattle.mmap.specs.Calls.{User, Wish, soundUser, onPage, mmap, munmap}
+use Rattle.mmap.specs.Calls.{User, Wish, soundUser, mmap, munmap}
 use Rattle.mmap.specs.Calls.{did as didUser}
 
 pub record KeyCases : Type 0 where
@@ -42,7 +42,7 @@ pub record KeyCases : Type 0 where
   -- K10 fresh vmalloc of 2^37+1 bytes: 15
   pub k10 : (k : Kernel) (root : ℕ) → soundKernel k root ≡ true → listed (k .regions) ≡ window ∷ [] → vmalloc 3 k root (2 ^ 37 + 1) ≡ didKernel (Stop noRegion) k
   -- K11 a two-page region: munmap with 4097 met, with 4096 is 16
-  pub k11 : (s : User) (root a : ℕ) → soundUser s root ≡ true → onPage a ≡ true → holds a 8192 (listed (s .regions)) ≡ true
+  pub k11 : (s : User) (root a : ℕ) → soundUser s root ≡ true → holds a 8192 (listed (s .regions)) ≡ true
       → (munmap 3 s root a 4097 .answer ≡ At 0) × (munmap 3 s root a 4096 ≡ didUser (Stop regionNotFound) s)
   -- K12 mmap size 2^64−4095: 3
   pub k12 : (s : User) (root : ℕ) (wish : Wish) (prot flags : ℤ) → soundUser s root ≡ true → mmap 3 s root wish (2 ^ 64 - 4095) prot flags ≡ didUser (Stop tooLarge) s

@@ -8,18 +8,10 @@ use lib.Dec.{eqb, lit<}
 use lib.ListN.{length, getD}
 use lib.Bits.{bitAnd, bitOr, and-high, or-block, or-zero-l, or-shifted-r}
 use lib.Pow.{pow-pos, mod-pow-add, shr-shr}
-use Rattle.bits.specs.Bit.{one, bit, flag}
+use Rattle.bits.specs.Bit.{one, flag}
+use Rattle.bits.proofs.Choice.{one-lt, flag-is}
 use Rattle.bits.proofs.Single.{bit-zero}
 use Rattle.entry.specs.Entry.{frameOf, addrOf, entryOf, hugeEntryOf, index, indices}
-
--- a choice as a bit
-pub one-lt : (t : Bool) → one t < 2
-one-lt true = lit< tt
-one-lt false = lit< tt
-
-pub flag-is : (k e : ℕ) (t : Bool) → bit k e ≡ one t → flag k e ≡ t
-flag-is k e true h = ap (λ (n : ℕ). eqb n 1) h
-flag-is k e false h = ap (λ (n : ℕ). eqb n 1) h
 
 -- ADDR_MASK
 abbrev pub addrMask : ℕ

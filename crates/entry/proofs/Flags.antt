@@ -14,7 +14,8 @@ use Rattle.bits.proofs.Single.{bit-cases, bit-mod, bit-above}
 use Rattle.entry.specs.Entry.{entryOf}
 use Rattle.entry.specs.Flags.{bitsOf, flagsOf, flagEntryOf}
 use Rattle.entry.specs.declared.page_handler.PageFlags.{PageFlags}
-use Rattle.entry.proofs.Entry.{one-lt, flag-is, addrMask, joined}
+use Rattle.bits.proofs.Choice.{one-lt, flag-is}
+use Rattle.entry.proofs.Entry.{addrMask, joined}
 
 -- The word a, joined of the bits below place k, is the sum n.
 pub record Joined (k a n : ℕ) : Type 0 where

@@ -27,7 +27,8 @@ choose false a b = b
 abbrev pub p : ℕ → Bool
 p e = eqb (bits 0 0 e) 1
 
--- bit 7 (PS), 'Page size', of a PDPTE or a PDE: it 'maps a 1-GByte page' or 'maps a 2-MByte page'. Of a PML4E it is 'Reserved (must be 0)'. Of a PTE it is PAT.
+-- bit 7 (PS), 'Page size', of a PDPTE or a PDE: it 'maps a 1-GByte page' (where the processor supports those; else it is reserved) or
+-- 'maps a 2-MByte page'. Of a PML4E it is 'Reserved (must be 0)'. Of a PTE it is PAT.
 abbrev pub ps : ℕ → Bool
 ps e = eqb (bits 7 7 e) 1
 

@@ -19,6 +19,8 @@ use Rattle.paging.specs.Map.{Memory}
 use Rattle.paging.specs.Pages.{clearPages, freePages}
 use Rattle.slots.specs.Slots.{listed, store}
 use Rattle.vmalloc.proofs.Calls.{positive, walked-cases}
+use Rattle.mmap.specs.declared.InTheWay.{InTheWay}
+use Rattle.mmap.specs.declared.InTheWay.the-variants.{Nothing, Until}
 use Rattle.mmap.specs.Regions.{fixed, noSlot, inTheWay, orPast, findFree, starts, holds, remove}
 use Rattle.mmap.specs.Calls.{User, user, Did, did, soundUser, Wish, anywhere, wished, onPage, inRange, chosen, full, userPages, leftover, mapped, placed, sized, mmap, unmapped, munmap}
 use Rattle.mmap.proofs.Rising.{Rising}
@@ -80,7 +82,7 @@ module _ (up : ℕ) (s : User) (root : ℕ) where
       (λ e. none unaligned (λ n r f _. let y : _≡_ {A = ℕ} 0 1 = cc in absurd (omega arith)))))
       broken
 
--- where a chosen range lies: onPage, and ending at most at the last page
+-- where a chosen range lies: aligned, and ending at most at the last page
 pub chosen-place : (s : User) (wish : Wish) (n : ℕ) (flags : ℤ) (a : ℕ) → Rising 0 (listed (s .regions)) → s .next % 4096 ≡ 0 → chosen s wish n flags ≡ At a
     → (a % 4096 ≡ 0) × (a + n ≤ lastPage)
 unfolding chosen
@@ -99,9 +101,9 @@ chosen-place s (wished v) n flags a h e c = one (fixed flags) c
     same : (x y : ℕ) → At x ≡ At y → x ≡ y
     same x y q = cc
 
-    free : (w : Walked) → orPast w (At v) (λ _. findFree (listed (s .regions)) (s .next) n) ≡ At a → (v ≡ a) ⊎ (findFree (listed (s .regions)) (s .next) n ≡ At a)
-    free (At z) g = inr g
-    free (Stop z) g = inl (same v a g)
+    free : (w : InTheWay) → orPast w (At v) (λ _. findFree (listed (s .regions)) (s .next) n) ≡ At a → (v ≡ a) ⊎ (findFree (listed (s .regions)) (s .next) n ≡ At a)
+    free (Until z) g = inr g
+    free Nothing g = inl (same v a g)
 
     exact : (x : Bool) → onPage v ≡ x → pick x (inRange v n (At v)) (Stop unaligned) ≡ At a → (a % 4096 ≡ 0) × (a + n ≤ lastPage)
     exact true f g = here f (leb (v + n) lastPage) refl (At v) g (λ q. inl (same v a q))

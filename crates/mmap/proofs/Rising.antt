@@ -14,7 +14,7 @@ use Rattle.mmap.specs.declared.MappedRegion.{MappedRegion}
 use Rattle.slots.specs.Slots.{every}
 use Rattle.mmap.specs.Regions.{risingFrom, wellPlacedRegion, starts, insert, holds, remove}
 
--- n bytes at a, onPage, not empty, ending at most at the last page
+-- n bytes at a, aligned, not empty, ending at most at the last page
 pub record Placed (a n : ℕ) : Type 0 where
   pub even : a % 4096 ≡ 0
   pub whole : n % 4096 ≡ 0

@@ -1,37 +1,39 @@
--- Where the search for a free range ends: at an onPage address below the user's end.
+-- Where the search for a free range ends: at an aligned address below the user's end.
 use Prim.Native.Nat.{ℕ, zero, suc, _+_, _%_, _<_, _≤_}
-use mathlib.Core.Path.{_≡_, refl}
+use mathlib.Core.Path.{_≡_, refl, ap}
 use mathlib.Core.Bool.{Bool, true, false}
 use mathlib.Core.List.{List, [], _∷_}
 use native.Mathlib.Omega.{arith}
 use lib.Dec.{ltb}
 use lib.ListN.{length}
-use borrow.Author.Tests.{ltb-true}
-use Rattle.bits.specs.Bit.{pick}
-use Rattle.bits.proofs.Choice.{both-true}
+use borrow.Author.Tests.{lt-ltb, le-ltb, ltb-true}
+use Rattle.bits.specs.Bit.{pick, one}
+use Rattle.bits.proofs.Choice.{one-lt, both-true}
 use Rattle.answer.specs.Numbers.{noRegion}
 use Rattle.paging.specs.declared.Walked.{Walked}
 use Rattle.paging.specs.declared.Walked.the-variants.{At, Stop}
 use Rattle.mmap.specs.declared.MappedRegion.{MappedRegion}
+use Rattle.mmap.specs.declared.InTheWay.{InTheWay}
+use Rattle.mmap.specs.declared.InTheWay.the-variants.{Nothing, Until}
 use Rattle.mmap.specs.Regions.{userEnd, overlaps, inTheWay, orPast, searchFrom, findFree}
 use Rattle.mmap.proofs.Rising.{Rising}
 
-pub way-even : (a n e lo : ℕ) (l : List MappedRegion) → Rising lo l → inTheWay a n l ≡ At e → e % 4096 ≡ 0
+pub way-even : (a n e lo : ℕ) (l : List MappedRegion) → Rising lo l → inTheWay a n l ≡ Until e → e % 4096 ≡ 0
 unfolding inTheWay
 way-even a n e lo [] h k = let z : _≡_ {A = ℕ} 0 1 = cc in absurd (omega arith)
 way-even a n e lo (r ∷ l) h k = by (overlaps a n r) k (way-even a n e (suc (r .start)) l (h .2))
   where
-    by : (x : Bool) → pick x (At (r .start + r .size)) (inTheWay a n l) ≡ At e → (inTheWay a n l ≡ At e → e % 4096 ≡ 0) → e % 4096 ≡ 0
+    by : (x : Bool) → pick x (Until (r .start + r .size)) (inTheWay a n l) ≡ Until e → (inTheWay a n l ≡ Until e → e % 4096 ≡ 0) → e % 4096 ≡ 0
     by true g more = let z : r .start + r .size ≡ e = cc in omega (arith, h .1 .even, h .1 .whole)
     by false g more = more g
 
 -- the region in the way ends above the address
-way-past : (a n e : ℕ) (l : List MappedRegion) → inTheWay a n l ≡ At e → a < e
+way-past : (a n e : ℕ) (l : List MappedRegion) → inTheWay a n l ≡ Until e → a < e
 unfolding inTheWay
 way-past a n e [] k = let z : _≡_ {A = ℕ} 0 1 = cc in absurd (omega arith)
 way-past a n e (r ∷ l) k = by (overlaps a n r) refl k (way-past a n e l)
   where
-    by : (x : Bool) → overlaps a n r ≡ x → pick x (At (r .start + r .size)) (inTheWay a n l) ≡ At e → (inTheWay a n l ≡ At e → a < e) → a < e
+    by : (x : Bool) → overlaps a n r ≡ x → pick x (Until (r .start + r .size)) (inTheWay a n l) ≡ Until e → (inTheWay a n l ≡ Until e → a < e) → a < e
     by true o g more =
         let z : r .start + r .size ≡ e = cc in
         omega (arith, ltb-true a (r .start + r .size) (both-true (ltb a (r .start + r .size)) (ltb (r .start) (a + n)) o .0))
@@ -42,10 +44,10 @@ unfolding searchFrom
 search-place zero l n a b lo h e g = let z : _≡_ {A = ℕ} 0 1 = cc in absurd (omega arith)
 search-place (suc k) l n a b lo h e g = one (ltb (a + n) userEnd) refl g (λ c q. search-place k l n c b lo h q)
   where
-    two : a + n < userEnd → (w : Walked) → inTheWay a n l ≡ w → orPast w (At a) (searchFrom k l n) ≡ At b
+    two : a + n < userEnd → (w : InTheWay) → inTheWay a n l ≡ w → orPast w (At a) (searchFrom k l n) ≡ At b
         → ((c : ℕ) → c % 4096 ≡ 0 → searchFrom k l n c ≡ At b → (b % 4096 ≡ 0) × (b + n < userEnd)) → (b % 4096 ≡ 0) × (b + n < userEnd)
-    two u (At c) w g more = more c (way-even a n c lo l h w) g
-    two u (Stop z) w g more = let y : a ≡ b = cc in (omega arith, omega arith)
+    two u (Until c) w g more = more c (way-even a n c lo l h w) g
+    two u Nothing w g more = let y : a ≡ b = cc in (omega arith, omega arith)
 
     one : (x : Bool) → ltb (a + n) userEnd ≡ x → pick x (orPast (inTheWay a n l) (At a) (searchFrom k l n)) (Stop noRegion) ≡ At b
         → ((c : ℕ) → c % 4096 ≡ 0 → searchFrom k l n c ≡ At b → (b % 4096 ≡ 0) × (b + n < userEnd)) → (b % 4096 ≡ 0) × (b + n < userEnd)
@@ -58,9 +60,9 @@ unfolding searchFrom
 search-from zero l n a b g = let z : _≡_ {A = ℕ} 0 1 = cc in absurd (omega arith)
 search-from (suc k) l n a b g = one (ltb (a + n) userEnd) g (λ c. search-from k l n c b)
   where
-    two : (w : Walked) → inTheWay a n l ≡ w → orPast w (At a) (searchFrom k l n) ≡ At b → ((c : ℕ) → searchFrom k l n c ≡ At b → c ≤ b) → a ≤ b
-    two (At c) w g more = omega (arith, way-past a n c l w, more c g)
-    two (Stop z) w g more = let y : a ≡ b = cc in omega arith
+    two : (w : InTheWay) → inTheWay a n l ≡ w → orPast w (At a) (searchFrom k l n) ≡ At b → ((c : ℕ) → searchFrom k l n c ≡ At b → c ≤ b) → a ≤ b
+    two (Until c) w g more = omega (arith, way-past a n c l w, more c g)
+    two Nothing w g more = let y : a ≡ b = cc in omega arith
 
     one : (x : Bool) → pick x (orPast (inTheWay a n l) (At a) (searchFrom k l n)) (Stop noRegion) ≡ At b → ((c : ℕ) → searchFrom k l n c ≡ At b → c ≤ b) → a ≤ b
     one true g more = two (inTheWay a n l) refl g more
@@ -68,3 +70,55 @@ search-from (suc k) l n a b g = one (ltb (a + n) userEnd) g (λ c. search-from k
 
 pub find-from : (l : List MappedRegion) (next n b : ℕ) → findFree l next n ≡ At b → next ≤ b
 find-from l next n b = search-from (suc (length l)) l n next b
+
+-- ---- the scans are enough
+
+-- how many regions end above a
+abbrev ahead : ℕ → List MappedRegion → ℕ
+ahead a [] = 0
+ahead a (r ∷ l) = one (ltb a (r .start + r .size)) + ahead a l
+
+ahead-few : (a : ℕ) (l : List MappedRegion) → ahead a l ≤ length l
+ahead-few a [] = omega arith
+ahead-few a (r ∷ l) = omega (arith, one-lt (ltb a (r .start + r .size)), ahead-few a l)
+
+fewer : (a b x : ℕ) → a ≤ b → one (ltb b x) ≤ one (ltb a x)
+fewer a b x h = by (ltb b x) refl
+  where
+    by : (t : Bool) → ltb b x ≡ t → one t ≤ one (ltb a x)
+    by true e = let k : one (ltb a x) ≡ 1 = ap one (lt-ltb a x (omega (arith, ltb-true b x e))) in omega arith
+    by false e = omega arith
+
+ahead-fewer : (a b : ℕ) (l : List MappedRegion) → a ≤ b → ahead b l ≤ ahead a l
+ahead-fewer a b [] h = omega arith
+ahead-fewer a b (r ∷ l) h = omega (arith, fewer a b (r .start + r .size) h, ahead-fewer a b l h)
+
+-- the region in the way is behind once it is moved past
+ahead-less : (a n e : ℕ) (l : List MappedRegion) → inTheWay a n l ≡ Until e → ahead e l < ahead a l
+unfolding inTheWay
+ahead-less a n e [] k = let z : _≡_ {A = ℕ} 0 1 = cc in absurd (omega arith)
+ahead-less a n e (r ∷ l) k = by (overlaps a n r) refl k (ahead-less a n e l)
+  where
+    by : (x : Bool) → overlaps a n r ≡ x → pick x (Until (r .start + r .size)) (inTheWay a n l) ≡ Until e → (inTheWay a n l ≡ Until e → ahead e l < ahead a l)
+        → one (ltb e (r .start + r .size)) + ahead e l < one (ltb a (r .start + r .size)) + ahead a l
+    by true o g more =
+        let z : r .start + r .size ≡ e = cc in
+        let lt : ltb a (r .start + r .size) ≡ true = both-true (ltb a (r .start + r .size)) (ltb (r .start) (a + n)) o .0 in
+        let past : ltb e (r .start + r .size) ≡ false = le-ltb e (r .start + r .size) (omega arith) in
+        omega (arith, ap one lt, ap one past, ahead-fewer a e l (omega (arith, ltb-true a (r .start + r .size) lt)))
+    by false o g more = omega (arith, fewer a e (r .start + r .size) (omega (arith, way-past a n e l g)), more g)
+
+scans : (k j : ℕ) (l : List MappedRegion) (n a : ℕ) → ahead a l < k → ahead a l < j → searchFrom k l n a ≡ searchFrom j l n a
+unfolding searchFrom
+scans zero j l n a h i = absurd (omega arith)
+scans (suc k) zero l n a h i = absurd (omega arith)
+scans (suc k) (suc j) l n a h i = ap (λ (w : Walked). pick (ltb (a + n) userEnd) w (Stop noRegion)) (by (inTheWay a n l) refl (λ c. scans k j l n c))
+  where
+    by : (w : InTheWay) → inTheWay a n l ≡ w → ((c : ℕ) → ahead c l < k → ahead c l < j → searchFrom k l n c ≡ searchFrom j l n c)
+        → orPast w (At a) (searchFrom k l n) ≡ orPast w (At a) (searchFrom j l n)
+    by Nothing e more = refl
+    by (Until c) e more = let s = ahead-less a n c l e in more c (omega arith) (omega arith)
+
+-- more scans find nothing else
+pub enough : (k : ℕ) (l : List MappedRegion) (next n : ℕ) → length l < k → searchFrom k l n next ≡ findFree l next n
+enough k l next n h = scans k (suc (length l)) l n next (omega (arith, ahead-few next l)) (omega (arith, ahead-few next l))

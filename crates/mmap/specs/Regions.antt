@@ -14,6 +14,8 @@ use Rattle.paging.specs.declared.Walked.the-variants.{At, Stop}
 use Rattle.slots.specs.Slots.{Slots, listed, every}
 use Rattle.vmalloc.specs.Regions.{wellPlaced}
 use Rattle.mmap.specs.declared.MappedRegion.{MappedRegion}
+use Rattle.mmap.specs.declared.InTheWay.{InTheWay}
+use Rattle.mmap.specs.declared.InTheWay.the-variants.{Nothing, Until}
 
 -- the fresh next_addr, and the end that a searched range stays below
 abbrev pub userStart : ℕ
@@ -48,7 +50,7 @@ risingFrom from (r ∷ l) = both (leb from (r .start)) (risingFrom (suc (r .star
 abbrev pub wellPlacedRegion : MappedRegion → Bool
 wellPlacedRegion r = wellPlaced (r .start) (r .size)
 
--- not broken: at most 256 regions, strictly rising, each well placed, and an onPage next_addr
+-- not broken: at most 256 regions, strictly rising, each well placed, and an aligned next_addr
 unfoldable pub soundMappings : Slots MappedRegion → ℕ → Bool
 soundMappings s next =
     both (leb (s .count) 256)
@@ -57,17 +59,18 @@ soundMappings s next =
 abbrev pub overlaps : ℕ → ℕ → MappedRegion → Bool
 overlaps a n r = both (ltb a (r .start + r .size)) (ltb (r .start) (a + n))
 
--- the end of the first region that n bytes at a overlap; none where they are free
-unfoldable pub inTheWay : ℕ → ℕ → List MappedRegion → Walked
-inTheWay a n [] = Stop 0
-inTheWay a n (r ∷ l) = pick (overlaps a n r) (At (r .start + r .size)) (inTheWay a n l)
+-- the first region that n bytes at a overlap
+unfoldable pub inTheWay : ℕ → ℕ → List MappedRegion → InTheWay
+inTheWay a n [] = Nothing
+inTheWay a n (r ∷ l) = pick (overlaps a n r) (Until (r .start + r .size)) (inTheWay a n l)
 
-abbrev pub orPast : Walked → Walked → (ℕ → Walked) → Walked
-orPast (At end) here next = next end
-orPast (Stop z) here next = here
+-- here where nothing is in the way, else on from the end of what is
+abbrev pub orPast : InTheWay → Walked → (ℕ → Walked) → Walked
+orPast Nothing here on = here
+orPast (Until end) here on = on end
 
 -- 'At the first overlapping region it moves to that region's end and scans again. The exact sum is used.' Each region is moved past once at most, so that one scan more
--- than there are regions is always enough
+-- than there are regions is enough (law `enough` of proofs/Search)
 unfoldable pub searchFrom : ℕ → List MappedRegion → ℕ → ℕ → Walked
 searchFrom zero l n a = Stop noRegion
 searchFrom (suc k) l n a = pick (ltb (a + n) userEnd) (orPast (inTheWay a n l) (At a) (searchFrom k l n)) (Stop noRegion)

@@ -20,6 +20,12 @@ pub const USER_MMAP_START: u64 = 0x0000_1000_0000_0000;
 
 pub const USER_MMAP_END: u64 = 0x0000_7FFF_FFFF_F000;
 
+// What overlaps a range first: nothing, or a region up to its end.
+pub enum InTheWay {
+    Nothing,
+    Until(u64),
+}
+
 // The most regions that the list holds.
 pub const MAX_REGIONS: usize = 256;
 
