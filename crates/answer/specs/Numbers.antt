@@ -1,6 +1,5 @@
 -- Document 01's numbers by name, and the number and value of each kind of answer: a met call's number is 0, and a refused call's value is 0.
 use Prim.Native.Nat.{ℕ}
-use mathlib.Core.Bool.{Bool, true, false}
 use Rattle.bits.specs.Bit.{one}
 use Rattle.answer.specs.declared.Line.{Line}
 use Rattle.answer.specs.declared.Answer.{Answer}

@@ -1,5 +1,5 @@
 -- Masks and shifts as division and remainder: one law for each form of mask, over its place and width.
-use Prim.Native.Nat.{ℕ, zero, suc, _+_, _*_, _-_, _/_, _%_, _^_, _<_, _≤_}
+use Prim.Native.Nat.{ℕ, zero, suc, _+_, _*_, _-_, _%_, _^_, _<_}
 use mathlib.Core.Path.{_≡_, _∙_, ap}
 use mathlib.Core.Bool.{not}
 use native.Mathlib.Nat.{zero-mul, one-mul, mod-eq-of-lt}

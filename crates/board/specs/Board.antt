@@ -1,17 +1,18 @@
 -- The board, all of its parts together, and its start.
-use Prim.Native.Nat.{ℕ, _+_, _-_, _*_, _/_}
-use mathlib.Core.Bool.{Bool, true, false}
-use mathlib.Core.List.{List, [], _∷_, _++_}
-use lib.Dec.{leb, eqb}
+use Prim.Native.Nat.{ℕ, _*_}
+use mathlib.Core.List.{_∷_}
+use lib.Dec.{leb}
 use lib.ListN.{length, replicate}
-use Rattle.bits.specs.Bit.{pick, unless}
-use Rattle.answer.specs.Numbers.{brokenRecord, noFreeFrame}
+use Rattle.bits.specs.Bit.{unless}
+use Rattle.answer.specs.Numbers.{brokenRecord}
 use Rattle.answer.specs.declared.Answer.{Answer}
 use Rattle.answer.specs.declared.Answer.the-variants.{Met, Refused}
-use Rattle.frame.specs.Frames.{Frames, init, withMark}
+use Rattle.address.specs.declared.FrameAnswer.{FrameAnswer}
+use Rattle.address.specs.declared.FrameAnswer.the-variants.{AtFrame, NoFrame}
+use Rattle.frame.specs.Frames.{Frames, init, takeFrame}
 use Rattle.paging.specs.declared.Walked.{Walked}
 use Rattle.paging.specs.declared.Walked.the-variants.{At, Stop}
-use Rattle.paging.specs.Map.{Memory, memory, startOf, totalOf, zeroFrame}
+use Rattle.paging.specs.Map.{Memory, memory, zeroFrame}
 use Rattle.slots.specs.Slots.{Slots}
 use Rattle.vmalloc.specs.Regions.{window}
 use Rattle.vmalloc.specs.Regions.{noSlot as noVmSlot}
@@ -36,25 +37,28 @@ pub record Did : Type 0 where
 abbrev pub did : Walked → Board → Did
 did a b = record { answer = a; board = b }
 
--- the board once the allocator fr is ready: the lowest frame is the root, zeroed; the window is one free region; the other lists are empty, all their slots zero
-abbrev pub begun : Board → Frames → Board
-begun b fr = record {
-  mem = memory (zeroFrame (b .mem .words) (fr .fa .start) (fr .fa .start)) (withMark fr 0);
-  root = fr .fa .start;
+-- the board once its root is taken: the root zeroed, the window one free region, the other lists empty, all their slots zero
+abbrev pub begun : Board → ℕ → Frames → Board
+begun b root fr = record {
+  mem = memory (zeroFrame (b .mem .words) (fr .fa .start) root) fr;
+  root = root;
   kernel = record { slots = window ∷ replicate 255 noVmSlot; count = 1 };
   user = record { slots = replicate 256 noMmapSlot; count = 0 };
   next = userStart;
   marked = record { slots = replicate 256 0; count = 0 };
 }
 
--- 'runs `FrameAllocator::init`, takes the lowest frame as root (11 if total is 0), zeroes it, and makes the vmalloc window one free region'; 10 also for 'fewer lent
--- words than total × 512'. A refused start changes nothing
+abbrev pub rooted : Board → FrameAnswer → Frames → Did
+rooted b (AtFrame f) fr = did (At 0) (begun b (f .0) fr)
+rooted b (NoFrame n) fr = did (Stop n) b
+
+-- 10 also for 'fewer lent words than total × 512'
 abbrev pub ready : Board → Answer → Frames → Did
 ready b (Refused n) fr = did (Stop n) b
 ready b Met fr =
     unless (leb (fr .fa .total * 512) (length (b .mem .words))) (did (Stop brokenRecord) b)
-    (pick (eqb (fr .fa .total) 0) (did (Stop noFreeFrame) b)
-    (did (At 0) (begun b fr)))
+    (rooted b (takeFrame fr .answer) (takeFrame fr .frames))
 
+-- 'runs `FrameAllocator::init`, takes the lowest frame as root (11 if total is 0), zeroes it, and makes the vmalloc window one free region'. A refused start changes nothing
 unfoldable pub start : Board → ℕ → ℕ → Did
 start b from to = ready b (init (b .mem .frames) from to .answer) (init (b .mem .frames) from to .frames)

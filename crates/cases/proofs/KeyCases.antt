@@ -1,6 +1,6 @@
 -- The key cases hold.
-use Prim.Native.Nat.{ℕ, _+_, _-_, _%_, _^_}
-use mathlib.Core.Path.{_≡_, refl, sym, _∙_, ap, subst}
+use Prim.Native.Nat.{ℕ, _%_}
+use mathlib.Core.Path.{_≡_, refl, ap, subst}
 use mathlib.Core.Bool.{Bool, true, false, false≢true}
 use mathlib.Core.List.{List, [], _∷_}
 use native.Mathlib.Omega.{arith}
@@ -10,12 +10,12 @@ use Rattle.bits.specs.Bit.{pick}
 use Rattle.bits.proofs.Choice.{both-true}
 use Rattle.allocator.specs.Round.{rounded}
 use Rattle.paging.specs.Calls.{whole}
-use Rattle.frame.specs.Frames.{Frames, init, isAllocated}
+use Rattle.frame.specs.Frames.{init, isAllocated}
 use Rattle.frame.proofs.Laws.{inside-low, inside-high, reads-outside}
 use Rattle.answer.specs.declared.FlagAnswer.the-variants.{Flag}
 use Rattle.slots.specs.Slots.{listed, every}
 use Rattle.vmalloc.specs.Regions.{firstFit}
-use Rattle.vmalloc.specs.Calls.{Kernel, vmalloc}
+use Rattle.vmalloc.specs.Calls.{vmalloc}
 use Rattle.mmap.specs.declared.MappedRegion.{MappedRegion}
 use Rattle.mmap.specs.Regions.{inTheWay, searchFrom, risingFrom, wellPlacedRegion, soundMappings, holds}
 use Rattle.mmap.specs.Calls.{User, onPage, soundUser, mmap, munmap}

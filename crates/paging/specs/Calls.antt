@@ -1,5 +1,5 @@
 -- The mapper's calls, in document 01's order of checks: 10 first. A board has `up` levels above the last; document 01's has 3.
-use Prim.Native.Nat.{ℕ, suc, _+_, _-_, _^_}
+use Prim.Native.Nat.{ℕ, suc, _-_, _^_}
 use mathlib.Core.Bool.{Bool, true, false}
 use mathlib.Core.List.{List}
 use lib.ListN.{length, getD, take}

@@ -1,5 +1,5 @@
 -- Entering tables, mapping and unmapping, on a record that was tested. Each step gives where it came or the number it stopped with, and the memory it leaves.
-use Prim.Native.Nat.{ℕ, zero, suc, _+_, _-_, _*_, _^_, _≤_, _<_}
+use Prim.Native.Nat.{ℕ, zero, suc, _+_, _-_, _*_, _^_, _≤_}
 use mathlib.Core.Bool.{Bool, true}
 use mathlib.Core.List.{List, [], _∷_}
 use lib.ListN.{length, getD, set}
@@ -11,7 +11,7 @@ use Rattle.entry.specs.Entry.{frameOf, entryOf}
 use Rattle.frame.specs.Frames.{Frames, inside, takeFrame, Held}
 use Rattle.paging.specs.declared.Walked.{Walked}
 use Rattle.paging.specs.declared.Walked.the-variants.{At, Stop}
-use Rattle.paging.specs.Walk.{place, reach, Lent}
+use Rattle.paging.specs.Walk.{place, reach}
 
 -- the lent words and the frame allocator
 pub record Memory : Type 0 where

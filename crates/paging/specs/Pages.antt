@@ -1,7 +1,6 @@
 -- Runs of pages, shared by vmalloc and mmap: fresh frames mapped one page after the other, and pages unmapped. A board has `up` levels above the last.
 use Prim.Native.Nat.{ℕ, zero, suc, _+_, _*_, _^_}
 use mathlib.Core.Bool.{Bool}
-use mathlib.Core.List.{List}
 use lib.ListN.{getD, take}
 use Rattle.answer.specs.Numbers.{mapPageFailed}
 use Rattle.address.specs.declared.FrameAnswer.{FrameAnswer}

@@ -12,7 +12,8 @@ use Rattle.bits.proofs.Choice.{both-true}
 use Rattle.allocator.specs.Round.{roundUp}
 use Rattle.answer.specs.Numbers.{brokenRecord, noFreeFrame}
 use Rattle.frame.proofs.Steps.{span-with}
-use Rattle.paging.specs.Map.{startOf}
+use Rattle.frame.specs.Frames.{withMark}
+use Rattle.paging.specs.Map.{memory, zeroFrame}
 use Rattle.paging.specs.declared.Walked.{Walked}
 use Rattle.paging.specs.declared.Walked.the-variants.{At, Stop}
 use Rattle.tree.proofs.Books.{bare-live, bare-tabled}
@@ -26,7 +27,7 @@ use Rattle.board.specs.Board.{Board, Did, did, begun, start}
 use Rattle.board.proofs.Start.{start-cases}
 use Rattle.release.specs.Demand3.{Call, vmallocs, vfrees, mmaps, munmaps, play, after, Event, events, turnedAway, noneTurnedAway, Region, liveStep, liveFrom, bookStep, bookFrom}
 use Rattle.release.proofs.Regions.{KernelList, UserList}
-use Rattle.release.proofs.Invariant.{Leftover, nothingLeft, Inv}
+use Rattle.release.proofs.Invariant.{Leftover, nothingLeft, Paged, Inv}
 use Rattle.release.proofs.Kernel.{morePages, vmalloc-step, vfree-step}
 use Rattle.release.proofs.User.{mmap-step, munmap-step}
 
@@ -93,14 +94,14 @@ refused n a c e = apart (ap (λ (d : Did). d .answer) e)
     apart q = let z : _≡_ {A = ℕ} 0 1 = cc in omega arith
 
 module _ (old : Board) (s t : ℕ) (some : 0 < t) (few : t ≤ 8192) (enough : t * 512 ≤ length (old .mem .words)) (low : s + t ≤ 2 ^ 40) where
-  begun-inv : Inv nothingLeft (begun old (unused s t)) (window ∷ []) [] [] []
+  begun-inv : Inv nothingLeft (begun old s (withMark (unused s t) 0)) (window ∷ []) [] [] []
   begun-inv = record {
-    paged = record {
+    paged = subst (λ (x : ℕ). Paged (memory (zeroFrame (old .mem .words) x s) (withMark (unused s t) 0)) s [] [] []) first (record {
       account = fresh-accounted (old .mem .words) s t 4 some few enough low;
       plain = fresh-plain (old .mem .words) s t 4 some few enough low;
       live = bare-live (λ p f e. fresh-only (old .mem .words) s t 4 some few enough low p f e .0);
       tabled = bare-tabled (λ p f e. fresh-only (old .mem .words) s t 4 some few enough low p f e .0);
-    };
+    });
     first = first;
     kernelIs = refl;
     kernelList = fresh-kernel;
@@ -110,7 +111,7 @@ module _ (old : Board) (s t : ℕ) (some : 0 < t) (few : t ≤ 8192) (enough : t
     once = tt;
   }
     where
-      first : s ≡ startOf (begun old (unused s t) .mem)
+      first : s ≡ withMark (unused s t) 0 .fa .start
       first = sym (span-with (unused s t) 0 .start)
 
 -- 'what any met start leaves, whatever the lent record held before'
