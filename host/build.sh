@@ -1,10 +1,11 @@
 #!/bin/sh
-# Builds the oracle below target/host. Runs again only what changed.
+# Builds the oracle and the tests below target/host. Runs again only what changed.
 #
 #   target/host/oracle/{checked,wrapping}/librinux.rlib   the original, in two builds
 #   target/host/oracle/libpaper.rlib                      calls, tapes, states, the domain
 #   target/host/oracle-{checked,wrapping}                 the program that plays a tape
 #   target/host/oracle-self                               the oracle's own tests
+#   target/host/layers                                    the proved layers beside the original
 set -eu
 cd "$(dirname "$0")/.."
 
@@ -65,4 +66,15 @@ if changed "$out/oracle-self" "$lib/checked/librinux.rlib" "$lib/wrapping/librin
     compile -o "$out/oracle-self" -L "$lib" --extern paper="$lib/libpaper.rlib" \
         --extern rinux_checked="$lib/checked/librinux.rlib" \
         --extern rinux_wrapping="$lib/wrapping/librinux.rlib" host/tests/oracle_self.rs
+fi
+
+# The proved layers, which `rt staticlib probe` makes.
+archive=target/staticlib/libprobe.a
+if [ ! -e "$archive" ]; then
+    echo "no $archive (rt staticlib probe makes it): $out/layers is left out"
+elif changed "$out/layers" "$archive" "$lib/wrapping/librinux.rlib" "$lib/libpaper.rlib" \
+    host/tests/layers.rs host/tests/layers host/tests/oracle_self/report.rs; then
+    compile -o "$out/layers" -L "$lib" -L native="$(dirname "$archive")" -l static=probe \
+        --extern paper="$lib/libpaper.rlib" --extern rinux="$lib/wrapping/librinux.rlib" \
+        host/tests/layers.rs
 fi

@@ -46,6 +46,16 @@ pub fn read(allocator: &FrameAllocator) -> Record {
     }
 }
 
+/// An allocator with this record.
+pub fn of(record: &Record) -> FrameAllocator {
+    FrameAllocator {
+        bitmap: record.bitmap,
+        start_frame: record.start_frame,
+        total_frames: record.total,
+        allocated_frames: record.allocated,
+    }
+}
+
 pub fn set(bitmap: &[u64; BITMAP_WORDS], allocated: u64) {
     let mut allocator = FRAME_ALLOCATOR.lock();
     allocator.bitmap = *bitmap;

@@ -29,3 +29,9 @@ pub fn huge_entry_word(phys: u64, writable: bool, user: bool) -> u64 {
 pub fn entry(word: u64) -> PageTableEntry {
     PageTableEntry(word)
 }
+
+/// The word that `get_entry` finds in a table of these words.
+pub fn get_entry(words: &[u64; 512], index: usize) -> Option<u64> {
+    let table = PageTable { entries: words.map(PageTableEntry) };
+    table.get_entry(index).map(|entry| entry.0)
+}

@@ -40,6 +40,17 @@ pub fn second_entry_word(phys: u64, flags: u64) -> u64 {
     page_handler::access::entry_word(phys, page_handler::PageFlags::from_bits(flags))
 }
 
+/// The second path's entry taken apart: present, the address, and the bits of its flags.
+pub fn second_entry_parts(word: u64) -> (bool, u64, u64) {
+    let entry = page_handler::access::entry(word);
+    (entry.is_present(), entry.physical_address(), entry.flags().to_bits())
+}
+
+/// The word at an index of a table of these words: in paging.rs and in page_handler.rs.
+pub fn get_entry(words: &[u64; 512], index: usize) -> [Option<u64>; 2] {
+    [paging::access::get_entry(words, index), page_handler::access::get_entry(words, index)]
+}
+
 /// Whether a table has an entry at this index: in paging.rs and in page_handler.rs.
 pub fn has_entry(index: usize) -> [bool; 2] {
     let first = paging::PageTable::new();

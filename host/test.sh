@@ -1,0 +1,30 @@
+#!/usr/bin/env bash
+# The host tests: the oracle's own, and the proved layers beside the original Rust. `rt staticlib` links what is proved already and checks the one thin
+# crate of C functions again. The last line sums both programs: 'N passed, M failed'.
+set -euo pipefail
+cd "$(dirname "$0")/.."
+rt staticlib probe
+host/build.sh
+log=$(mktemp)
+trap 'rm -f "$log"' EXIT
+passed=0
+failed=0
+
+# Runs a program and adds up the counts on its last line. One that ends otherwise is one failure more.
+counted() {
+    local status=0
+    "$@" | tee "$log" || status=$?
+    if [[ $(tail -n 1 "$log") =~ ^([0-9]+)\ passed,\ ([0-9]+)\ failed$ ]]; then
+        passed=$((passed + BASH_REMATCH[1]))
+        failed=$((failed + BASH_REMATCH[2]))
+        [ "$status" -eq 0 ] || [ "${BASH_REMATCH[2]}" -gt 0 ] || failed=$((failed + 1))
+    else
+        echo "FAILED $1: it ended with status $status and no counts"
+        failed=$((failed + 1))
+    fi
+}
+
+counted target/host/oracle-self
+counted target/host/layers
+echo "$passed passed, $failed failed"
+[ "$failed" -eq 0 ]
