@@ -7,7 +7,7 @@ use native.Mathlib.Omega.{arith}
 use lib.Dec.{eqb, leb, ltb}
 use borrow.Author.Tests.{le-leb, leb-true, ltb-true, ltb-false, eqb-false}
 use Rattle.bits.specs.Bit.{pick, both}
-use Rattle.bits.proofs.Choice.{both-true}
+use Rattle.bits.proofs.Choice.{pick-cases, both-true}
 use Rattle.fault.specs.Marked.{pagesRise, withPage, withoutPage}
 
 two : (a b : Bool) → a ≡ true → b ≡ true → both a b ≡ true
@@ -24,20 +24,17 @@ rise-earlier k lo (v ∷ l) h e =
 pub rise-with : (lo v : ℕ) (l : List ℕ) → lo ≤ v → pagesRise lo l ≡ true → pagesRise lo (withPage v l) ≡ true
 unfolding pagesRise withPage
 rise-with lo v [] h e = two (leb lo v) true (le-leb lo v h) refl
-rise-with lo v (w ∷ l) h e = by (ltb v w) refl (eqb v w) refl (λ q. rise-with (suc w) v l q (both-true (leb lo w) (pagesRise (suc w) l) e .1))
+rise-with lo v (w ∷ l) h e =
+    let r = both-true (leb lo w) (pagesRise (suc w) l) e in
+    let more : suc w ≤ v → pagesRise (suc w) (withPage v l) ≡ true = λ q. rise-with (suc w) v l q (r .1) in
+    pick-cases (λ (k : List ℕ). pagesRise lo k ≡ true) (ltb v w) _ _
+    (λ t. two (leb lo v) (both (leb (suc v) w) (pagesRise (suc w) l)) (le-leb lo v h)
+    (two (leb (suc v) w) (pagesRise (suc w) l) (le-leb (suc v) w (ltb-true v w t)) (r .1)))
+    (λ t. pick-cases (λ (k : List ℕ). pagesRise lo k ≡ true) (eqb v w) _ _ (λ _. e)
+    (λ u. two (leb lo w) (pagesRise (suc w) (withPage v l)) (r .0) (more (above (ltb-false v w t) (eqb-false v w u)))))
   where
-    by : (x : Bool) → ltb v w ≡ x → (y : Bool) → eqb v w ≡ y → (suc w ≤ v → pagesRise (suc w) (withPage v l) ≡ true)
-        → pagesRise lo (pick x (v ∷ w ∷ l) (pick y (w ∷ l) (w ∷ withPage v l))) ≡ true
-    by true t y u more =
-        two (leb lo v) (both (leb (suc v) w) (pagesRise (suc w) l)) (le-leb lo v h)
-        (two (leb (suc v) w) (pagesRise (suc w) l) (le-leb (suc v) w (ltb-true v w t)) (both-true (leb lo w) (pagesRise (suc w) l) e .1))
-    by false t true u more = e
-    by false t false u more =
-        two (leb lo w) (pagesRise (suc w) (withPage v l)) (both-true (leb lo w) (pagesRise (suc w) l) e .0)
-        (more (above (ltb-false v w t) (eqb-false v w u)))
-      where
-        above : w ≤ v → (v ≡ w → ⊥) → suc w ≤ v
-        above h d = omega arith
+    above : w ≤ v → (v ≡ w → ⊥) → suc w ≤ v
+    above h d = omega arith
 
 pub rise-without : (lo v : ℕ) (l : List ℕ) → pagesRise lo l ≡ true → pagesRise lo (withoutPage v l) ≡ true
 unfolding pagesRise withoutPage
