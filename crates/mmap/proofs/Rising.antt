@@ -9,6 +9,7 @@ use lib.Dec.{eqb, ltb}
 use lib.ListN.{length}
 use borrow.Author.Tests.{eq-eqb, ne-eqb, eqb-true, eqb-false, lt-ltb, le-leb, ltb-true, ltb-false}
 use Rattle.bits.specs.Bit.{pick}
+use Rattle.bits.proofs.Choice.{pick-cases}
 use Rattle.allocator.specs.Round.{lastPage}
 use Rattle.mmap.specs.declared.MappedRegion.{MappedRegion}
 use Rattle.slots.specs.Slots.{every}
@@ -151,6 +152,14 @@ module _ (r : MappedRegion) where
 
 -- removing the region at a
 module _ (a : ℕ) where
+  pub holds-removed : (n lo : ℕ) (l : List MappedRegion) → Rising lo l → holds a n (remove a l) ≡ false
+  unfolding remove holds
+  holds-removed n lo [] h = refl
+  holds-removed n lo (r ∷ l) h =
+      let more = holds-removed n (suc (r .start)) l (h .2) in
+      pick-cases (λ (k : List MappedRegion). holds a n k ≡ false) (eqb (r .start) a) _ _
+      (λ e. holds-none a n l (starts-none a (suc (r .start)) l (omega (arith, eqb-true (r .start) a e)) (h .2))) (λ e. rw e more)
+
   pub rising-remove : (lo : ℕ) (l : List MappedRegion) → Rising lo l → Rising lo (remove a l)
   unfolding remove
   rising-remove lo [] h = tt
@@ -168,15 +177,6 @@ module _ (a : ℕ) where
       by : (x : Bool) → length (remove a l) ≤ length l → length (pick x l (r ∷ remove a l)) ≤ suc (length l)
       by true more = omega arith
       by false more = omega arith
-
-  pub holds-removed : (n lo : ℕ) (l : List MappedRegion) → Rising lo l → holds a n (remove a l) ≡ false
-  unfolding remove holds
-  holds-removed n lo [] h = refl
-  holds-removed n lo (r ∷ l) h = by (eqb (r .start) a) refl (holds-removed n (suc (r .start)) l (h .2))
-    where
-      by : (x : Bool) → eqb (r .start) a ≡ x → holds a n (remove a l) ≡ false → holds a n (pick x l (r ∷ remove a l)) ≡ false
-      by true e more = holds-none a n l (starts-none a (suc (r .start)) l (omega (arith, eqb-true (r .start) a e)) (h .2))
-      by false e more = rw e more
 
   pub holds-kept : (b m : ℕ) (l : List MappedRegion) → (b ≡ a → ⊥) → holds b m (remove a l) ≡ holds b m l
   unfolding remove holds
