@@ -1,0 +1,19 @@
+-- `tables_above`: three tables above a 2 MiB entry, two above a 1 GiB entry.
+use borrow.Author.Needs.{needs}
+use Rattle.mapper.proofs.inner.tables_above.Statement.{statement}
+use Rattle.mapper.proofs.inner.tables_above.Tie as tie
+
+enum-told : tie.Need-enum-told
+enum-told c = search needs
+
+enum-told-2 : tie.Need-enum-told-2
+enum-told-2 c = search needs
+
+returns : tie.Need-returns
+returns c = search needs
+
+returns-2 : tie.Need-returns-2
+returns-2 c = search needs
+
+pub tables-above-spec : {M : Type 1} → statement M
+tables-above-spec = tie.close (tie.spec enum-told enum-told-2 returns returns-2)
