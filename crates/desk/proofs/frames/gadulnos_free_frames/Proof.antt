@@ -1,0 +1,27 @@
+-- Parts that do not fit, or the call.
+use mathlib.Core.Path.{refl}
+use Rattle.frame.proofs.Laws.{passed, failed}
+use Rattle.desk.proofs.Fit.{lengths}
+use borrow.Author.Needs.{needs}
+use Rattle.desk.proofs.frames.gadulnos_free_frames.Statement.{statement}
+use Rattle.desk.proofs.frames.gadulnos_free_frames.Tie as tie
+
+frames-fit-requires : tie.Need-frames-fit-requires
+frames-fit-requires c κs = search needs
+
+broken-requires : tie.Need-broken-requires
+broken-requires c κs = search needs
+
+returns : tie.Need-returns
+returns c = rw (c .broken .ensures, failed (c .before .before .frames-fit .ensures) (c .before .if1 .taken)) refl
+
+free-frames-in-requires : tie.Need-free-frames-in-requires
+free-frames-in-requires c κs = lengths (c .before .before .before .before .args .fields .now) (c .before .before .before .before .args .bits .now) (c .before .frames-fit .ensures) (c .if1 .left)
+
+returns-2 : tie.Need-returns-2
+returns-2 c = rw (passed (c .before .before .frames-fit .ensures) (c .before .if1 .left)) (c .free-frames-in .ensures)
+
+pub gadulnos-free-frames-spec : {M : Type 1} → statement M
+gadulnos-free-frames-spec =
+    tie.close
+    (tie.spec frames-fit-requires broken-requires returns free-frames-in-requires returns-2)

@@ -1,0 +1,57 @@
+-- The call on the parts unpacked, and the parts that it leaves packed.
+use mathlib.Core.Path.{refl}
+use borrow.Author.Needs.{needs}
+use Rattle.desk.proofs.frames.mark_allocated_in.Statement.{statement}
+use Rattle.desk.proofs.frames.mark_allocated_in.Tie as tie
+
+get-bits-requires : tie.Need-get-bits-requires
+get-bits-requires c κs = search needs
+
+get-fields-requires : tie.Need-get-fields-requires
+get-fields-requires c κs = search needs
+
+mark-allocated-requires : tie.Need-mark-allocated-requires
+mark-allocated-requires c κs = search needs
+
+put-fields-requires : tie.Need-put-fields-requires
+put-fields-requires c κs = search needs
+
+put-bits-requires : tie.Need-put-bits-requires
+put-bits-requires c κs = search needs
+
+answer-line-requires : tie.Need-answer-line-requires
+answer-line-requires c κs = search needs
+
+same-length : tie.Need-same-length
+same-length c = search needs
+
+same-length-2 : tie.Need-same-length-2
+same-length-2 c = search needs
+
+returns : tie.Need-returns
+returns c =
+    let r = c .before .before .before .before .before .before .before .before .before .before .before in
+    rw (
+      c .answer-line .ensures,
+      c .before .before .before .put-bits .ensures,
+      c .before .before .before .before .before .before .before .before .put-fields .ensures,
+      r .mark-allocated .ensures .0,
+      r .mark-allocated .ensures .1,
+      r .before .before .get-fields .ensures,
+      r .before .before .before .before .get-bits .ensures,
+    )
+    (refl, (refl, refl))
+
+pub mark-allocated-in-spec : {M : Type 1} → statement M
+mark-allocated-in-spec =
+    tie.close
+    (tie.spec
+    get-bits-requires
+    get-fields-requires
+    mark-allocated-requires
+    put-fields-requires
+    put-bits-requires
+    answer-line-requires
+    same-length
+    same-length-2
+    returns)

@@ -1,0 +1,26 @@
+-- The number and value of a table's entry, and the record of ten flags.
+use mathlib.Core.Bool.{Bool}
+use Rattle.answer.specs.declared.Line.{Line}
+use Rattle.entry.specs.declared.EntryAnswer.{EntryAnswer}
+use Rattle.entry.specs.declared.EntryAnswer.the-variants.{AtEntry, NoEntry}
+use Rattle.entry.specs.declared.page_handler.PageFlags.{PageFlags}
+
+-- the word, or 14
+abbrev pub entryLine : EntryAnswer → Line
+entryLine (AtEntry e) = record { number = 0; value = e .0 }
+entryLine (NoEntry n) = record { number = n; value = 0 }
+
+-- ten flags in the order of the fields
+abbrev pub tenFlags : Bool → Bool → Bool → Bool → Bool → Bool → Bool → Bool → Bool → Bool → PageFlags
+tenFlags p w u t c a d h g n = record {
+  present = p;
+  writable = w;
+  user = u;
+  «write_through» = t;
+  «cache_disabled» = c;
+  accessed = a;
+  dirty = d;
+  huge = h;
+  global = g;
+  «no_execute» = n;
+}

@@ -1,0 +1,62 @@
+// Parts of the state, taken out of packed bytes and put back.
+use answer::Line;
+use frame::FrameAllocator;
+ghost use mathlib.Core.Path.{_≡_};
+ghost use lib.ListN.{length};
+ghost use Rattle.answer.specs.Numbers.{brokenRecord, answerLine};
+ghost use Rattle.answer.specs.declared.Answer.the-variants.{Refused};
+ghost use Rattle.packed.specs.Words.{pack, unpack};
+ghost use Rattle.desk.specs.Parts.{fieldsIn, fieldsOut, framesFit};
+
+// What is told of parts that stand for no record.
+pub fn broken() -> Line
+    ensures { λ r. ⌜ r ≡ answerLine (Refused brokenRecord) ⌝ }
+{
+    Line {
+        number: answer::BROKEN_RECORD,
+        value: 0,
+    }
+}
+
+pub fn frames_fit(fields: &[u8], bits: &[u8]) -> bool
+    ensures { λ r. ⌜ r ≡ framesFit (now (fields .entry)) (now (bits .entry)) ⌝ }
+{
+    if fields.len() != 24 {
+        return false;
+    }
+    bits.len() == 1024
+}
+
+pub fn get_fields(fields: &[u8]) -> FrameAllocator
+    requires { ⌜ length (now fields) ≡ 24 ⌝ }
+    ensures { λ r. ⌜ r ≡ fieldsIn (now (fields .entry)) ⌝ }
+{
+    FrameAllocator {
+        start: packed::word_at(fields, 0),
+        total: packed::word_at(fields, 8),
+        allocated: packed::word_at(fields, 16),
+    }
+}
+
+pub fn put_fields(fields: &mut [u8], frames: FrameAllocator)
+    requires { ⌜ length (now fields) ≡ 24 ⌝ }
+    ensures { λ _. ⌜ now (fields .exit) ≡ fieldsOut frames ⌝ }
+{
+    packed::put_words(fields, &[frames.start, frames.total, frames.allocated]);
+}
+
+pub fn get_bits(bits: &[u8]) -> [u64; 128]
+    requires { ⌜ length (now bits) ≡ 1024 ⌝ }
+    ensures { λ r. ⌜ r ≡ unpack 128 (now (bits .entry)) ⌝ }
+{
+    let mut bitmap = [0u64; 128];
+    packed::get_words(bits, &mut bitmap);
+    bitmap
+}
+
+pub fn put_bits(bits: &mut [u8], bitmap: &[u64; 128])
+    requires { ⌜ length (now bits) ≡ 1024 ⌝ }
+    ensures { λ _. ⌜ now (bits .exit) ≡ pack (now (bitmap .entry)) ⌝ }
+{
+    packed::put_words(bits, bitmap);
+}
