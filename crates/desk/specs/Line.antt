@@ -1,8 +1,10 @@
 -- The number and value of a table's entry, and the record of ten flags.
-use mathlib.Core.Bool.{Bool}
+use mathlib.Core.Bool.{Bool, true, false}
 use Rattle.answer.specs.declared.Line.{Line}
 use Rattle.entry.specs.declared.EntryAnswer.{EntryAnswer}
 use Rattle.entry.specs.declared.EntryAnswer.the-variants.{AtEntry, NoEntry}
+use Rattle.paging.specs.declared.HugePageSize.{HugePageSize}
+use Rattle.paging.specs.declared.HugePageSize.the-variants.{Size2MB, Size1GB}
 use Rattle.entry.specs.declared.page_handler.PageFlags.{PageFlags}
 
 -- the word, or 14
@@ -24,3 +26,8 @@ tenFlags p w u t c a d h g n = record {
   global = g;
   «no_execute» = n;
 }
+
+-- a huge page's size by one flag
+abbrev pub hugeOf : Bool → HugePageSize
+hugeOf true = Size1GB
+hugeOf false = Size2MB

@@ -1,5 +1,5 @@
 // The frame allocator's calls: the record and the bitmap are packed bytes.
-use crate::parts;
+use layout::parts;
 use address::Frame;
 use answer::Line;
 ghost use mathlib.Core.Path.{_≡_};
@@ -13,7 +13,7 @@ ghost use Rattle.address.specs.Address.{frameLine};
 ghost use Rattle.address.specs.declared.FrameAnswer.the-variants.{NoFrame};
 ghost use Rattle.packed.specs.Words.{pack};
 ghost use Rattle.frame.specs.Frames.{init as initOf, isAllocated, markAllocated, allocate, deallocate, freeFrames, allocatedFrames, totalFrames};
-ghost use Rattle.desk.specs.Parts.{framesIn, framesFit, fieldsOut};
+ghost use Rattle.layout.specs.Parts.{framesIn, framesFit, fieldsOut};
 
 fn init_in(fields: &mut [u8], bits: &mut [u8], from: u64, to: u64) -> Line
     requires { ⌜ length (now fields) ≡ 24 ⌝ }

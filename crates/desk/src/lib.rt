@@ -1,5 +1,4 @@
 // C functions for the marking desk: every public call, on numbers and packed bytes (docs/LAYOUT.md). The frames are lent as 64-bit words.
 pub mod entries;
 pub mod frames;
-pub mod parts;
 pub mod tables;

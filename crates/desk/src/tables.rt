@@ -1,5 +1,5 @@
 // The mapper's calls, on lent words; the frame record and the bitmap are packed bytes.
-use crate::parts;
+use layout::parts;
 use address::Frame;
 use address::PhysAddr;
 use address::VirtAddr;
@@ -14,7 +14,8 @@ ghost use Rattle.address.specs.Address.{physLine, frameLine};
 ghost use Rattle.packed.specs.Words.{pack};
 ghost use Rattle.paging.specs.Map.{memory};
 ghost use Rattle.paging.specs.Calls.{asAnswer, asPhys, asFrame, translate, userMay, mapPage, mapHuge, unmapPage};
-ghost use Rattle.desk.specs.Parts.{framesIn, framesFit, fieldsOut, hugeOf};
+ghost use Rattle.layout.specs.Parts.{framesIn, framesFit, fieldsOut};
+ghost use Rattle.desk.specs.Line.{hugeOf};
 
 #[no_mangle]
 pub extern "C" fn gadulnos_translate(

@@ -43,6 +43,15 @@ unfolding pack
 pack-append [] vs = refl
 pack-append (w ∷ ws) vs = ap (λ (l : List ℕ). bytes 8 w ++ l) (pack-append ws vs) ∙ sym (append-assoc (bytes 8 w) (pack ws) (pack vs))
 
+-- the k-th of n numbers
+pub word-of : (k n : ℕ) (bs : List ℕ) → k < n → number 8 (drop (k * 8) bs) ≡ getD (unpack n bs) k 0
+unfolding unpack
+word-of k zero bs h = absurd (omega arith)
+word-of zero (suc n) bs h = refl
+word-of (suc k) (suc n) bs h =
+    let e : 8 + k * 8 ≡ suc k * 8 = omega arith in
+    ap (number 8) (sym (drop-drop (k * 8) 8 bs ∙ ap (λ (i : ℕ). drop i bs) e)) ∙ word-of k n (drop 8 bs) (omega arith)
+
 -- ---- a turn of each loop
 
 pub got-none : (bs ws : List ℕ) → ws ≡ unpack 0 bs ++ drop 0 ws

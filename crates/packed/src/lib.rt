@@ -81,7 +81,7 @@ fn low_byte(x: u64) -> u8
 }
 
 // The eight bytes of a number, from `at` on. The back end makes one store of it.
-fn put_word(bytes: &mut [u8], at: usize, x: u64)
+pub fn put_word(bytes: &mut [u8], at: usize, x: u64)
     requires { ⌜ at + 8 ≤ length (now bytes) ⌝ }
     ensures { λ _. ⌜ now (bytes .exit) ≡ sets (now (bytes .entry)) at (bytesOf 8 x) ⌝ }
 {

@@ -1,7 +1,7 @@
 -- Parts that do not fit, or the call.
 use mathlib.Core.Path.{refl}
 use Rattle.frame.proofs.Laws.{passed, failed}
-use Rattle.desk.proofs.Fit.{lengths}
+use Rattle.layout.proofs.Fit.{lengths}
 use borrow.Author.Needs.{needs}
 use Rattle.desk.proofs.frames.gadulnos_mark_allocated.Statement.{statement}
 use Rattle.desk.proofs.frames.gadulnos_mark_allocated.Tie as tie

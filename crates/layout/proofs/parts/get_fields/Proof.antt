@@ -2,10 +2,10 @@
 use mathlib.Core.Path.{_∙_}
 use Rattle.packed.proofs.Words.{word-of}
 use borrow.Author.Needs.{needs}
-use Rattle.desk.proofs.parts.get_fields.Statement.{statement}
-use Rattle.desk.proofs.parts.get_fields.Tie as tie
-use Rattle.desk.proofs.parts.get_fields.Reads as reads
-use Rattle.desk.proofs.parts.get_fields.Lts as lts
+use Rattle.layout.proofs.parts.get_fields.Statement.{statement}
+use Rattle.layout.proofs.parts.get_fields.Tie as tie
+use Rattle.layout.proofs.parts.get_fields.Reads as reads
+use Rattle.layout.proofs.parts.get_fields.Lts as lts
 use Rattle.packed.proofs.word_at.Reads as word-at-reads
 
 word-at-requires : tie.Need-word-at-requires

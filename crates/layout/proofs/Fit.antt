@@ -9,7 +9,7 @@ use borrow.Author.Tests.{eqb-true, eq-eqb, ne-eqb}
 use Rattle.bits.specs.Bit.{both, unless}
 use Rattle.bits.proofs.Choice.{both-true}
 use Rattle.frame.proofs.Laws.{passed, failed}
-use Rattle.desk.specs.Parts.{framesFit}
+use Rattle.layout.specs.Parts.{framesFit}
 
 pub fit-other : (x y : Bool) → x ≡ false → false ≡ both x y
 fit-other x y h = rw h refl

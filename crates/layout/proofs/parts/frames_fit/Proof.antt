@@ -1,10 +1,10 @@
 -- `frames_fit`: two lengths.
 use borrow.Author.Tests.{eq-eqb, ne-eqb}
-use Rattle.desk.proofs.Fit.{fit-other, fit-one}
-use Rattle.desk.proofs.parts.frames_fit.Statement.{statement}
-use Rattle.desk.proofs.parts.frames_fit.Tie as tie
-use Rattle.desk.proofs.parts.frames_fit.Reads as reads
-use Rattle.desk.proofs.parts.frames_fit.Lts as lts
+use Rattle.layout.proofs.Fit.{fit-other, fit-one}
+use Rattle.layout.proofs.parts.frames_fit.Statement.{statement}
+use Rattle.layout.proofs.parts.frames_fit.Tie as tie
+use Rattle.layout.proofs.parts.frames_fit.Reads as reads
+use Rattle.layout.proofs.parts.frames_fit.Lts as lts
 
 returns : tie.Need-returns
 returns c = fit-other _ _ (ne-eqb _ 24 (c .if1 .taken))

@@ -1,6 +1,6 @@
 -- The parts of the state as packed bytes (docs/LAYOUT.md): the frame record, its bitmap.
 use Prim.Native.Nat.{ℕ}
-use mathlib.Core.Bool.{Bool, true, false}
+use mathlib.Core.Bool.{Bool}
 use mathlib.Core.List.{List, [], _∷_}
 use lib.Dec.{eqb}
 use lib.ListN.{length, getD}
@@ -8,8 +8,6 @@ use Rattle.bits.specs.Bit.{both}
 use Rattle.packed.specs.Words.{pack, unpack}
 use Rattle.frame.specs.Frames.{Frames, frames}
 use Rattle.frame.specs.declared.FrameAllocator.{FrameAllocator}
-use Rattle.paging.specs.declared.HugePageSize.{HugePageSize}
-use Rattle.paging.specs.declared.HugePageSize.the-variants.{Size2MB, Size1GB}
 
 -- the frame record: start, total, allocated
 abbrev pub fieldsIn : List ℕ → FrameAllocator
@@ -25,8 +23,3 @@ framesIn fields bits = frames (unpack 128 bits) (fieldsIn fields)
 -- a part whose length is another than its layout's stands for no record
 abbrev pub framesFit : List ℕ → List ℕ → Bool
 framesFit fields bits = both (eqb (length fields) 24) (eqb (length bits) 1024)
-
--- a huge page's size by one flag
-abbrev pub hugeOf : Bool → HugePageSize
-hugeOf true = Size1GB
-hugeOf false = Size2MB

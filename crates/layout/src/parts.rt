@@ -6,7 +6,7 @@ ghost use lib.ListN.{length};
 ghost use Rattle.answer.specs.Numbers.{brokenRecord, answerLine};
 ghost use Rattle.answer.specs.declared.Answer.the-variants.{Refused};
 ghost use Rattle.packed.specs.Words.{pack, unpack};
-ghost use Rattle.desk.specs.Parts.{fieldsIn, fieldsOut, framesFit};
+ghost use Rattle.layout.specs.Parts.{fieldsIn, fieldsOut, framesFit};
 
 // What is told of parts that stand for no record.
 pub fn broken() -> Line

@@ -1,0 +1,3 @@
+// The parts of the state as packed bytes; docs/LAYOUT.md has the layout of each.
+pub mod lists;
+pub mod parts;
