@@ -4,12 +4,13 @@ use mathlib.Core.Path.{_≡_, refl, sym, _∙_, ap}
 use mathlib.Core.Bool.{Bool, true, false, not}
 use mathlib.Core.List.{List}
 use lib.Dec.{eqb}
-use lib.ListN.{length}
+use lib.ListN.{length, drop}
 use borrow.Author.Tests.{eqb-true, eq-eqb, ne-eqb}
 use Rattle.bits.specs.Bit.{both, unless}
 use Rattle.bits.proofs.Choice.{both-true}
 use Rattle.frame.proofs.Laws.{passed, failed}
 use Rattle.layout.specs.Parts.{framesFit}
+use Rattle.layout.specs.Lists.{usedIsFlag, vmFit}
 
 pub fit-other : (x y : Bool) → x ≡ false → false ≡ both x y
 fit-other x y h = rw h refl
@@ -22,3 +23,15 @@ pub lengths : {t : Bool} (fields bits : List ℕ) → t ≡ framesFit fields bit
 lengths fields bits e h =
     let b = both-true _ _ (passed e h) in
     (eqb-true _ 24 (b .0), eqb-true _ 1024 (b .1))
+
+-- .. with those of a list beside them
+lengths-list : {t : Bool} (n : ℕ) (fields bits list : List ℕ) (more : Bool) → t ≡ both (framesFit fields bits) (both (eqb (length list) n) more) → not t ≡ false
+    → (length fields ≡ 24) × ((length bits ≡ 1024) × (length list ≡ n))
+lengths-list n fields bits list more e h =
+    let b = both-true _ _ (passed e h) in
+    let f = both-true _ _ (b .0) in
+    (eqb-true _ 24 (f .0), (eqb-true _ 1024 (f .1), eqb-true _ n (both-true _ _ (b .1) .0)))
+
+pub lengths-vm : {t : Bool} (fields bits list : List ℕ) → t ≡ both (framesFit fields bits) (vmFit list) → not t ≡ false
+    → (length fields ≡ 24) × ((length bits ≡ 1024) × (length list ≡ 6152))
+lengths-vm fields bits list e h = lengths-list 6152 fields bits list (usedIsFlag 256 (drop 8 list)) e h
