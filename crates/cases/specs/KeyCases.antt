@@ -17,7 +17,8 @@ use Rattle.vmalloc.specs.Regions.{window}
 use Rattle.vmalloc.specs.Calls.{Kernel, soundKernel, vmalloc}
 use Rattle.vmalloc.specs.Calls.{did as didKernel}
 use Rattle.mmap.specs.Regions.{userStart, findFree, holds}
-use Rattle.mmap.specs.Calls.{User, Wish, soundUser, mmap, munmap}
+use Rattle.mmap.specs.declared.Wish.{Wish}
+use Rattle.mmap.specs.Calls.{User, soundUser, mmap, munmap}
 use Rattle.mmap.specs.Calls.{did as didUser}
 
 pub record KeyCases : Type 0 where

@@ -1,15 +1,19 @@
 -- The three lists as packed bytes (docs/LAYOUT.md): the count first, then 256 slots.
-use Prim.Native.Nat.{ℕ, zero, suc}
+use Prim.Native.Nat.{ℕ, zero, suc, _+_, _*_, _^_}
 use mathlib.Core.Bool.{Bool, true, false}
 use mathlib.Core.List.{List, [], _∷_, _++_}
 use lib.Dec.{eqb, leb}
 use lib.ListN.{length, drop}
 use Rattle.bits.specs.Bit.{pick, both, one}
-use Rattle.packed.specs.Words.{number, bytes}
+use mir.Val.{ofZ, toZ}
+use mir.Syntax.{w32}
+use Rattle.packed.specs.Words.{number, bytes, pack, unpack}
 use Rattle.packed.specs.Records.{records, packed}
 use Rattle.slots.specs.Slots.{Slots}
 use Rattle.vmalloc.specs.Regions.{region}
 use Rattle.vmalloc.specs.declared.VMRegion.{VMRegion}
+use Rattle.mmap.specs.Regions.{region as mapped}
+use Rattle.mmap.specs.declared.MappedRegion.{MappedRegion}
 
 -- a vmalloc region: start, size, and 1 for used or 0 for free, each of 8 bytes
 abbrev pub vmRegionIn : List ℕ → VMRegion
@@ -32,3 +36,37 @@ vmOut s = bytes 8 (s .count) ++ packed vmRegionOut (s .slots)
 -- 8 bytes and 256 times 24; another byte for `used` than 0 or 1 stands for no record
 abbrev pub vmFit : List ℕ → Bool
 vmFit bs = both (eqb (length bs) 6152) (usedIsFlag 256 (drop 8 bs))
+
+-- an mmap region: start and size of 8 bytes, prot and flags of 4, by their two's-complement bits
+abbrev pub mappedIn : List ℕ → MappedRegion
+mappedIn b = mapped (number 8 b) (number 8 (drop 8 b)) (toZ w32 (number 4 (drop 16 b))) (toZ w32 (number 4 (drop 20 b)))
+
+abbrev pub mappedOut : MappedRegion → List ℕ
+mappedOut r = bytes 8 (r .start) ++ (bytes 8 (r .size) ++ bytes 8 (ofZ w32 (r .prot) + ofZ w32 (r .flags) * 2 ^ 32))
+
+-- the count, next_addr, and the slots
+abbrev pub mmapIn : List ℕ → Slots MappedRegion
+mmapIn bs = record { slots = records mappedIn 256 (drop 16 bs); count = number 8 bs }
+
+abbrev pub nextIn : List ℕ → ℕ
+nextIn bs = number 8 (drop 8 bs)
+
+abbrev pub mmapOut : Slots MappedRegion → ℕ → List ℕ
+mmapOut s next = (bytes 8 (s .count) ++ bytes 8 next) ++ packed mappedOut (s .slots)
+
+-- 16 bytes and 256 times 24
+abbrev pub mmapFit : List ℕ → Bool
+mmapFit bs = eqb (length bs) 6160
+
+-- the marked pages: the count, and 256 addresses
+abbrev pub markedIn : List ℕ → Slots ℕ
+markedIn bs = record { slots = unpack 256 (drop 8 bs); count = number 8 bs }
+
+abbrev pub markedSlots : List ℕ → ℕ → Slots ℕ
+markedSlots pages count = record { slots = pages; count = count }
+
+abbrev pub markedOut : Slots ℕ → List ℕ
+markedOut s = bytes 8 (s .count) ++ pack (s .slots)
+
+abbrev pub markedFit : List ℕ → Bool
+markedFit bs = eqb (length bs) 2056

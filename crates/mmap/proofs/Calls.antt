@@ -19,10 +19,12 @@ use Rattle.paging.specs.Map.{Memory}
 use Rattle.paging.specs.Pages.{clearPages, freePages}
 use Rattle.slots.specs.Slots.{listed, store}
 use Rattle.vmalloc.proofs.Calls.{positive, walked-cases}
+use Rattle.mmap.specs.declared.Wish.{Wish}
+use Rattle.mmap.specs.declared.Wish.the-variants.{Anywhere, Wished}
 use Rattle.mmap.specs.declared.InTheWay.{InTheWay}
 use Rattle.mmap.specs.declared.InTheWay.the-variants.{Nothing, Until}
 use Rattle.mmap.specs.Regions.{fixed, noSlot, inTheWay, orPast, findFree, starts, holds, remove}
-use Rattle.mmap.specs.Calls.{User, user, Did, did, soundUser, Wish, anywhere, wished, onPage, inRange, chosen, full, userPages, leftover, mapped, placed, sized, mmap, unmapped, munmap}
+use Rattle.mmap.specs.Calls.{User, user, Did, did, soundUser, onPage, inRange, chosen, full, userPages, leftover, mapped, placed, sized, mmap, unmapped, munmap}
 use Rattle.mmap.proofs.Rising.{Rising}
 use Rattle.mmap.proofs.Search.{search-place}
 
@@ -86,8 +88,8 @@ module _ (up : ℕ) (s : User) (root : ℕ) where
 pub chosen-place : (s : User) (wish : Wish) (n : ℕ) (flags : ℤ) (a : ℕ) → Rising 0 (listed (s .regions)) → s .next % 4096 ≡ 0 → chosen s wish n flags ≡ At a
     → (a % 4096 ≡ 0) × (a + n ≤ lastPage)
 unfolding chosen
-chosen-place s anywhere n flags a h e c = let r = search-place _ (listed (s .regions)) n (s .next) a 0 h e c in (r .0, omega (arith, r .1))
-chosen-place s (wished v) n flags a h e c = one (fixed flags) c
+chosen-place s Anywhere n flags a h e c = let r = search-place _ (listed (s .regions)) n (s .next) a 0 h e c in (r .0, omega (arith, r .1))
+chosen-place s (Wished v) n flags a h e c = one (fixed flags) c
   where
     found : findFree (listed (s .regions)) (s .next) n ≡ At a → (a % 4096 ≡ 0) × (a + n ≤ lastPage)
     found g = let r = search-place _ (listed (s .regions)) n (s .next) a 0 h e g in (r .0, omega (arith, r .1))

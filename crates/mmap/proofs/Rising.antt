@@ -1,5 +1,5 @@
 -- The mmap list in rising order: what storing and removing a region keep and change of it. `holds a n l ≡ true` says that l has a region of n bytes at a.
-use Prim.Native.Nat.{ℕ, suc, _+_, _%_, _<_, _≤_}
+use Prim.Native.Nat.{ℕ, suc, _<_, _≤_}
 use mathlib.Core.Path.{_≡_, refl, sym, _∙_, ap, subst}
 use mathlib.Core.Bool.{Bool, true, false, true≢false, false≢true}
 use mathlib.Core.List.{List, [], _∷_}
@@ -7,20 +7,13 @@ use native.Mathlib.Omega.{arith}
 use native.Mathlib.Nat.{le-refl, le-trans}
 use lib.Dec.{eqb, ltb}
 use lib.ListN.{length}
-use borrow.Author.Tests.{eq-eqb, ne-eqb, eqb-true, eqb-false, lt-ltb, le-leb, ltb-true, ltb-false}
+use borrow.Author.Tests.{eq-eqb, ne-eqb, eqb-true, eqb-false, le-leb, ltb-true, ltb-false}
 use Rattle.bits.specs.Bit.{pick}
 use Rattle.bits.proofs.Choice.{pick-cases}
-use Rattle.allocator.specs.Round.{lastPage}
 use Rattle.mmap.specs.declared.MappedRegion.{MappedRegion}
 use Rattle.slots.specs.Slots.{every}
+use Rattle.vmalloc.proofs.Placed.{Placed, placed-back}
 use Rattle.mmap.specs.Regions.{risingFrom, wellPlacedRegion, starts, insert, holds, remove}
-
--- n bytes at a, aligned, not empty, ending at most at the last page
-pub record Placed (a n : ℕ) : Type 0 where
-  pub even : a % 4096 ≡ 0
-  pub whole : n % 4096 ≡ 0
-  pub some : 0 < n
-  pub end : a + n ≤ lastPage
 
 -- well placed regions whose starts rise strictly, from lo on
 abbrev pub Rising : ℕ → List MappedRegion → Type 0
@@ -41,7 +34,7 @@ pub rising-placed : (lo : ℕ) (l : List MappedRegion) → Rising lo l → every
 unfolding every
 rising-placed lo [] h = refl
 rising-placed lo (r ∷ l) h =
-    rw (eq-eqb _ _ (h .1 .even), eq-eqb _ _ (h .1 .whole), lt-ltb _ _ (h .1 .some), le-leb _ _ (h .1 .end), rising-placed (suc (r .start)) l (h .2))
+    rw (placed-back _ _ (h .1), rising-placed (suc (r .start)) l (h .2))
 
 -- below its first region a list has none
 pub starts-none : (a lo : ℕ) (l : List MappedRegion) → a < lo → Rising lo l → starts a l ≡ false

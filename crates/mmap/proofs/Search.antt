@@ -28,7 +28,7 @@ way-even a n e lo (r ∷ l) h k = by (overlaps a n r) k (way-even a n e (suc (r 
     by false g more = more g
 
 -- the region in the way ends above the address
-way-past : (a n e : ℕ) (l : List MappedRegion) → inTheWay a n l ≡ Until e → a < e
+pub way-past : (a n e : ℕ) (l : List MappedRegion) → inTheWay a n l ≡ Until e → a < e
 unfolding inTheWay
 way-past a n e [] k = let z : _≡_ {A = ℕ} 0 1 = cc in absurd (omega arith)
 way-past a n e (r ∷ l) k = by (overlaps a n r) refl k (way-past a n e l)
@@ -122,3 +122,22 @@ scans (suc k) (suc j) l n a h i = ap (λ (w : Walked). pick (ltb (a + n) userEnd
 -- more scans find nothing else
 pub enough : (k : ℕ) (l : List MappedRegion) (next n : ℕ) → length l < k → searchFrom k l n next ≡ findFree l next n
 enough k l next n h = scans k (suc (length l)) l n next (omega (arith, ahead-few next l)) (omega (arith, ahead-few next l))
+
+-- ---- the search, one scan at a time
+
+module _ (l : List MappedRegion) (n a : ℕ) where
+  pub find-none : userEnd ≤ a + n → findFree l a n ≡ Stop noRegion
+  unfolding searchFrom
+  find-none h = rw (le-ltb _ _ h)
+
+  module _ (h : a + n < userEnd) where
+    pub find-here : inTheWay a n l ≡ Nothing → findFree l a n ≡ At a
+    unfolding searchFrom
+    find-here e = rw (lt-ltb _ _ h, e)
+
+    pub find-past : (e : ℕ) → inTheWay a n l ≡ Until e → findFree l a n ≡ findFree l e n
+    unfolding searchFrom
+    find-past e w =
+        let fewer = ahead-less a n e l w in
+        let few = ahead-few a l in
+        rw (lt-ltb _ _ h, w) (scans (length l) (suc (length l)) l n e (omega arith) (omega arith))

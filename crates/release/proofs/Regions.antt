@@ -22,7 +22,8 @@ use Rattle.vmalloc.proofs.Used.{used-merge, used-freed, used-gone, taken-used, 
 use Rattle.vmalloc.proofs.Tiles.{Apart, apart-taken, apart-merge}
 use Rattle.mmap.specs.declared.MappedRegion.{MappedRegion}
 use Rattle.mmap.specs.Regions.{region, starts, holds, insert, remove}
-use Rattle.mmap.proofs.Rising.{Rising, Placed, rising-insert, length-insert, holds-inserted, holds-others, holds-none, holds-one, rising-remove, length-remove, holds-removed, holds-kept}
+use Rattle.vmalloc.proofs.Placed.{Placed}
+use Rattle.mmap.proofs.Rising.{Rising, rising-insert, length-insert, holds-inserted, holds-others, holds-none, holds-one, rising-remove, length-remove, holds-removed, holds-kept}
 use Rattle.release.specs.Demand3.{Region, kernels, users, dropKernel, dropUser}
 use Rattle.release.proofs.Lists.{Once}
 

@@ -26,8 +26,10 @@ use Rattle.vmalloc.specs.declared.VMRegion.{VMRegion}
 use Rattle.mmap.specs.declared.MappedRegion.{MappedRegion}
 use Rattle.mmap.specs.Regions.{writable, region, starts, insert, holds, remove}
 use Rattle.mmap.specs.Regions.{noSlot as noUserSlot}
-use Rattle.mmap.specs.Calls.{User, user, Did, Wish, full, userPages, mapped, mmap, munmap}
-use Rattle.mmap.proofs.Rising.{Placed, holds-placed, holds-one, holds-none}
+use Rattle.vmalloc.proofs.Placed.{Placed}
+use Rattle.mmap.specs.declared.Wish.{Wish}
+use Rattle.mmap.specs.Calls.{User, user, Did, full, userPages, mapped, mmap, munmap}
+use Rattle.mmap.proofs.Rising.{holds-placed, holds-one, holds-none}
 use Rattle.mmap.proofs.Calls.{room, mmap-cases, munmap-cases, chosen-place}
 use Rattle.board.specs.Board.{Board}
 use Rattle.release.specs.Demand3.{mmaps, munmaps, turnedAway, Region, users, dropUser, liveStep, pagesFrom, pagesOf}

@@ -24,7 +24,9 @@ use Rattle.vmalloc.specs.declared.VMRegion.{VMRegion}
 use Rattle.vmalloc.specs.Regions.{window, noSlot, region, joins}
 use Rattle.vmalloc.specs.Calls.{kernel, vmalloc, vfree}
 use Rattle.mmap.specs.Regions.{fixed}
-use Rattle.mmap.specs.Calls.{user, Wish, anywhere, wished, onPage, mmap, munmap}
+use Rattle.mmap.specs.declared.Wish.{Wish}
+use Rattle.mmap.specs.declared.Wish.the-variants.{Anywhere, Wished}
+use Rattle.mmap.specs.Calls.{user, onPage, mmap, munmap}
 use Rattle.board.specs.Board.{Board, Did, did, start}
 
 -- ---- lists of calls
@@ -86,8 +88,8 @@ noneTurnedAway es = every (λ e. not (turnedAway (e .answer))) es
 abbrev pub lowRange : Call → Bool
 lowRange (vmallocs size) = true
 lowRange (vfrees a) = true
-lowRange (mmaps anywhere size prot flags) = true
-lowRange (mmaps (wished a) size prot flags) = pick (pick (fixed flags) true (onPage a)) (leb (a + roundUp 12 size) (2 ^ 47)) true
+lowRange (mmaps Anywhere size prot flags) = true
+lowRange (mmaps (Wished a) size prot flags) = pick (pick (fixed flags) true (onPage a)) (leb (a + roundUp 12 size) (2 ^ 47)) true
 lowRange (munmaps a size) = true
 
 abbrev pub counts : Walked → Bool

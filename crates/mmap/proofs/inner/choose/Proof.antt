@@ -1,0 +1,71 @@
+-- `choose`: the search, the fixed address, or the hint.
+use mathlib.Core.Path.{_≡_, sym, _∙_, ap}
+use mir.Facts.{toZ-ofZ}
+use mir.Syntax.{w32}
+use mir.Val.{ofZ, toZ}
+use borrow.Author.Needs.{needs}
+use Rattle.mmap.specs.declared.Wish.{Wish}
+use Rattle.mmap.specs.Regions.{fixed}
+use Rattle.mmap.specs.List.{slotsOf}
+use Rattle.mmap.specs.Calls.{user, chosen}
+use Rattle.mmap.proofs.Steps.{chosen-any, chosen-fixed, chosen-hint}
+use Rattle.mmap.proofs.inner.choose.Statement.{statement}
+use Rattle.mmap.proofs.inner.choose.Tie as tie
+
+enum-told : tie.Need-enum-told
+enum-told c = search needs
+
+find-free-region-requires : tie.Need-find-free-region-requires
+find-free-region-requires c κs = search needs
+
+enum-known-wish : tie.Need-enum-known-wish
+enum-known-wish c = search needs
+
+is-fixed-requires : tie.Need-is-fixed-requires
+is-fixed-requires c κs = search needs
+
+fixed-at-requires : tie.Need-fixed-at-requires
+fixed-at-requires c κs = search needs
+
+-- a signed number that is passed on is what its bits read back
+same : (s : tie.Start) → fixed (toZ w32 (ofZ w32 (s .args .flags))) ≡ fixed (s .args .flags)
+same s = ap fixed (toZ-ofZ (s .fits .flags))
+
+returns : tie.Need-returns
+returns c m =
+    let f = c .before .before in
+    let w = f .before .before in
+    let a = w .before .before .args in
+    c .fixed-at .ensures ∙ sym (chosen-fixed (user m (slotsOf (a .list)) (a .list .next)) (a .n) (a .flags) _ (sym (same (w .before .before)) ∙ sym (f .is-fixed .ensures) ∙ c .before .if1 .taken))
+    ∙ ap (λ (x : Wish). chosen (user m (slotsOf (a .list)) (a .list .next)) x (a .n) (a .flags)) (sym (w .wish .given .1))
+
+hinted-at-requires : tie.Need-hinted-at-requires
+hinted-at-requires c κs = search needs
+
+returns-2 : tie.Need-returns-2
+returns-2 c m =
+    let a = c .before .before .before .args in
+    c .find-free-region .ensures ∙ sym (chosen-any (user m (slotsOf (a .list)) (a .list .next)) (a .n) (a .flags))
+    ∙ ap (λ (x : Wish). chosen (user m (slotsOf (a .list)) (a .list .next)) x (a .n) (a .flags)) (sym (c .before .enum-told .given .1))
+
+returns-3 : tie.Need-returns-3
+returns-3 c m =
+    let f = c .before .before in
+    let w = f .before .before in
+    let a = w .before .before .args in
+    c .hinted-at .ensures ∙ sym (chosen-hint (user m (slotsOf (a .list)) (a .list .next)) (a .n) (a .flags) _ (sym (same (w .before .before)) ∙ sym (f .is-fixed .ensures) ∙ c .before .if1 .left))
+    ∙ ap (λ (x : Wish). chosen (user m (slotsOf (a .list)) (a .list .next)) x (a .n) (a .flags)) (sym (w .wish .given .1))
+
+pub choose-spec : {M : Type 1} → statement M
+choose-spec =
+    tie.close
+    (tie.spec
+    enum-told
+    find-free-region-requires
+    enum-known-wish
+    is-fixed-requires
+    fixed-at-requires
+    returns
+    hinted-at-requires
+    returns-2
+    returns-3)
