@@ -111,6 +111,18 @@ impl Generator {
         Generator { seed, profile, mood, random, recent: Vec::new() }
     }
 
+    /// One whose calls fill a list to its 256 entries.
+    pub fn crowded(seed: u64) -> Generator {
+        let mut random = Random::new(seed);
+        let fillers = [Filler::Vmalloc, Filler::RisingVmalloc, Filler::Mmap, Filler::Mark];
+        let filler = random.one_of(&fillers);
+        let profile = match filler {
+            Filler::Mark => Profile::Faults,
+            _ => random.one_of(&[Profile::Release, Profile::Everything]),
+        };
+        Generator { seed, profile, mood: Mood::Crowded(filler), random, recent: Vec::new() }
+    }
+
     /// The seed and the profile, to print beside a failure.
     pub fn label(&self) -> String {
         format!("seed {} profile {}", self.seed, self.profile.name())

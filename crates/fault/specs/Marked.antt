@@ -1,9 +1,9 @@
 -- The pages marked copy-on-write, document 01's '256 copy-on-write pages', sorted; and the three calls on them.
 use Prim.Native.Nat.{ℕ, suc, _*_, _/_}
 use mathlib.Core.Bool.{Bool, true, false}
-use mathlib.Core.List.{List, [], _∷_}
+use mathlib.Core.List.{List, [], _∷_, _++_}
 use lib.Dec.{eqb, leb, ltb}
-use lib.ListN.{length}
+use lib.ListN.{length, take, drop}
 use Rattle.bits.specs.Bit.{pick, unless, both}
 use Rattle.answer.specs.Numbers.{brokenRecord, listFull}
 use Rattle.answer.specs.declared.Answer.{Answer}
@@ -11,6 +11,11 @@ use Rattle.answer.specs.declared.Answer.the-variants.{Met, Refused}
 use Rattle.answer.specs.declared.FlagAnswer.{FlagAnswer}
 use Rattle.answer.specs.declared.FlagAnswer.the-variants.{Flag, NoFlag}
 use Rattle.slots.specs.Slots.{Slots, listed, store}
+use Rattle.fault.specs.declared.MarkedAnswer.{MarkedAnswer}
+
+-- the slots as code is lent them: an array beside the number of pages listed
+abbrev pub slotsOf : List ℕ → ℕ → Slots ℕ
+slotsOf l n = record { slots = l; count = n }
 
 -- the page that an address lies in
 abbrev pub pageOf : ℕ → ℕ
@@ -38,6 +43,21 @@ unfoldable pub withoutPage : ℕ → List ℕ → List ℕ
 withoutPage v [] = []
 withoutPage v (w ∷ l) = pick (eqb w v) l (w ∷ withoutPage v l)
 
+-- ---- a page's place, by which code finds it: in pages that rise, the listed page itself, or the first page above it (laws in proofs/Place)
+
+unfoldable pub placeOf : ℕ → List ℕ → ℕ
+placeOf v [] = 0
+placeOf v (w ∷ l) = pick (ltb w v) (suc (placeOf v l)) 0
+
+-- a page put in at a place, and the one at a place taken out
+abbrev pub putIn : {A : Type 0} → ℕ → A → List A → List A
+putIn k a l = take k l ++ a ∷ drop k l
+
+abbrev pub takenOut : {A : Type 0} → ℕ → List A → List A
+takenOut k l = take k l ++ drop (suc k) l
+
+-- ---- the calls
+
 abbrev pub storePages : List ℕ → Slots ℕ → Slots ℕ
 storePages l s = store 0 l s
 
@@ -47,6 +67,10 @@ pub record DidMark : Type 0 where
 
 abbrev pub didMark : Answer → Slots ℕ → DidMark
 didMark a s = record { answer = a; marked = s }
+
+-- what code returns of a call; the slots it leaves are the lent ones
+abbrev pub marking : DidMark → MarkedAnswer
+marking d = record { answer = d .answer; count = d .marked .count }
 
 -- '20: .. marked pages are full and the key is not among them'
 abbrev pub fullOfPages : Slots ℕ → ℕ → Bool

@@ -5,7 +5,7 @@ use mathlib.Core.Bool.{Bool, true}
 use mathlib.Core.List.{List}
 use native.Mathlib.Nat.{mod-eq-of-lt}
 use native.Mathlib.Omega.{arith}
-use lib.ListN.{getD, set, take}
+use lib.ListN.{length, getD, set, take}
 use Rattle.answer.specs.declared.Answer.{Answer}
 use Rattle.address.specs.declared.Frame.{Frame}
 use Rattle.address.specs.declared.FrameAnswer.the-variants.{AtFrame, NoFrame}
@@ -20,7 +20,7 @@ use Rattle.paging.specs.declared.Walked.the-variants.{At, Stop}
 use Rattle.paging.specs.Walk.{place}
 use Rattle.paging.specs.Map.{Memory, memory, startOf, totalOf, Out, out, clear, create, enter, make, Left, putEntry, withWords, Roomy}
 use Rattle.paging.specs.Calls.{asAnswer, changed, mapAt}
-use Rattle.paging.proofs.Map.{taken-inside, create-new, create-full, enter-roomy, map-entry-stop, map-entry-put}
+use Rattle.paging.proofs.Map.{taken-inside, create-new, create-full, enter-roomy, make-roomy, map-entry-stop, map-entry-put}
 use Rattle.paging.proofs.Calls.{told}
 
 -- what `entry_place` asks of an entry of a lent table
@@ -56,6 +56,10 @@ stepped {m = m} e h = sym e ∙ ap (λ (x : Walked). out x m) h
 
 pub entered-roomy : (u : Bool) (m : Memory) (t i : ℕ) {w : Walked} {m′ : Memory} → out w m′ ≡ enter u m t i → (n : ℕ) → Roomy m (n + 1) → Roomy m′ n
 entered-roomy u m t i e n r = subst (λ (x : Memory). Roomy x n) (sym (ap (λ (o : Out). o .mem) e)) (enter-roomy u m t i n r)
+
+-- after `make_tables`: the room that is left
+pub made-roomy : (u : Bool) (m : Memory) (t : ℕ) (p : List ℕ) {w : Walked} {m′ : Memory} → out w m′ ≡ make u m t p → (n : ℕ) → Roomy m (n + length p) → Roomy m′ n
+made-roomy u m t p e n r = subst (λ (x : Memory). Roomy x n) (sym (ap (λ (o : Out). o .mem) e)) (make-roomy u n p m t r)
 
 -- after the tables are made, with the indices that `page_indices` gave
 module _ (up k : ℕ) (u : Bool) (m : Memory) (root v e : ℕ) {is : List ℕ} (g : is ≡ indices (suc up) v) (m′ : Memory) where

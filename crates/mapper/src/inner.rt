@@ -18,11 +18,11 @@ ghost use lib.ListN.{length, getD, take};
 ghost use Rattle.entry.specs.Entry.{indices as indicesOf};
 ghost use Rattle.frame.specs.Frames.{frames as framesOf};
 ghost use Rattle.paging.specs.Walk.{place, entryAt, reach, leaf, address, Lent};
-ghost use Rattle.paging.specs.Map.{memory, out, clear, create, enter as entered, putEntry, takeLeaf, unmapEntry, Roomy};
+ghost use Rattle.paging.specs.Map.{memory, out, clear, create, enter as entered, make, putEntry, takeLeaf, unmapEntry, Roomy};
 ghost use Rattle.paging.specs.Calls.{asAnswer, asPhys, changed, mapAt, userLeaf, tablesAbove};
 
 // The word number of entry i of table t, which is lent.
-fn entry_place(start: u64, t: u64, i: usize) -> usize
+pub fn entry_place(start: u64, t: u64, i: usize) -> usize
     requires { ⌜ start ≤ t ⌝ }
     requires { ⌜ t - start < 8192 ⌝ }
     requires { ⌜ i < 512 ⌝ }
@@ -196,7 +196,8 @@ pub fn put_entry(words: &mut [u64], start: u64, total: u64, t: u64, i: usize, e:
     Walked::At(0)
 }
 
-fn as_answer(walked: Walked) -> Answer
+// Where a step came, as an answer.
+pub fn as_answer(walked: Walked) -> Answer
     ensures { λ r. ⌜ r ≡ asAnswer walked ⌝ }
 {
     match walked {
@@ -212,6 +213,45 @@ pub fn tables_above(size: HugePageSize) -> usize
     match size {
         HugePageSize::Size2MB => 3,
         HugePageSize::Size1GB => 2,
+    }
+}
+
+// The tables along the first k indices, made where there are none; it comes to the last one.
+pub fn make_tables(
+    words: &mut [u64],
+    bitmap: &mut [u64; 128],
+    frames: FrameAllocator,
+    root: Frame,
+    indices: [usize; 4],
+    k: usize,
+    user: bool,
+) -> Entered
+    requires { ⌜ Roomy (memory (now words) (framesOf (now bitmap) frames)) 3 ⌝ }
+    requires { ⌜ k ≤ 3 ⌝ }
+    requires { ⌜ ((j : ℕ) → getD indices j 0 < 512) ⌝ }
+    ensures { λ r. ⌜ out (r .walked) (memory (now (words .exit)) (framesOf (now (bitmap .exit)) (r .frames))) ≡ make user (memory (now (words .entry)) (framesOf (now (bitmap .entry)) frames)) (root .0) (take k indices) ⌝ }
+{
+    let mut t = root.0;
+    let mut left = frames;
+    for level in 0..k {
+        let r = enter(words, bitmap, left, t, indices[level], user);
+        let walked = r.walked;
+        left = r.frames;
+        match walked {
+            Walked::Stop(n) => {
+                return Entered {
+                    walked: Walked::Stop(n),
+                    frames: left,
+                };
+            }
+            Walked::At(f) => {
+                t = f;
+            }
+        }
+    }
+    Entered {
+        walked: Walked::At(t),
+        frames: left,
     }
 }
 
@@ -233,28 +273,21 @@ pub fn map_entry(
     ensures { λ r. ⌜ now (bitmap .exit) ≡ mapAt 3 k user (memory (now (words .entry)) (framesOf (now (bitmap .entry)) frames)) (root .0) (virt .0) e .mem .frames .bits ⌝ }
 {
     let indices = entry::page_indices(virt);
-    let mut t = root.0;
-    let mut left = frames;
-    for level in 0..k {
-        let r = enter(words, bitmap, left, t, indices[level], user);
-        let walked = r.walked;
-        left = r.frames;
-        match walked {
-            Walked::Stop(n) => {
-                return Changed {
-                    answer: Answer::Refused(n),
-                    frames: left,
-                };
-            }
-            Walked::At(f) => {
-                t = f;
+    let made = make_tables(words, bitmap, frames, root, indices, k, user);
+    let walked = made.walked;
+    let left = made.frames;
+    match walked {
+        Walked::Stop(n) => Changed {
+            answer: Answer::Refused(n),
+            frames: left,
+        },
+        Walked::At(t) => {
+            let put = put_entry(words, left.start, left.total, t, indices[k], e);
+            Changed {
+                answer: as_answer(put),
+                frames: left,
             }
         }
-    }
-    let put = put_entry(words, left.start, left.total, t, indices[k], e);
-    Changed {
-        answer: as_answer(put),
-        frames: left,
     }
 }
 

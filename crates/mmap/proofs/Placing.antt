@@ -50,7 +50,8 @@ module _ (a : ℕ) where
           there = rw off (f .there);
           held = λ n. rw off (f .held n);
           without = rw off (ap (λ (x : List MappedRegion). s ∷ x) (f .without));
-          instead = λ r e. rw (le-ltb (r .start) (s .start) (omega arith), ne-eqb (r .start) (s .start) (λ q. omega arith)) (ap (λ (x : List MappedRegion). s ∷ x) (f .instead r e));
+          instead = λ r e. rw (le-ltb (r .start) (s .start) (omega arith), ne-eqb (r .start) (s .start) (λ q. omega arith))
+              (ap (λ (x : List MappedRegion). s ∷ x) (f .instead r e));
         }
 
     absent-here : a < s .start → Absent 0 (s ∷ l)

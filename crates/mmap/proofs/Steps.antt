@@ -135,7 +135,8 @@ module _ (up root a e k : ℕ) (m : Memory) where
 pub region-same : (up : ℕ) (s : User) (root a n : ℕ) {p p′ f f′ : ℤ} → p ≡ p′ → f ≡ f′ → mapRegion up s root a n p f ≡ mapRegion up s root a n p′ f′
 region-same up s root a n e h j = mapRegion up s root a n (e j) (h j)
 
-pub wish-same : (up : ℕ) (s : User) (root : ℕ) (wish : Wish) (n : ℕ) {p p′ f f′ : ℤ} → p ≡ p′ → f ≡ f′ → chosenRegion up s root wish n p f ≡ chosenRegion up s root wish n p′ f′
+pub wish-same : (up : ℕ) (s : User) (root : ℕ) (wish : Wish) (n : ℕ) {p p′ f f′ : ℤ} → p ≡ p′ → f ≡ f′
+    → chosenRegion up s root wish n p f ≡ chosenRegion up s root wish n p′ f′
 wish-same up s root wish n e h j = chosenRegion up s root wish n (e j) (h j)
 
 -- by where the run came, w, and the memory m that it left
@@ -144,7 +145,8 @@ module _ (up : ℕ) (s : User) (root a n : ℕ) (prot flags : ℤ) {w : Walked} 
       → mapRegion up s root a n prot flags ≡ did (At a) (user m (store noSlot (insert (region a n prot flags) (listed (s .regions))) (s .regions)) (a + n))
   region-met x e = rw (h, e)
 
-  pub region-stop : (e : ℕ) → w ≡ Stop e → {m′ : Memory} → m′ ≡ leftover up root a e k m → mapRegion up s root a n prot flags ≡ did (Stop e) (user m′ (s .regions) (s .next))
+  pub region-stop : (e : ℕ) → w ≡ Stop e → {m′ : Memory} → m′ ≡ leftover up root a e k m
+      → mapRegion up s root a n prot flags ≡ did (Stop e) (user m′ (s .regions) (s .next))
   region-stop e q l = rw (h, q, l)
 
 module _ (up : ℕ) (s : User) (root : ℕ) (wish : Wish) (n : ℕ) (prot flags : ℤ) where

@@ -16,7 +16,8 @@ module _ {A : Type 0} (blank : A) (l : List A) (n j : ℕ) where
   abbrev lent : Slots A
   lent = record { slots = l; count = n }
 
-  pub stored-in : (a : A) → j ≤ n → n < length l → {ys : List A} → ys ≡ shiftedUp l j n → record { slots = set ys j a; count = n + 1 } ≡ store blank (putIn j a (take n l)) lent
+  pub stored-in : (a : A) → j ≤ n → n < length l → {ys : List A} → ys ≡ shiftedUp l j n
+      → record { slots = set ys j a; count = n + 1 } ≡ store blank (putIn j a (take n l)) lent
   unfolding shiftedUp
   stored-in a h k e =
       let long : length (putIn j a (take n l)) ≡ n + 1 = simp (length-append, length-take, length-drop) (omega arith) in
@@ -33,4 +34,12 @@ module _ {A : Type 0} (blank : A) (l : List A) (n j : ℕ) where
     stored-out e =
         let long : length (takenOut j (take n l)) ≡ n - 1 = simp (length-append, length-take, length-drop) (omega arith) in
         let one : n - (n - 1) ≡ 1 = omega arith in
-        rw (store-shorter blank (takenOut j (take n l)) lent (n - 1) long (omega arith), down-end blank l j (n - 1) (omega arith) (omega arith) blank n (omega arith) e, one, append-assoc, take-take j n l (omega arith), add-one j)
+        rw (
+          store-shorter blank (takenOut j (take n l)) lent (n - 1) long (omega arith),
+          down-end blank l j (n - 1) (omega arith) (omega arith) blank n
+              (omega arith) e,
+          one,
+          append-assoc,
+          take-take j n l (omega arith),
+          add-one j,
+        )

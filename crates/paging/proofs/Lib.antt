@@ -1,3 +1,4 @@
 pub mod Walk
 pub mod Map
 pub mod Calls
+pub mod Pages

@@ -38,15 +38,18 @@ pub record Ran : Type 0 where
   pub done : ℕ
   pub mem : Memory
 
+abbrev pub ran : Walked → ℕ → Memory → Ran
+ran w k m = record { walked = w; done = k; mem = m }
+
 -- n pages from v on, k of the run being mapped already; it stops at the first page that cannot be had
 unfoldable pub mapPages : ℕ → Bool → Bool → Memory → ℕ → ℕ → ℕ → ℕ → Ran
-mapPages up w u m root v k zero = record { walked = At 0; done = k; mem = m }
+mapPages up w u m root v k zero = ran (At 0) k m
 mapPages up w u m root v k (suc n) =
     next (mapFresh up w u m root v .walked) (mapFresh up w u m root v .mem) (λ m′. mapPages up w u m′ root (v + 4096) (suc k) n)
   where
     next : Walked → Memory → (Memory → Ran) → Ran
     next (At x) m′ go = go m′
-    next (Stop a) m′ go = record { walked = Stop a; done = k; mem = m′ }
+    next (Stop a) m′ go = ran (Stop a) k m′
 
 -- the leaf of page v, cleared; 'pass over a page whose `unmap_page` gives 14 or 19'
 abbrev pub unmapLeaf : ℕ → Memory → ℕ → ℕ → Left

@@ -24,7 +24,7 @@ use Rattle.vmalloc.specs.Regions.{windowStart, windowEnd, window, usedSize}
 use Rattle.mmap.specs.declared.MappedRegion.{MappedRegion}
 use Rattle.mmap.specs.Regions.{holds}
 use Rattle.board.specs.Board.{Board, Did, did, begun, start}
-use Rattle.board.proofs.Start.{start-cases}
+use Rattle.board.proofs.Outcomes.{start-cases}
 use Rattle.release.specs.Demand3.{Call, vmallocs, vfrees, mmaps, munmaps, play, after, Event, events, turnedAway, noneTurnedAway, Region, liveStep, liveFrom, bookStep, bookFrom}
 use Rattle.release.proofs.Regions.{KernelList, UserList}
 use Rattle.release.proofs.Invariant.{Leftover, nothingLeft, Paged, Inv}

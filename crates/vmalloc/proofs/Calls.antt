@@ -1,21 +1,24 @@
 -- What vmalloc and vfree come to, by the outcomes that document 01 names.
 use Prim.Native.Nat.{ℕ, _/_, _<_, _≤_}
-use mathlib.Core.Path.{_≡_, refl}
+use mathlib.Core.Path.{_≡_, refl, sym, _∙_, ap}
 use mathlib.Core.Bool.{true, false}
+use mathlib.Core.List.{List}
 use mathlib.Core.Logic.{_⊎_, inl, inr}
 use native.Mathlib.Omega.{arith}
 use lib.Dec.{eqb, leb}
-use borrow.Author.Tests.{eqb-true, eqb-false, ne-eqb, leb-true}
+use borrow.Author.Tests.{eqb-true, eqb-false, eq-eqb, ne-eqb, leb-true}
 use Rattle.bits.proofs.Choice.{pick-cases}
 use Rattle.allocator.specs.Round.{rounded, roundUp, lastPage}
 use Rattle.answer.specs.Numbers.{sizeZero, brokenRecord, tooLarge, regionNotFound}
 use Rattle.answer.specs.declared.CountAnswer.the-variants.{Count, NoCount}
 use Rattle.paging.specs.declared.Walked.{Walked}
 use Rattle.paging.specs.declared.Walked.the-variants.{At, Stop}
-use Rattle.paging.specs.Pages.{freePages}
+use Rattle.paging.specs.Map.{Memory}
+use Rattle.vmalloc.specs.declared.VMRegion.{VMRegion}
+use Rattle.paging.specs.Pages.{Ran, ran, freePages}
 use Rattle.slots.specs.Slots.{listed, store}
 use Rattle.vmalloc.specs.Regions.{noSlot, firstFit, usedSize, freeFirst, merge}
-use Rattle.vmalloc.specs.Calls.{Kernel, kernel, Did, did, soundKernel, mapped, kernelPages, placed, sized, released, vmalloc, vfree}
+use Rattle.vmalloc.specs.Calls.{Kernel, kernel, Did, did, soundKernel, takenSlots, mapped, kernelPages, placed, sized, released, vmalloc, vfree}
 
 pub positive : (n : ℕ) → (n ≡ 0 → ⊥) → 0 < n
 positive n d = omega (arith, d)
@@ -58,6 +61,49 @@ module _ (up : ℕ) (k : Kernel) (root : ℕ) where
       (λ s. pick-cases P (eqb a 0) _ _ (λ z. none regionNotFound (inl (eqb-true a 0 z))) (λ z.
       walked-cases (λ w. P (released up k root a w)) (usedSize a (listed (k .regions))) (met s (positive a (eqb-false a 0 z))) (λ e f. none e (inr f))))
       broken
+
+  -- .. by what code has tested
+  pub vmalloc-broken : (size : ℕ) → soundKernel k root ≡ false → vmalloc up k root size ≡ did (Stop brokenRecord) k
+  unfolding vmalloc
+  vmalloc-broken size h = rw h
+
+  pub vmalloc-empty : (size : ℕ) → soundKernel k root ≡ true → size ≡ 0 → vmalloc up k root size ≡ did (Stop sizeZero) k
+  unfolding vmalloc
+  vmalloc-empty size h z = rw (h, eq-eqb size 0 z)
+
+  pub vmalloc-sized : (size : ℕ) → soundKernel k root ≡ true → (size ≡ 0 → ⊥) → vmalloc up k root size ≡ sized up k root (rounded size)
+  unfolding vmalloc
+  vmalloc-sized size h z = rw (h, ne-eqb size 0 z)
+
+  pub vfree-broken : (a : ℕ) → soundKernel k root ≡ false → vfree up k root a ≡ did (Stop brokenRecord) k
+  unfolding vfree
+  vfree-broken a h = rw h
+
+  pub vfree-null : (a : ℕ) → soundKernel k root ≡ true → a ≡ 0 → vfree up k root a ≡ did (Stop regionNotFound) k
+  unfolding vfree
+  vfree-null a h z = rw (h, eq-eqb a 0 z)
+
+  pub vfree-is : (a : ℕ) → soundKernel k root ≡ true → (a ≡ 0 → ⊥) → vfree up k root a ≡ released up k root a (usedSize a (listed (k .regions)))
+  unfolding vfree
+  vfree-is a h z = rw (h, ne-eqb a 0 z)
+
+  -- n bytes at region a, once its pages are mapped or the run has stopped
+  module _ (n a : ℕ) (f : firstFit n (listed (k .regions)) ≡ At a) {w : Walked} {done : ℕ} {m : Memory} (e : ran w done m ≡ kernelPages up (k .mem) root a n) where
+    run : placed up k root n (firstFit n (listed (k .regions))) ≡ mapped a n (k .regions) w m
+    run = ap (placed up k root n) f ∙ ap (λ (r : Ran). mapped a n (k .regions) (r .walked) (r .mem)) (sym e)
+
+    pub placed-met : (x : ℕ) → w ≡ At x → placed up k root n (firstFit n (listed (k .regions))) ≡ did (At a) (kernel m (takenSlots true n (k .regions)))
+    placed-met x g = run ∙ ap (λ (v : Walked). mapped a n (k .regions) v m) g
+
+    pub placed-stop : (x : ℕ) → w ≡ Stop x → placed up k root n (firstFit n (listed (k .regions))) ≡ did (Stop x) (kernel m (takenSlots false n (k .regions)))
+    placed-stop x g = run ∙ ap (λ (v : Walked). mapped a n (k .regions) v m) g
+
+  -- the used region at a, which is region i, once its pages are freed
+  pub released-met : (a n : ℕ) → usedSize a (listed (k .regions)) ≡ At n → {m : Memory} → m ≡ freePages up (k .mem) root a (n / 4096)
+      → {l : List VMRegion} → freeFirst a (listed (k .regions)) ≡ l
+      → released up k root a (usedSize a (listed (k .regions))) ≡ did (At 0) (kernel m (store noSlot (merge l) (k .regions)))
+  released-met a n u e f =
+      ap (released up k root a) u ∙ (λ j. did (At 0) (kernel (sym e j) (store noSlot (merge (f j)) (k .regions))))
 
 -- a vfree that is met
 pub vfree-met : (up : ℕ) (k : Kernel) (root a n : ℕ) → soundKernel k root ≡ true → 0 < a → usedSize a (listed (k .regions)) ≡ At n

@@ -1,2 +1,4 @@
 pub mod Regions
+pub mod List
 pub mod Calls
+pub mod Results

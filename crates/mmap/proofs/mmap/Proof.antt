@@ -30,7 +30,8 @@ returns : tie.Need-returns
 returns c =
     let w = c .before .before in
     let s = w .before .before .before .before in
-    told mmapped (mmap-broken 3 (lent s) (s .args .root .0) (s .args .wish) (s .args .size) (s .args .prot) (s .args .flags) (failed (w .is-whole .ensures) (c .before .if1 .taken))) (c .no-mapping .ensures)
+    told mmapped (mmap-broken 3 (lent s) (s .args .root .0) (s .args .wish) (s .args .size) (s .args .prot) (s .args .flags)
+    (failed (w .is-whole .ensures) (c .before .if1 .taken))) (c .no-mapping .ensures)
 
 no-mapping-requires-2 : tie.Need-no-mapping-requires-2
 no-mapping-requires-2 c κs = search needs
@@ -42,7 +43,8 @@ returns-2 : tie.Need-returns-2
 returns-2 c =
     let e = c .before .before in
     let s = e .before .before .before .before .before in
-    told mmapped (mmap-empty 3 (lent s) (s .args .root .0) (s .args .wish) (s .args .size) (s .args .prot) (s .args .flags) (good e) (c .before .if2 .taken)) (c .no-mapping2 .ensures)
+    told mmapped (mmap-empty 3 (lent s) (s .args .root .0) (s .args .wish) (s .args .size) (s .args .prot) (s .args .flags) (good e) (c .before .if2 .taken))
+    (c .no-mapping2 .ensures)
 
 page-align-up-requires : tie.Need-page-align-up-requires
 page-align-up-requires c κs = search needs
@@ -72,7 +74,8 @@ returns-3 c =
     let r = e .before .before in
     let t = r .before in
     let s = t .before .before .before .before .before .before in
-    told mmapped (mmap-large 3 (lent s) (s .args .root .0) (s .args .wish) (s .args .size) (s .args .prot) (s .args .flags) (good (t .before)) (t .if2 .left) _ (sym (r .page-align-up .ensures) ∙ e .e .given .1))
+    told mmapped (mmap-large 3 (lent s) (s .args .root .0) (s .args .wish) (s .args .size) (s .args .prot) (s .args .flags) (good (t .before)) (t .if2 .left) _
+    (sym (r .page-align-up .ensures) ∙ e .e .given .1))
     (c .no-mapping3 .ensures)
 
 same-length-4 : tie.Need-same-length-4
@@ -86,7 +89,8 @@ returns-4 c =
     let t = r .before in
     let s = t .before .before .before .before .before .before in
     passed-on mmapped (m .map-chosen .ensures)
-    (mmap-sized 3 (lent s) (s .args .root .0) (s .args .wish) (s .args .size) (s .args .prot) (s .args .flags) (good (t .before)) (t .if2 .left) _ (sym (r .page-align-up .ensures) ∙ n .n .given .1)
+    (mmap-sized 3 (lent s) (s .args .root .0) (s .args .wish) (s .args .size) (s .args .prot) (s .args .flags) (good (t .before)) (t .if2 .left) _
+    (sym (r .page-align-up .ensures) ∙ n .n .given .1)
     ∙ wish-same 3 (lent s) (s .args .root .0) (s .args .wish) _ (sym (toZ-ofZ (s .fits .prot))) (sym (toZ-ofZ (s .fits .flags))))
 
 pub mmap-spec : {M : Type 1} → statement M

@@ -29,7 +29,8 @@ returns : tie.Need-returns
 returns c =
     let w = c .before .before in
     let s = w .before .before .before .before in
-    told munmapped (munmap-broken 3 (lent s) (s .args .root .0) (s .args .addr .0) (s .args .size) (failed (w .is-whole .ensures) (c .before .if1 .taken))) (c .not-unmapped .ensures)
+    told munmapped (munmap-broken 3 (lent s) (s .args .root .0) (s .args .addr .0) (s .args .size) (failed (w .is-whole .ensures) (c .before .if1 .taken)))
+    (c .not-unmapped .ensures)
 
 not-unmapped-requires-2 : tie.Need-not-unmapped-requires-2
 not-unmapped-requires-2 c κs = search needs
@@ -53,7 +54,8 @@ returns-3 : tie.Need-returns-3
 returns-3 c =
     let e = c .before .before .before in
     let s = e .before .before .before .before .before .before in
-    told munmapped (munmap-odd 3 (lent s) (s .args .root .0) (s .args .addr .0) (s .args .size) (good (e .before)) (e .if2 .left) (c .before .if3 .taken)) (c .not-unmapped3 .ensures)
+    told munmapped (munmap-odd 3 (lent s) (s .args .root .0) (s .args .addr .0) (s .args .size) (good (e .before)) (e .if2 .left) (c .before .if3 .taken))
+    (c .not-unmapped3 .ensures)
 
 page-align-up-requires : tie.Need-page-align-up-requires
 page-align-up-requires c κs = search needs
@@ -80,7 +82,8 @@ returns-4 c =
     let t = r .before in
     let e = t .before .before in
     let s = e .before .before .before .before .before .before in
-    told munmapped (munmap-large 3 (lent s) (s .args .root .0) (s .args .addr .0) (s .args .size) (good (e .before)) (e .if2 .left) (t .if3 .left) _ (sym (r .page-align-up .ensures) ∙ x .e .given .1)) (c .not-unmapped4 .ensures)
+    told munmapped (munmap-large 3 (lent s) (s .args .root .0) (s .args .addr .0) (s .args .size) (good (e .before)) (e .if2 .left) (t .if3 .left) _
+    (sym (r .page-align-up .ensures) ∙ x .e .given .1)) (c .not-unmapped4 .ensures)
 
 same-length-5 : tie.Need-same-length-5
 same-length-5 c = search needs
@@ -93,7 +96,8 @@ returns-5 c =
     let t = r .before in
     let e = t .before .before in
     let s = e .before .before .before .before .before .before in
-    passed-on munmapped (u .unmap-region .ensures) (munmap-sized 3 (lent s) (s .args .root .0) (s .args .addr .0) (s .args .size) (good (e .before)) (e .if2 .left) (t .if3 .left) _ (sym (r .page-align-up .ensures) ∙ n .n .given .1))
+    passed-on munmapped (u .unmap-region .ensures) (munmap-sized 3 (lent s) (s .args .root .0) (s .args .addr .0) (s .args .size) (good (e .before))
+    (e .if2 .left) (t .if3 .left) _ (sym (r .page-align-up .ensures) ∙ n .n .given .1))
 
 pub munmap-spec : {M : Type 1} → statement M
 munmap-spec =

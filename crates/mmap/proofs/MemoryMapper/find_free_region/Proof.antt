@@ -66,7 +66,8 @@ returns-2 c =
     let i = c .before in
     let l = i .before in
     let s = l .before .before in
-    sym (find-here _ _ _ (below i) (sym (l .loop .inv .3) ∙ way-end _ _ (none noSlot (s .args .t1 .regions) (s .args .t1 .count) (l .loop .i) (omega (arith, c .if2 .taken))))) ∙ l .loop .inv .2
+    sym (find-here _ _ _ (below i) (sym (l .loop .inv .3) ∙ way-end _ _ (none noSlot (s .args .t1 .regions) (s .args .t1 .count) (l .loop .i)
+    (omega (arith, c .if2 .taken))))) ∙ l .loop .inv .2
 
 mul-r : tie.Need-mul-r Inv-loop μ-loop
 mul-r c = search needs
@@ -78,7 +79,8 @@ is-over-requires : tie.Need-is-over-requires Inv-loop μ-loop
 is-over-requires c κs = (placed (c .before) .end, omega (arith, below (c .before .before)))
 
 -- the region at hand is in the way
-hit : (c : tie.Then3 Inv-loop μ-loop) → let e = c .before .before .before in let l = e .before .before in let s = l .before .before in let r = getD (s .args .t1 .regions) (l .loop .i) noSlot in
+hit : (c : tie.Then3 Inv-loop μ-loop)
+    → let e = c .before .before .before in let l = e .before .before in let s = l .before .before in let r = getD (s .args .t1 .regions) (l .loop .i) noSlot in
     inTheWay (l .loop .addr) (s .args .n) (listed (slotsOf (s .args .t1))) ≡ Until (r .start + r .size)
 hit c =
     let o = c .before in

@@ -1,5 +1,5 @@
 -- `in_the_way`: what is in the way among the regions left is what is in the way among all.
-use Prim.Native.Nat.{_+_, _-_, _≤_}
+use Prim.Native.Nat.{ℕ, _+_, _-_, _≤_}
 use mathlib.Core.Path.{_≡_, refl, sym, _∙_}
 use mathlib.Core.List.{_∷_}
 use native.Mathlib.Omega.{arith}
@@ -34,11 +34,14 @@ module _ (c : tie.In-loop Inv-loop μ-loop) where
   abbrev list : MemoryMapper
   list = c .before .before .args .t1
 
-  more : slice (c .before .loop .i) (list .count) (list .regions) ≡ getD (list .regions) (c .before .loop .i) noSlot ∷ slice (c .before .loop .i + 1) (list .count) (list .regions)
-  more = next noSlot (list .regions) (list .count) (c .before .loop .i) (enough (c .before .before)) (c .loop-test .taken)
+  abbrev at : ℕ
+  at = c .before .loop .i
 
-  placed : let r = getD (list .regions) (c .before .loop .i) noSlot in Placed (r .start) (r .size)
-  placed = placed-at (c .before .loop .i) 0 (listed (slotsOf list)) (sound-rising _ _ (c .before .before .pre .0)) more
+  more : slice at (list .count) (list .regions) ≡ getD (list .regions) at noSlot ∷ slice (at + 1) (list .count) (list .regions)
+  more = next noSlot (list .regions) (list .count) at (enough (c .before .before)) (c .loop-test .taken)
+
+  placed : let r = getD (list .regions) at noSlot in Placed (r .start) (r .size)
+  placed = placed-at at 0 (listed (slotsOf list)) (sound-rising _ _ (c .before .before .pre .0)) more
 
 mul-r : tie.Need-mul-r Inv-loop μ-loop
 mul-r c = search needs

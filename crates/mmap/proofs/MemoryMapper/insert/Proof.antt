@@ -50,7 +50,8 @@ returns c =
     let s = c .before .before .before .before in
     let l = s .args .t1 in
     let h = below (c .before) in
-    let e = stored-over noSlot (l .regions) (l .count) _ h (omega (arith, long s, sound-few _ _ (s .pre .0))) (s .args .r) ∙ ap (λ (x : List MappedRegion). store noSlot x (slotsOf l)) (sym (there (c .before) .instead (s .args .r) refl)) in
+    let e = stored-over noSlot (l .regions) (l .count) _ h (omega (arith, long s, sound-few _ _ (s .pre .0))) (s .args .r)
+    ∙ ap (λ (x : List MappedRegion). store noSlot x (slotsOf l)) (sym (there (c .before) .instead (s .args .r) refl)) in
     λ k. record { regions = e k .slots; count = e k .count; next = l .next }
 
 -- ---- there is none
@@ -61,8 +62,11 @@ none c = is-before _ _ _ (sym (c .at2 .given .1) ∙ c .before .before .place-of
 -- so there is room for one more
 room : (c : tie.After-at2) → let s = c .before .before .before in (c .at2 .given .0 .0 ≤ s .args .t1 .count) × (s .args .t1 .count < 256)
 room c =
-    let s = c .before .before .before in
-    (omega (arith, none c .within, listed-long s), ⊎-elim (λ h. omega (arith, h, listed-long s)) (λ e. absurd (true≢false (sym e ∙ none c .none 0 (sound-rising _ _ (s .pre .0))))) (s .pre .1))
+    let s = c .before .before .before in (
+      omega (arith, none c .within, listed-long s),
+      ⊎-elim (λ h. omega (arith, h, listed-long s))
+          (λ e. absurd (true≢false (sym e ∙ none c .none 0 (sound-rising _ _ (s .pre .0))))) (s .pre .1),
+    )
 
 enum-known-at-2 : tie.Need-enum-known-at-2
 enum-known-at-2 c = search needs

@@ -76,7 +76,8 @@ returns c =
     let l = c .before .before in
     let a = l .before .args in
     let e : l .loop .j ≡ a .t1 .count - 1 = omega (arith, l .loop .inv .1, c .before .loop-test .left) in
-    let o = stored-out noSlot (a .t1 .regions) (a .t1 .count) (a .i) (l .before .pre .0) (within (l .before)) (l .loop .inv .4 ∙ ap (downTo noSlot (a .t1 .regions) (a .i)) e) in
+    let o = stored-out noSlot (a .t1 .regions) (a .t1 .count) (a .i) (l .before .pre .0) (within (l .before))
+    (l .loop .inv .4 ∙ ap (downTo noSlot (a .t1 .regions) (a .i)) e) in
     λ k. record {
       regions = (ap (set (l .loop .self .regions) (a .t1 .count - 1)) (c .no-region .ensures) ∙ ap (λ (s : Slots MappedRegion). s .slots) o) k;
       count = o k .count;

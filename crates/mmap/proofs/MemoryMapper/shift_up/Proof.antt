@@ -48,8 +48,14 @@ loop-again : tie.Need-loop-again Inv-loop μ-loop
 loop-again c =
     let l = c .before .before in
     let a = l .before .args in
-    let h = c .before .loop-test .taken in
-    (search needs, search needs, l .loop .inv .2, l .loop .inv .3, up-on noSlot (a .t1 .regions) (l .loop .j) (a .t1 .count) (omega (arith, h)) (l .loop .inv .1) (within (l .before)) (l .loop .inv .4))
+    let h = c .before .loop-test .taken in (
+      search needs,
+      search needs,
+      l .loop .inv .2,
+      l .loop .inv .3,
+      up-on noSlot (a .t1 .regions) (l .loop .j) (a .t1 .count) (omega (arith, h))
+          (l .loop .inv .1) (within (l .before)) (l .loop .inv .4),
+    )
 
 returns : tie.Need-returns Inv-loop μ-loop
 returns c =

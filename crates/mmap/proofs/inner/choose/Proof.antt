@@ -36,7 +36,8 @@ returns c m =
     let f = c .before .before in
     let w = f .before .before in
     let a = w .before .before .args in
-    c .fixed-at .ensures ∙ sym (chosen-fixed (user m (slotsOf (a .list)) (a .list .next)) (a .n) (a .flags) _ (sym (same (w .before .before)) ∙ sym (f .is-fixed .ensures) ∙ c .before .if1 .taken))
+    c .fixed-at .ensures ∙ sym (chosen-fixed (user m (slotsOf (a .list)) (a .list .next)) (a .n) (a .flags) _
+    (sym (same (w .before .before)) ∙ sym (f .is-fixed .ensures) ∙ c .before .if1 .taken))
     ∙ ap (λ (x : Wish). chosen (user m (slotsOf (a .list)) (a .list .next)) x (a .n) (a .flags)) (sym (w .wish .given .1))
 
 hinted-at-requires : tie.Need-hinted-at-requires
@@ -53,7 +54,8 @@ returns-3 c m =
     let f = c .before .before in
     let w = f .before .before in
     let a = w .before .before .args in
-    c .hinted-at .ensures ∙ sym (chosen-hint (user m (slotsOf (a .list)) (a .list .next)) (a .n) (a .flags) _ (sym (same (w .before .before)) ∙ sym (f .is-fixed .ensures) ∙ c .before .if1 .left))
+    c .hinted-at .ensures ∙ sym (chosen-hint (user m (slotsOf (a .list)) (a .list .next)) (a .n) (a .flags) _
+    (sym (same (w .before .before)) ∙ sym (f .is-fixed .ensures) ∙ c .before .if1 .left))
     ∙ ap (λ (x : Wish). chosen (user m (slotsOf (a .list)) (a .list .next)) x (a .n) (a .flags)) (sym (w .wish .given .1))
 
 pub choose-spec : {M : Type 1} → statement M

@@ -40,7 +40,8 @@ returns-3 : tie.Need-returns-3
 returns-3 c =
     let w = c .before .before in
     let s = w .before .before .before .args in
-    sym (hint-free (s .a) (s .n) (listed (slotsOf (s .list))) (s .list .next) (w .before .before .if1 .left) (omega (arith, w .before .if2 .left)) (sym (w .in-the-way .ensures) ∙ c .enum-told .given .1))
+    sym (hint-free (s .a) (s .n) (listed (slotsOf (s .list))) (s .list .next) (w .before .before .if1 .left) (omega (arith, w .before .if2 .left))
+    (sym (w .in-the-way .ensures) ∙ c .enum-told .given .1))
 
 returns-4 : tie.Need-returns-4
 returns-4 c =
@@ -48,7 +49,8 @@ returns-4 c =
     let w = t .before .before in
     let s = w .before .before .before .args in
     c .find-free-region2 .ensures
-    ∙ sym (hint-taken (s .a) (s .n) (listed (slotsOf (s .list))) (s .list .next) (w .before .before .if1 .left) (omega (arith, w .before .if2 .left)) _ (sym (w .in-the-way .ensures) ∙ t .enum-told2 .given .1))
+    ∙ sym (hint-taken (s .a) (s .n) (listed (slotsOf (s .list))) (s .list .next) (w .before .before .if1 .left) (omega (arith, w .before .if2 .left)) _
+    (sym (w .in-the-way .ensures) ∙ t .enum-told2 .given .1))
 
 pub hinted-at-spec : {M : Type 1} → statement M
 hinted-at-spec =

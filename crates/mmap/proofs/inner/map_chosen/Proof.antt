@@ -57,7 +57,8 @@ map-region-requires c κs =
     let a = e .before .before .before in
     let h = a .before .before in
     let s = h .before .before in
-    let at = chosen-place (lent s) (s .args .wish) (s .args .n) (s .args .flags) _ (sound-rising _ _ (listed-sound s)) (sound-even _ _ (listed-sound s)) (came h ∙ a .a .given .1) in
+    let at = chosen-place (lent s) (s .args .wish) (s .args .n) (s .args .flags) _ (sound-rising _ _ (listed-sound s)) (sound-even _ _ (listed-sound s))
+    (came h ∙ a .a .given .1) in
     (s .pre .0, (room (lent s) _ (sym (e .before .is-full .ensures (lent s .mem)) ∙ e .if1 .left), (s .pre .1 .0, at .1)))
 
 returns-2 : tie.Need-returns-2
@@ -65,7 +66,8 @@ returns-2 c =
     let e = c .before .before in
     let h = e .before .before in
     let s = h .before .before in
-    told mmapped (placed-stop 3 (lent s) (s .args .root .0) (s .args .wish) (s .args .n) (s .args .prot) (s .args .flags) _ (came h ∙ e .e .given .1)) (c .no-mapping .ensures)
+    told mmapped (placed-stop 3 (lent s) (s .args .root .0) (s .args .wish) (s .args .n) (s .args .prot) (s .args .flags) _ (came h ∙ e .e .given .1))
+    (c .no-mapping .ensures)
 
 same-length : tie.Need-same-length
 same-length c = search needs

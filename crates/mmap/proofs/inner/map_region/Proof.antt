@@ -79,13 +79,15 @@ returns c =
     let p = w .before .before .before .before .before in
     let s = p .before .before .before .before .before in
     let a = s .args in
-    told mmapped (region-stop 3 (lent s) (a .root .0) (a .virt .0) (a .n) (a .prot) (a .flags) (run p) _ (w .walked .given .1) (x .clear-after .ensures (p .map-pages .last .1 .0))) (c .no-mapping .ensures)
+    told mmapped (region-stop 3 (lent s) (a .root .0) (a .virt .0) (a .n) (a .prot) (a .flags) (run p) _ (w .walked .given .1)
+    (x .clear-after .ensures (p .map-pages .last .1 .0))) (c .no-mapping .ensures)
 
 same-length-2 : tie.Need-same-length-2
 same-length-2 c = search needs
 
 -- a signed number that is passed on is what its bits read back
-kept : (s : tie.Start) → let a = s .args in region (a .virt .0) (a .n) (toZ w32 (ofZ w32 (a .prot))) (toZ w32 (ofZ w32 (a .flags))) ≡ region (a .virt .0) (a .n) (a .prot) (a .flags)
+kept : (s : tie.Start) → let a = s .args in region (a .virt .0) (a .n) (toZ w32 (ofZ w32 (a .prot))) (toZ w32 (ofZ w32 (a .flags)))
+    ≡ region (a .virt .0) (a .n) (a .prot) (a .flags)
 kept s j = region (s .args .virt .0) (s .args .n) (toZ-ofZ (s .fits .prot) j) (toZ-ofZ (s .fits .flags) j)
 
 returns-2 : tie.Need-returns-2
@@ -97,7 +99,11 @@ returns-2 c =
     let a = s .args in
     let l = i .insert .ensures ∙ ap (λ (r : MappedRegion). mapper (store noSlot (insert r (listed (slotsOf (a .list)))) (slotsOf (a .list))) (a .list .next)) (kept s) in
     told mmapped (region-met 3 (lent s) (a .root .0) (a .virt .0) (a .n) (a .prot) (a .flags) (run p) _ (t .enum-told .given .1))
-    (λ j. record { answer = AtVirt (a .virt); frames = p .map-pages .result .frames; list = record { regions = l j .regions; count = l j .count; next = a .virt .0 + a .n } })
+    (λ j. record {
+      answer = AtVirt (a .virt);
+      frames = p .map-pages .result .frames;
+      list = record { regions = l j .regions; count = l j .count; next = a .virt .0 + a .n };
+    })
 
 pub map-region-spec : {M : Type 1} → statement M
 map-region-spec =

@@ -98,7 +98,8 @@ returns-2 c =
     let p = t .before .before in
     let s = p .before .before in
     let none = is-before _ _ _ (sym (t .enum-told .given .1) ∙ p .place-of .ensures) .none 0 (sound-rising _ _ (listed-sound s)) in
-    told munmapped (unmap-none 3 (lent s) (s .args .root .0) (s .args .addr .0) (s .args .n) (holds-none _ (s .args .n) (listed (slotsOf (s .args .t5))) none)) (c .not-unmapped .ensures)
+    told munmapped (unmap-none 3 (lent s) (s .args .root .0) (s .args .addr .0) (s .args .n) (holds-none _ (s .args .n) (listed (slotsOf (s .args .t5))) none))
+    (c .not-unmapped .ensures)
 
 same-length : tie.Need-same-length
 same-length c = search needs

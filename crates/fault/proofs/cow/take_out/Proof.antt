@@ -1,0 +1,81 @@
+-- `take_out`: the pages above the place move down. The invariant: those up to i have moved.
+use Prim.Native.Nat.{_-_, _≤_}
+use mathlib.Core.Path.{_≡_, sym}
+use native.Mathlib.Omega.{arith}
+use Rattle.fault.proofs.Shift.{lowered, lowered-none, lowered-more, take-done}
+use borrow.Author.Needs.{needs}
+use Rattle.fault.proofs.cow.take_out.Statement.{statement}
+use Rattle.fault.proofs.cow.take_out.Tie as tie
+
+abbrev Inv-loop : tie.InvT-loop
+Inv-loop marked₀ n at last i₀ marked i = (at ≤ i) × (i ≤ last) × (marked ≡ lowered 0 marked₀ at i)
+
+abbrev μ-loop : tie.MeasureT-loop
+μ-loop marked₀ n at last i₀ marked i = last - i
+
+sub-last : tie.Need-sub-last Inv-loop μ-loop
+sub-last c = search needs
+
+loop-holds : tie.Need-loop-holds Inv-loop μ-loop
+loop-holds c = (search needs, search needs, sym (lowered-none 0 (c .args .marked .now) (c .args .at)))
+
+add-marked : tie.Need-add-marked Inv-loop μ-loop
+add-marked c = search needs
+
+mul-marked : tie.Need-mul-marked Inv-loop μ-loop
+mul-marked c = search needs
+
+element-copy-out-marked : tie.Need-element-copy-out-marked Inv-loop μ-loop
+element-copy-out-marked c = search needs
+
+mul-marked-2 : tie.Need-mul-marked-2 Inv-loop μ-loop
+mul-marked-2 c = search needs
+
+element-write-marked : tie.Need-element-write-marked Inv-loop μ-loop
+element-write-marked c = search needs
+
+add-i : tie.Need-add-i Inv-loop μ-loop
+add-i c = search needs
+
+loop-less : tie.Need-loop-less Inv-loop μ-loop
+loop-less c = search needs
+
+loop-again : tie.Need-loop-again Inv-loop μ-loop
+loop-again c =
+    let l = c .before .before in
+    let s = l .before in
+    let e = l .loop .inv .2 in
+    (search needs, search needs, rw e (lowered-more 0 (s .args .marked .now) (s .args .at) (l .loop .i) (omega arith) (omega arith) (omega arith)))
+
+mul-marked-3 : tie.Need-mul-marked-3 Inv-loop μ-loop
+mul-marked-3 c = search needs
+
+element-write-marked-2 : tie.Need-element-write-marked-2 Inv-loop μ-loop
+element-write-marked-2 c = search needs
+
+returns : tie.Need-returns Inv-loop μ-loop
+returns c =
+    let l = c .before in
+    let s = l .before in
+    let e : l .loop .i ≡ s .args .n - 1 = omega arith in
+    rw (← e) (take-done 0 (s .args .marked .now) (s .args .n) (l .loop .i) (s .args .at) (l .loop .inv .2) (omega arith) (omega arith) (omega arith))
+
+pub take-out-spec : {M : Type 1} → statement M
+take-out-spec =
+    tie.close
+    (tie.spec
+    Inv-loop
+    μ-loop
+    sub-last
+    loop-holds
+    add-marked
+    mul-marked
+    element-copy-out-marked
+    mul-marked-2
+    element-write-marked
+    add-i
+    loop-less
+    loop-again
+    mul-marked-3
+    element-write-marked-2
+    returns)

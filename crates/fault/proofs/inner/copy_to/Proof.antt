@@ -1,0 +1,50 @@
+-- `copy_to`: the words copied, then the page remapped.
+use mathlib.Core.Path.{sym, _∙_}
+use Rattle.mapper.proofs.Laws.{stepped}
+use Rattle.fault.proofs.Steps.{frame-low, copied-on-roomy, copy-to-stop, copy-to-on}
+use borrow.Author.Needs.{needs}
+use Rattle.fault.proofs.inner.copy_to.Statement.{statement}
+use Rattle.fault.proofs.inner.copy_to.Tie as tie
+
+copy-page-requires : tie.Need-copy-page-requires
+copy-page-requires c κs = search needs
+
+enum-known-walked : tie.Need-enum-known-walked
+enum-known-walked c = search needs
+
+enum-told : tie.Need-enum-told
+enum-told c = search needs
+
+remap-page-requires : tie.Need-remap-page-requires
+remap-page-requires c κs =
+    let s = c .before .before .before .before .before .before .before .before .before .before .before in
+    (copied-on-roomy 3 _ _ _ _ (c .before .before .before .before .before .before .before .copy-page .ensures) 3 (s .pre .0), frame-low _ (s .pre .0) (s .pre .1))
+
+same-length : tie.Need-same-length
+same-length c = search needs
+
+returns : tie.Need-returns
+returns c =
+    let a = c .before .before .before .before .before .before .before .before .before .before .args in
+    sym (copy-to-stop 3 _ _ (a .page .0) (a .f) (a .user) _ _ (stepped (c .before .before .before .before .before .before .copy-page .ensures) (c .before .walked .given .1)))
+
+same-length-2 : tie.Need-same-length-2
+same-length-2 c = search needs
+
+returns-2 : tie.Need-returns-2
+returns-2 c =
+    let a = c .before .before .before .before .before .before .before .before .before .before .before .before .before .before .args in
+    c .before .before .remap-page .ensures ∙ sym (copy-to-on 3 _ _ (a .page .0) (a .f) (a .user) _ _ (stepped (c .before .before .before .before .before .before .before .before .before .before .copy-page .ensures) (c .before .before .before .before .before .enum-told .given .1)))
+
+pub copy-to-spec : {M : Type 1} → statement M
+copy-to-spec =
+    tie.close
+    (tie.spec
+    copy-page-requires
+    enum-known-walked
+    enum-told
+    remap-page-requires
+    same-length
+    returns
+    same-length-2
+    returns-2)

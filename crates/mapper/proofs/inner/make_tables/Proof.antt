@@ -1,0 +1,107 @@
+-- `make_tables`: the tables on the way. The invariant: what is left to make from `t`, along the indices left, comes out as the whole, and there is room for the frames it may take.
+use Prim.Native.Nat.{_≤_, _-_, _+_}
+use mathlib.Core.Path.{_≡_, refl, sym, _∙_}
+use mathlib.Core.List.{_∷_}
+use native.Mathlib.Omega.{arith}
+use lib.ListN.{length, getD, take, drop}
+use Rattle.frame.specs.Frames.{frames as framesOf}
+use Rattle.paging.specs.Map.{memory, make, Roomy}
+use Rattle.paging.proofs.Walk.{next-upper, none-upper}
+use Rattle.paging.proofs.Map.{roomy-less, make-end, make-stop, make-on}
+use Rattle.mapper.proofs.Laws.{stepped, entered-roomy}
+use borrow.Author.Needs.{needs}
+use Rattle.mapper.proofs.inner.make_tables.Statement.{statement}
+use Rattle.mapper.proofs.inner.make_tables.Tie as tie
+
+abbrev Inv-loop : tie.InvT-loop
+Inv-loop words₀ bitmap₀ k user indices t₀ left₀ level₀ words bitmap t left level =
+    (level ≤ k) × (length words ≡ length words₀) × Roomy (memory words (framesOf bitmap left)) (3 - level)
+    × (make user (memory words₀ (framesOf bitmap₀ left₀)) t₀ (take k indices) ≡ make user (memory words (framesOf bitmap left)) t (drop level (take k indices)))
+
+abbrev μ-loop : tie.MeasureT-loop
+μ-loop words₀ bitmap₀ k user indices t₀ left₀ level₀ words bitmap t left level = k - level
+
+loop-holds : tie.Need-loop-holds Inv-loop μ-loop
+loop-holds c = (search needs, refl, c .before .pre .0, refl)
+
+-- one more index is left
+more : (c : tie.In-loop Inv-loop μ-loop) → let l = c .before in let a = l .before .before .args in
+    drop (l .loop .level) (take (a .k) (a .t5)) ≡ getD (a .t5) (l .loop .level) 0 ∷ drop (l .loop .level + 1) (take (a .k) (a .t5))
+more c =
+    let l = c .before in
+    let s = l .before .before in
+    let four : 3 ≤ length (s .args .t5) = search needs in
+    next-upper (s .args .k) (s .args .t5) (l .loop .level) (c .loop-test .taken) (omega (arith, s .pre .1 .0))
+
+mul-enter : tie.Need-mul-enter Inv-loop μ-loop
+mul-enter c = search needs
+
+array-read-enter : tie.Need-array-read-enter Inv-loop μ-loop
+array-read-enter c = search needs
+
+enter-requires : tie.Need-enter-requires Inv-loop μ-loop
+enter-requires c κs =
+    let l = c .before .before .before in
+    (roomy-less 1 (omega arith) (l .loop .inv .2), l .before .before .pre .1 .1 _)
+
+enum-known-walked : tie.Need-enum-known-walked Inv-loop μ-loop
+enum-known-walked c = search needs
+
+same-length : tie.Need-same-length Inv-loop μ-loop
+same-length c = search needs
+
+returns : tie.Need-returns Inv-loop μ-loop
+returns c =
+    let r = c .before .before .before .before .before .before in
+    let i = r .before .before .before in
+    let l = i .before in
+    sym (l .loop .inv .3 ∙ make-stop _ _ _ (more i) _ _ (stepped (r .enter .ensures) (c .before .walked .given .1)))
+
+enum-known-walked-2 : tie.Need-enum-known-walked-2 Inv-loop μ-loop
+enum-known-walked-2 c = search needs
+
+add-level : tie.Need-add-level Inv-loop μ-loop
+add-level c = search needs
+
+loop-less : tie.Need-loop-less Inv-loop μ-loop
+loop-less c = search needs
+
+loop-again : tie.Need-loop-again Inv-loop μ-loop
+loop-again c =
+    let r = c .before .before .before .before .before .before in
+    let i = r .before .before .before in
+    let l = i .before in (
+      search needs,
+      search needs,
+      entered-roomy _ _ _ _ (r .enter .ensures) (3 - (l .loop .level + 1)) (roomy-less _ (omega arith) (l .loop .inv .2)),
+      l .loop .inv .3 ∙ make-on _ _ _ (more i) _ _ (stepped (r .enter .ensures) (c .before .walked2 .given .1)),
+    )
+
+same-length-2 : tie.Need-same-length-2 Inv-loop μ-loop
+same-length-2 c = search needs
+
+returns-2 : tie.Need-returns-2 Inv-loop μ-loop
+returns-2 c =
+    let l = c .before in
+    let a = l .before .before .args in
+    sym (l .loop .inv .3 ∙ make-end _ _ _ (none-upper (a .k) (a .t5) (l .loop .level) (c .loop-test .left)))
+
+pub make-tables-spec : {M : Type 1} → statement M
+make-tables-spec =
+    tie.close
+    (tie.spec
+    Inv-loop
+    μ-loop
+    loop-holds
+    mul-enter
+    array-read-enter
+    enter-requires
+    enum-known-walked
+    same-length
+    returns
+    enum-known-walked-2
+    add-level
+    loop-less
+    loop-again
+    same-length-2
+    returns-2)

@@ -1,0 +1,72 @@
+-- `clear_pages`: one page a turn. The invariant: what is left to clear from page i on comes out as the whole run.
+use Prim.Native.Nat.{ℕ, _≤_, _-_, _+_, _*_}
+use mathlib.Core.Path.{_≡_, refl, sym, _∙_}
+use mathlib.Core.List.{List}
+use native.Mathlib.Numerals.{unary-clauses}
+use lib.ListN.{length}
+use borrow.Author.Needs.{needs}
+use Rattle.frame.specs.Frames.{frames as framesOf}
+use Rattle.paging.specs.Map.{memory}
+use Rattle.paging.specs.Pages.{clearPages}
+use Rattle.pages.proofs.Laws.{clear-on, clear-end, lent-still}
+use Rattle.pages.proofs.clear_pages.Statement.{statement}
+use Rattle.pages.proofs.clear_pages.Tie as tie
+
+abbrev Inv-loop : tie.InvT-loop
+Inv-loop words₀ frames root virt n i₀ words i =
+    (i ≤ n) × (length words ≡ length words₀)
+    × ((b : List ℕ) → clearPages 3 (memory words₀ (framesOf b frames)) (root .0) (virt .0) n
+    ≡ clearPages 3 (memory words (framesOf b frames)) (root .0) (virt .0 + i * 4096) (n - i))
+
+abbrev μ-loop : tie.MeasureT-loop
+μ-loop words₀ frames root virt n i₀ words i = n - i
+
+loop-holds : tie.Need-loop-holds Inv-loop μ-loop
+loop-holds c = (search needs, refl, λ b. simp unary-clauses)
+
+mul-t11 : tie.Need-mul-t11 Inv-loop μ-loop
+mul-t11 c = search needs
+
+add-t12 : tie.Need-add-t12 Inv-loop μ-loop
+add-t12 c = search needs
+
+clear-page-requires : tie.Need-clear-page-requires Inv-loop μ-loop
+clear-page-requires c κs = let l = c .before .before .before in lent-still (l .loop .inv .1) (l .before .before .pre .0)
+
+add-i : tie.Need-add-i Inv-loop μ-loop
+add-i c = search needs
+
+loop-less : tie.Need-loop-less Inv-loop μ-loop
+loop-less c = search needs
+
+loop-again : tie.Need-loop-again Inv-loop μ-loop
+loop-again c =
+    let r = c .before .before in
+    let t = r .before .before .before in
+    let l = t .before in (
+      search needs,
+      search needs,
+      λ b. l .loop .inv .2 b ∙ clear-on _ _ _ _ (t .loop-test .taken) _ _ _ (r .clear-page .ensures b),
+    )
+
+same-length : tie.Need-same-length Inv-loop μ-loop
+same-length c = search needs
+
+returns : tie.Need-returns Inv-loop μ-loop
+returns c b = sym (c .before .loop .inv .2 b ∙ clear-end _ _ _ _ (c .loop-test .left) _ _)
+
+pub clear-pages-spec : {M : Type 1} → statement M
+clear-pages-spec =
+    tie.close
+    (tie.spec
+    Inv-loop
+    μ-loop
+    loop-holds
+    mul-t11
+    add-t12
+    clear-page-requires
+    add-i
+    loop-less
+    loop-again
+    same-length
+    returns)

@@ -1,0 +1,85 @@
+-- `free_pages`: one span a turn, of no more pages than there are. The invariant: what is left to free comes out as the whole run, and the tables marked in
+-- `empty` have no present entry.
+use Prim.Native.Nat.{_≤_, _-_, _+_, _*_}
+use mathlib.Core.Path.{_≡_, refl, sym, _∙_}
+use lib.ListN.{length}
+use borrow.Author.Needs.{needs}
+use Rattle.frame.specs.Frames.{frames as framesOf}
+use Rattle.paging.specs.Map.{memory, Roomy}
+use Rattle.paging.specs.Pages.{freePages}
+use Rattle.pages.specs.Spans.{Blank}
+use Rattle.pages.proofs.Laws.{free-end}
+use Rattle.pages.proofs.Steps.{span-start, span-on, span-roomy}
+use Rattle.pages.proofs.Blanks.{blank-start}
+use Rattle.pages.proofs.free_pages.Statement.{statement}
+use Rattle.pages.proofs.free_pages.Tie as tie
+
+abbrev Inv-loop : tie.InvT-loop
+Inv-loop words₀ bitmap₀ root virt n most empty₀ left₀ done₀ words bitmap empty left done =
+    (done ≤ most) × (most ≤ n) × (length words ≡ length words₀) × Roomy (memory words (framesOf bitmap left)) 0 × Blank words empty
+    × (freePages 3 (memory words₀ (framesOf bitmap₀ left₀)) (root .0) (virt .0) n
+    ≡ freePages 3 (memory words (framesOf bitmap left)) (root .0) (virt .0 + done * 4096) (most - done))
+
+abbrev μ-loop : tie.MeasureT-loop
+μ-loop words₀ bitmap₀ root virt n most empty₀ left₀ done₀ words bitmap empty left done = most - done
+
+at-most-requires : tie.Need-at-most-requires Inv-loop μ-loop
+at-most-requires c κs = search needs
+
+loop-holds : tie.Need-loop-holds Inv-loop μ-loop
+loop-holds c = (search needs, search needs, refl, c .before .before .pre .0, blank-start _, span-start _ _ _ _ (c .at-most .ensures))
+
+mul-t17 : tie.Need-mul-t17 Inv-loop μ-loop
+mul-t17 c = search needs
+
+add-t18 : tie.Need-add-t18 Inv-loop μ-loop
+add-t18 c = search needs
+
+sub-free-span : tie.Need-sub-free-span Inv-loop μ-loop
+sub-free-span c = search needs
+
+free-span-requires : tie.Need-free-span-requires Inv-loop μ-loop
+free-span-requires c κs = let l = c .before .before .before .before .before in (l .loop .inv .3, (l .loop .inv .4, search needs))
+
+add-done : tie.Need-add-done Inv-loop μ-loop
+add-done c = search needs
+
+loop-less : tie.Need-loop-less Inv-loop μ-loop
+loop-less c = search needs
+
+loop-again : tie.Need-loop-again Inv-loop μ-loop
+loop-again c =
+    let r = c .before .before .before .before in
+    let l = r .before .before .before .before .before .before in
+    let e = r .free-span .ensures in (
+      search needs,
+      search needs,
+      search needs,
+      span-roomy _ _ _ _ (e .1 .1 .1) (l .loop .inv .3),
+      e .0,
+      l .loop .inv .5 ∙ span-on _ _ _ _ _ _ _ (e .1 .1 .0) (l .loop .inv .0) (e .1 .1 .1),
+    )
+
+same-length : tie.Need-same-length Inv-loop μ-loop
+same-length c = search needs
+
+returns : tie.Need-returns Inv-loop μ-loop
+returns c = sym (c .before .loop .inv .5 ∙ free-end _ _ _ _ (c .loop-test .left) _ _)
+
+pub free-pages-spec : {M : Type 1} → statement M
+free-pages-spec =
+    tie.close
+    (tie.spec
+    Inv-loop
+    μ-loop
+    at-most-requires
+    loop-holds
+    mul-t17
+    add-t18
+    sub-free-span
+    free-span-requires
+    add-done
+    loop-less
+    loop-again
+    same-length
+    returns)

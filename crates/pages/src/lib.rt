@@ -1,0 +1,215 @@
+// Runs of pages on a record that was tested, shared by vmalloc, mmap and the faults: fresh frames mapped one page after the other, and pages unmapped.
+mod spans;
+
+use address::Frame;
+use address::FrameAnswer;
+use address::PhysAddr;
+use address::VirtAddr;
+use answer::Answer;
+use entry::paging::PageTableEntry;
+use frame::FrameAllocator;
+use paging::Entered;
+use paging::Walked;
+ghost use mathlib.Core.Path.{_≡_};
+ghost use mathlib.Core.List.{List};
+ghost use Prim.Native.Nat.{ℕ, _+_, _*_, _^_, _<_};
+ghost use Rattle.frame.specs.Frames.{frames as framesOf};
+ghost use Rattle.paging.specs.Walk.{Lent};
+ghost use Rattle.paging.specs.Map.{memory, out, Roomy};
+ghost use Rattle.paging.specs.Pages.{ran, freshFrame, orFailed, mapFresh, mapPages, clearPage, freePage, clearPages, freePages};
+ghost use Rattle.pages.specs.Answers.{asWalked};
+
+// All the pages that there are: bits 63-48 of an address are ignored.
+const ALL_PAGES: u64 = 0x10_0000_0000;
+
+// How far a run of pages came: `done` of them are mapped.
+pub struct Run {
+    pub walked: Walked,
+    pub done: u64,
+    pub frames: FrameAllocator,
+}
+
+// The lowest free frame, zeroed.
+pub fn fresh_frame(words: &mut [u64], bitmap: &mut [u64; 128], frames: FrameAllocator) -> Entered
+    requires { ⌜ Roomy (memory (now words) (framesOf (now bitmap) frames)) 1 ⌝ }
+    ensures { λ r. ⌜ out (r .walked) (memory (now (words .exit)) (framesOf (now (bitmap .exit)) (r .frames))) ≡ freshFrame (memory (now (words .entry)) (framesOf (now (bitmap .entry)) frames)) ⌝ }
+{
+    let taken = frame::inner::take_frame(bitmap, frames);
+    let answer = taken.answer;
+    let left = taken.frames;
+    match answer {
+        FrameAnswer::NoFrame(n) => Entered {
+            walked: Walked::Stop(n),
+            frames: left,
+        },
+        FrameAnswer::AtFrame(f) => {
+            mapper::inner::zero_frame(words, mapper::inner::entry_place(frames.start, f.0, 0));
+            Entered {
+                walked: Walked::At(f.0),
+                frames: left,
+            }
+        }
+    }
+}
+
+// A page on a fresh frame: 11 where there is no frame, 13 where it cannot be mapped.
+pub fn map_fresh(
+    words: &mut [u64],
+    bitmap: &mut [u64; 128],
+    frames: FrameAllocator,
+    root: Frame,
+    virt: VirtAddr,
+    writable: bool,
+    user: bool,
+) -> Entered
+    requires { ⌜ Roomy (memory (now words) (framesOf (now bitmap) frames)) 4 ⌝ }
+    ensures { λ r. ⌜ out (r .walked) (memory (now (words .exit)) (framesOf (now (bitmap .exit)) (r .frames))) ≡ mapFresh 3 writable user (memory (now (words .entry)) (framesOf (now (bitmap .entry)) frames)) (root .0) (virt .0) ⌝ }
+{
+    let fresh = fresh_frame(words, bitmap, frames);
+    let walked = fresh.walked;
+    let left = fresh.frames;
+    match walked {
+        Walked::Stop(n) => Entered {
+            walked: Walked::Stop(n),
+            frames: left,
+        },
+        Walked::At(f) => {
+            let e = PageTableEntry::set(PhysAddr(Frame(f).start_address()), writable, user);
+            let mapped = mapper::inner::map_entry(words, bitmap, left, root, virt, 3, user, e.0);
+            let answer = mapped.answer;
+            let after = mapped.frames;
+            Entered {
+                walked: or_failed(answer),
+                frames: after,
+            }
+        }
+    }
+}
+
+// `done` pages of `n` from `virt` on are mapped, in order; it stops at the first page that cannot be had.
+pub fn map_pages(
+    words: &mut [u64],
+    bitmap: &mut [u64; 128],
+    frames: FrameAllocator,
+    root: Frame,
+    virt: VirtAddr,
+    n: u64,
+    writable: bool,
+    user: bool,
+) -> Run
+    requires { ⌜ Roomy (memory (now words) (framesOf (now bitmap) frames)) (n * 4) ⌝ }
+    requires { ⌜ virt .0 + n * 4096 < 2 ^ 64 ⌝ }
+    ensures { λ r. ⌜ ran (r .walked) (r .done) (memory (now (words .exit)) (framesOf (now (bitmap .exit)) (r .frames))) ≡ mapPages 3 writable user (memory (now (words .entry)) (framesOf (now (bitmap .entry)) frames)) (root .0) (virt .0) 0 n ⌝ }
+{
+    let mut left = frames;
+    for i in 0..n {
+        let r = map_fresh(
+            words,
+            bitmap,
+            left,
+            root,
+            VirtAddr(virt.0 + i * 4096),
+            writable,
+            user,
+        );
+        let walked = r.walked;
+        left = r.frames;
+        match walked {
+            Walked::Stop(a) => {
+                return Run {
+                    walked: Walked::Stop(a),
+                    done: i,
+                    frames: left,
+                };
+            }
+            Walked::At(_) => {}
+        }
+    }
+    Run {
+        walked: Walked::At(0),
+        done: n,
+        frames: left,
+    }
+}
+
+// A page's leaf, cleared; a page that is not mapped is passed over.
+pub fn clear_page(words: &mut [u64], frames: FrameAllocator, root: Frame, virt: VirtAddr)
+    requires { ⌜ Lent (now words) (frames .start) (frames .total) ⌝ }
+    ensures { λ _. ⌜ ((b : List ℕ) → memory (now (words .exit)) (framesOf b frames) ≡ clearPage 3 (memory (now (words .entry)) (framesOf b frames)) (root .0) (virt .0)) ⌝ }
+{
+    mapper::inner::unmap_leaf(words, frames.start, frames.total, root, virt);
+}
+
+// .. and its frame freed.
+pub fn free_page(
+    words: &mut [u64],
+    bitmap: &mut [u64; 128],
+    frames: FrameAllocator,
+    root: Frame,
+    virt: VirtAddr,
+) -> FrameAllocator
+    requires { ⌜ Roomy (memory (now words) (framesOf (now bitmap) frames)) 0 ⌝ }
+    ensures { λ r. ⌜ memory (now (words .exit)) (framesOf (now (bitmap .exit)) r) ≡ freePage 3 (memory (now (words .entry)) (framesOf (now (bitmap .entry)) frames)) (root .0) (virt .0) ⌝ }
+{
+    match mapper::inner::unmap_leaf(words, frames.start, frames.total, root, virt) {
+        Walked::Stop(_) => frames,
+        Walked::At(f) => {
+            let given = frame::inner::give_frame(bitmap, frames, Frame(f));
+            given.frames
+        }
+    }
+}
+
+// The leaves of `n` pages from `virt` on, cleared.
+pub fn clear_pages(words: &mut [u64], frames: FrameAllocator, root: Frame, virt: VirtAddr, n: u64)
+    requires { ⌜ Lent (now words) (frames .start) (frames .total) ⌝ }
+    requires { ⌜ virt .0 + n * 4096 < 2 ^ 64 ⌝ }
+    ensures { λ _. ⌜ ((b : List ℕ) → memory (now (words .exit)) (framesOf b frames) ≡ clearPages 3 (memory (now (words .entry)) (framesOf b frames)) (root .0) (virt .0) n) ⌝ }
+{
+    for i in 0..n {
+        clear_page(words, frames, root, VirtAddr(virt.0 + i * 4096));
+    }
+}
+
+// .. and their frames freed.
+pub fn free_pages(
+    words: &mut [u64],
+    bitmap: &mut [u64; 128],
+    frames: FrameAllocator,
+    root: Frame,
+    virt: VirtAddr,
+    n: u64,
+) -> FrameAllocator
+    requires { ⌜ Roomy (memory (now words) (framesOf (now bitmap) frames)) 0 ⌝ }
+    requires { ⌜ virt .0 + n * 4096 < 2 ^ 64 ⌝ }
+    ensures { λ r. ⌜ memory (now (words .exit)) (framesOf (now (bitmap .exit)) r) ≡ freePages 3 (memory (now (words .entry)) (framesOf (now (bitmap .entry)) frames)) (root .0) (virt .0) n ⌝ }
+{
+    let most = spans::at_most(n, ALL_PAGES);
+    let mut empty: [u64; 128] = [0; 128];
+    let mut left = frames;
+    let mut done = 0;
+    while done < most {
+        let step = spans::free_span(
+            words,
+            bitmap,
+            &mut empty,
+            left,
+            root,
+            VirtAddr(virt.0 + done * 4096),
+            most - done,
+        );
+        left = step.frames;
+        done = done + step.done;
+    }
+    left
+}
+
+// 13 for whatever `map_page` was refused with.
+fn or_failed(a: Answer) -> Walked
+    ensures { λ r. ⌜ r ≡ orFailed (asWalked a) ⌝ }
+{
+    match a {
+        Answer::Met => Walked::At(0),
+        Answer::Refused(_) => Walked::Stop(answer::MAP_PAGE_FAILED),
+    }
+}

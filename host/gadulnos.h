@@ -1,0 +1,184 @@
+/* Gadulnos: the rinux memory manager as C functions. Link libdesk.a, which `rt staticlib desk` makes
+ * (x86-64, System V calling convention). docs/LAYOUT.md explains the layout at length.
+ *
+ * Nothing is asked of any argument but that each pointer lends as many elements as its length says and
+ * that no two lent parts overlap. A length may be 0. A function touches what it is lent and nothing else,
+ * keeps no state and always ends. A call that cannot be met answers with document 01's number and changes
+ * nothing but the leftovers listed there.
+ *
+ * The parts of a board's state. All numbers are little-endian, 64 bits unless said otherwise.
+ *
+ *   words    the lent frames: frame number n is the 512 words from (n - start_frame) * 512 on. The length
+ *            counts words. Words past the frames are not touched.
+ *   fields   24 bytes: start_frame, total, allocated
+ *   bits     1024 bytes, 128 words: frame start_frame + i is marked if bit i % 64 of word i / 64 is 1
+ *   root     the root's frame number
+ *   kernel   6152 bytes, the vmalloc list: count, then 256 slots of start, size, used (0 or 1)
+ *   user     6160 bytes, the mmap list: count, next_addr, then 256 slots of start, size,
+ *            prot (signed, 32 bits), flags (signed, 32 bits)
+ *   marked   2056 bytes, the copy-on-write pages: count, then 256 page addresses
+ *
+ * A part of any other length, a `used` other than 0 and 1, or a record that document 01 calls broken is
+ * answered with 10, before every other check, and nothing is changed.
+ */
+#ifndef GADULNOS_H
+#define GADULNOS_H
+
+#include <stdbool.h>
+#include <stddef.h>
+#include <stdint.h>
+
+#ifdef __cplusplus
+extern "C" {
+#endif
+
+enum {
+    GADULNOS_FIELDS_BYTES = 24,
+    GADULNOS_BITS_BYTES = 1024,
+    GADULNOS_KERNEL_BYTES = 6152,
+    GADULNOS_USER_BYTES = 6160,
+    GADULNOS_MARKED_BYTES = 2056,
+    GADULNOS_SLOTS = 256,
+    GADULNOS_FRAME_WORDS = 512
+};
+
+/* A call's answer: document 01's number, 0 if the call was met, and its value, 0 if it has none. */
+struct gadulnos_line {
+    uint64_t number;
+    uint64_t value;
+};
+
+/* ---- Numbers alone */
+
+/* Down, and up, to a multiple of a power of two; up is 3 where the sum passes 64 bits. An alignment of 0
+ * counts as 1. page_align_up rounds up to 4096. */
+uint64_t gadulnos_align_down(uint64_t addr, uint64_t align);
+struct gadulnos_line gadulnos_align_up(uint64_t addr, uint64_t align);
+struct gadulnos_line gadulnos_page_align_up(uint64_t size);
+
+/* Entries of paging.rs: the word of a present entry, with HUGE in the second, and a word taken apart. */
+uint64_t gadulnos_entry_set(uint64_t phys, bool writable, bool user);
+uint64_t gadulnos_entry_set_huge(uint64_t phys, bool writable, bool user);
+uint64_t gadulnos_entry_addr(uint64_t entry);
+bool gadulnos_entry_present(uint64_t entry);
+bool gadulnos_entry_writable(uint64_t entry);
+bool gadulnos_entry_user(uint64_t entry);
+bool gadulnos_entry_huge(uint64_t entry);
+
+/* Entries of page_handler.rs: PageFlags joined, a word's flags taken apart and joined again, the entry with
+ * the flags of a word, and a word taken apart. */
+uint64_t gadulnos_flags_to_bits(bool present, bool writable, bool user, bool write_through,
+                                bool cache_disabled, bool accessed, bool dirty, bool huge, bool global,
+                                bool no_execute);
+uint64_t gadulnos_flags(uint64_t bits);
+uint64_t gadulnos_handler_entry(uint64_t phys, uint64_t bits);
+bool gadulnos_handler_present(uint64_t word);
+uint64_t gadulnos_handler_addr(uint64_t word);
+uint64_t gadulnos_handler_flags(uint64_t word);
+
+/* The entry at an index of a table of 512 words; 14 from 512 on. The four indices of a page address, which
+ * are written to out[0] to out[3]. */
+struct gadulnos_line gadulnos_get_entry(const uint64_t *table, size_t index);
+void gadulnos_page_indices(uint64_t virt, size_t *out);
+
+/* Whether an address lies in the kernel (vmalloc) window. */
+bool gadulnos_is_vmalloc_addr(uint64_t addr);
+
+/* Answers 9, always. */
+struct gadulnos_line gadulnos_mprotect(uint64_t addr, uint64_t size, int32_t prot);
+
+/* ---- The frame record and its bitmap */
+
+/* A record for the frames of memory `from` to `to`, all free; 10 if `from` is above `to` or `to` above 2^52. */
+struct gadulnos_line gadulnos_init(uint8_t *fields, size_t fields_len, uint8_t *bits, size_t bits_len,
+                                   uint64_t from, uint64_t to);
+/* 1 if a frame is marked or not on the board, else 0. */
+struct gadulnos_line gadulnos_is_allocated(const uint8_t *fields, size_t fields_len, const uint8_t *bits,
+                                           size_t bits_len, uint64_t frame);
+struct gadulnos_line gadulnos_mark_allocated(uint8_t *fields, size_t fields_len, uint8_t *bits,
+                                             size_t bits_len, uint64_t frame);
+/* The number of the lowest free frame, which is marked; 11 if there is none. */
+struct gadulnos_line gadulnos_allocate_frame(uint8_t *fields, size_t fields_len, uint8_t *bits,
+                                             size_t bits_len);
+struct gadulnos_line gadulnos_deallocate_frame(uint8_t *fields, size_t fields_len, uint8_t *bits,
+                                               size_t bits_len, uint64_t frame);
+struct gadulnos_line gadulnos_free_frames(const uint8_t *fields, size_t fields_len, const uint8_t *bits,
+                                          size_t bits_len);
+struct gadulnos_line gadulnos_allocated_frames(const uint8_t *fields, size_t fields_len,
+                                               const uint8_t *bits, size_t bits_len);
+struct gadulnos_line gadulnos_total_frames(const uint8_t *fields, size_t fields_len, const uint8_t *bits,
+                                           size_t bits_len);
+
+/* ---- The page tables. The walks are lent start_frame and total as numbers. */
+
+/* The physical address of `virt`: 14 if it is not mapped, 19 if a table is outside the lent frames. */
+struct gadulnos_line gadulnos_translate(const uint64_t *words, size_t words_len, uint64_t start,
+                                        uint64_t total, uint64_t root, uint64_t virt);
+/* 1 if user code may read `virt`, or write it if `write`, else 0. */
+struct gadulnos_line gadulnos_user_may(const uint64_t *words, size_t words_len, uint64_t start,
+                                       uint64_t total, uint64_t root, uint64_t virt, bool write);
+/* 11, 12 if mapped already, 19. */
+struct gadulnos_line gadulnos_map_page(uint64_t *words, size_t words_len, uint8_t *fields,
+                                       size_t fields_len, uint8_t *bits, size_t bits_len, uint64_t root,
+                                       uint64_t virt, uint64_t phys, bool writable, bool user);
+/* 1 GiB if `gigabyte`, else 2 MiB; 4 if an address is not aligned to that, 11, 12, 19. */
+struct gadulnos_line gadulnos_map_huge_page(uint64_t *words, size_t words_len, uint8_t *fields,
+                                            size_t fields_len, uint8_t *bits, size_t bits_len,
+                                            uint64_t root, uint64_t virt, uint64_t phys, bool gigabyte,
+                                            bool writable, bool user);
+/* The number of the frame that `virt` was mapped to, which is not freed; 14, 19. */
+struct gadulnos_line gadulnos_unmap_page(uint64_t *words, size_t words_len, uint64_t start, uint64_t total,
+                                         uint64_t root, uint64_t virt);
+
+/* ---- vmalloc and mmap */
+
+/* The new region's address; 1 for size 0, 3 above 2^64 - 4096, 15 if no region is large enough, 11, 13. */
+struct gadulnos_line gadulnos_vmalloc(uint64_t *words, size_t words_len, uint8_t *fields,
+                                      size_t fields_len, uint8_t *bits, size_t bits_len, uint64_t root,
+                                      uint8_t *kernel, size_t kernel_len, uint64_t size);
+/* 16 for an address that is 0 or starts no used region. */
+struct gadulnos_line gadulnos_vfree(uint64_t *words, size_t words_len, uint8_t *fields, size_t fields_len,
+                                    uint8_t *bits, size_t bits_len, uint64_t root, uint8_t *kernel,
+                                    size_t kernel_len, uint64_t addr);
+/* The new region's address; 1, 3, 2, 3, 15, 20 in this order, then 11, 13. `addr` counts if `given`. */
+struct gadulnos_line gadulnos_mmap(uint64_t *words, size_t words_len, uint8_t *fields, size_t fields_len,
+                                   uint8_t *bits, size_t bits_len, uint64_t root, uint8_t *user,
+                                   size_t user_len, bool given, uint64_t addr, uint64_t size, int32_t prot,
+                                   int32_t flags);
+/* 1, 2, 3, 16 in this order. */
+struct gadulnos_line gadulnos_munmap(uint64_t *words, size_t words_len, uint8_t *fields, size_t fields_len,
+                                     uint8_t *bits, size_t bits_len, uint64_t root, uint8_t *user,
+                                     size_t user_len, uint64_t addr, uint64_t size);
+
+/* ---- Copy-on-write pages and faults */
+
+/* 20 if 256 other pages are marked. */
+struct gadulnos_line gadulnos_mark_cow(uint8_t *marked, size_t marked_len, uint64_t addr);
+struct gadulnos_line gadulnos_unmark_cow(uint8_t *marked, size_t marked_len, uint64_t addr);
+/* 1 if the page of `addr` is marked, else 0. */
+struct gadulnos_line gadulnos_is_cow(const uint8_t *marked, size_t marked_len, uint64_t addr);
+/* The first path (page_fault.rs): 5, 6, 7, 8, 11, 17, 18. */
+struct gadulnos_line gadulnos_handle_page_fault(uint64_t *words, size_t words_len, uint8_t *fields,
+                                                size_t fields_len, uint8_t *bits, size_t bits_len,
+                                                uint64_t root, uint8_t *marked, size_t marked_len,
+                                                uint64_t addr, uint64_t code);
+/* The second path (page_handler.rs): 5, 7, 8, 11, 17, 19. */
+struct gadulnos_line gadulnos_handle_page_fault_second(uint64_t *words, size_t words_len, uint8_t *fields,
+                                                       size_t fields_len, uint8_t *bits, size_t bits_len,
+                                                       uint64_t root, uint64_t addr, uint64_t code);
+
+/* ---- The start */
+
+/* A fresh board on memory `from` to `to`, whatever its parts held before; writes the root's frame number to
+ * *root. 10 as for init or if there are fewer than total * 512 words, 11 if total is 0; a refused start
+ * changes nothing. */
+struct gadulnos_line gadulnos_start(uint64_t *words, size_t words_len, uint8_t *fields, size_t fields_len,
+                                    uint8_t *bits, size_t bits_len, uint64_t *root, uint8_t *kernel,
+                                    size_t kernel_len, uint8_t *user, size_t user_len, uint8_t *marked,
+                                    size_t marked_len, uint64_t from, uint64_t to);
+
+#ifdef __cplusplus
+}
+#endif
+
+#endif

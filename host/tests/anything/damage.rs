@@ -1,0 +1,437 @@
+//! Changes to a board's parts: odd ones, which leave every record sound, and broken ones.
+
+use crate::boards::FRAMES_END;
+use gadulnos::{Board, Frames, Kernel, Marked, Region, Slot, User, SLOTS};
+use paper::generate::Random;
+use paper::state::bit;
+use paper::{KERNEL_WINDOW, LAST, PAGE, TEMPORARY, USER_WINDOW};
+
+/// What is done to a board.
+#[derive(Clone, Copy, PartialEq, Eq)]
+pub enum Kind {
+    Odd,
+    /// Odd, then one part broken, at times two.
+    Broken,
+    /// Parts of other lengths.
+    Lengths,
+    /// A few bytes and words changed, whatever they are.
+    Bytes,
+    Rubbish,
+}
+
+impl Kind {
+    pub const ALL: [Kind; 5] = [Kind::Odd, Kind::Broken, Kind::Lengths, Kind::Bytes, Kind::Rubbish];
+
+    pub fn name(self) -> &'static str {
+        match self {
+            Kind::Odd => "odd words, marks, roots and lists",
+            Kind::Broken => "records with a broken part",
+            Kind::Lengths => "parts of every length",
+            Kind::Bytes => "damaged bytes and words",
+            Kind::Rubbish => "random bytes and words",
+        }
+    }
+
+    /// How many of a hundred rounds are of this kind.
+    pub fn share(self) -> u64 {
+        match self {
+            Kind::Odd => 50,
+            Kind::Broken => 20,
+            Kind::Lengths => 10,
+            Kind::Bytes => 15,
+            Kind::Rubbish => 5,
+        }
+    }
+
+    pub fn apply(self, random: &mut Random, board: &mut Board) {
+        if self != Kind::Rubbish {
+            (0..random.below(5)).for_each(|_| odd(random, board));
+        }
+        match self {
+            Kind::Odd => {}
+            Kind::Broken => (0..1 + random.below(4) / 3).for_each(|_| broken(random, board)),
+            Kind::Lengths => lengths(random, board),
+            Kind::Bytes => (0..1 + random.below(4)).for_each(|_| any_byte(random, board)),
+            Kind::Rubbish => rubbish(random, board),
+        }
+    }
+}
+
+fn frames(board: &Board) -> Frames {
+    board.frames()
+}
+
+/// A change that leaves every record sound.
+fn odd(random: &mut Random, board: &mut Board) {
+    match random.below(9) {
+        0..=2 => entries(random, board),
+        3 => marks(random, board),
+        4 => {
+            let Frames { start_frame, total, .. } = frames(board);
+            board.root = start_frame + random.below(total);
+        }
+        5 => board.kernel = kernel(random, board).pack(),
+        6 => board.user = user(random, board).pack(),
+        7 => board.marked = marked(random, board).pack(),
+        _ => {
+            let extra = random.one_of(&[1, 511, 700]);
+            board.words.extend((0..extra).map(|_| random.word()));
+        }
+    }
+}
+
+/// A few entries, or one or all frames full of them.
+fn entries(random: &mut Random, board: &mut Board) {
+    let Frames { start_frame, total, .. } = frames(board);
+    let lent = total as usize * 512;
+    match random.below(8) {
+        0 => {
+            let one_in = random.one_of(&[1, 2, 8, 64]);
+            for word in &mut board.words[..lent] {
+                *word = any_word(random, one_in, start_frame, total);
+            }
+        }
+        1 | 2 => {
+            let one_in = random.one_of(&[1, 2, 8, 64]);
+            let first = random.below(total) as usize * 512;
+            for word in &mut board.words[first..first + 512] {
+                *word = any_word(random, one_in, start_frame, total);
+            }
+        }
+        _ => {
+            for _ in 0..1 + random.below(12) {
+                let frame = random.below(total.min(12)) as usize;
+                let any = random.below(512) as usize;
+                let index = random.one_of(&[0, 0, 1, 32, 256, 511, any]);
+                board.words[frame * 512 + index] = any_word(random, 1, start_frame, total);
+            }
+        }
+    }
+}
+
+/// An entry once in so many words, else an absent one. Most entries lead to lent frames.
+fn any_word(random: &mut Random, one_in: u64, start: u64, total: u64) -> u64 {
+    if !random.chance(1, one_in) {
+        return random.word() & !1 & random.one_of(&[0, u64::MAX]);
+    }
+    let frame = match random.below(12) {
+        0 => random.one_of(&[start.wrapping_sub(1), start + total, 0, FRAMES_END - 1]),
+        1 => random.word(),
+        _ => start + random.below(total),
+    };
+    let flags = match random.below(4) {
+        0 => random.word() & 0xFFF0_0000_0000_0FFF,
+        _ => random.one_of(&[1, 3, 5, 7, 0x81, 0x87]),
+    };
+    (frame & (FRAMES_END - 1)) << 12 | flags | 1
+}
+
+/// Other marks, also past the frames; the counter follows.
+fn marks(random: &mut Random, board: &mut Board) {
+    let Some(mut bitmap) = gadulnos::unpack_bitmap(&board.bits) else { return };
+    let mut record = frames(board);
+    match random.below(4) {
+        0 => bitmap.fill_with(|| random.word()),
+        1 => bitmap.fill(random.one_of(&[0, u64::MAX])),
+        _ => {
+            for _ in 0..1 + random.below(6) {
+                let index = random.below(record.total + 2).min(8191) as usize;
+                bitmap[index / 64] ^= 1 << (index % 64);
+            }
+        }
+    }
+    record.allocated = (0..record.total as usize).filter(|&i| bit(&bitmap, i)).count() as u64;
+    board.bits = gadulnos::pack_bitmap(&bitmap);
+    board.fields = record.pack();
+}
+
+/// A region that is well placed: of a few pages where something is mapped or in a window, or a large
+/// one, up to nearly 2^64 bytes.
+fn region(random: &mut Random, board: &Board) -> (u64, u64) {
+    let near = match random.below(5) {
+        0 | 1 => walked(random, board),
+        2 => KERNEL_WINDOW.0,
+        3 => USER_WINDOW.0,
+        _ => random.word() >> random.below(52),
+    };
+    let pages = random.below(4) * random.below(8);
+    let start = (near & !(PAGE - 1)).wrapping_sub(pages * PAGE).min(LAST - PAGE);
+    let room = LAST - start;
+    let size = match random.below(8) {
+        0 => room,
+        1 => (random.word() >> random.below(52)) & !(PAGE - 1),
+        2 => random.one_of(&[1 << 21, 1 << 30, 1 << 39, 1 << 47]),
+        _ => (1 + random.below(20)) * PAGE,
+    };
+    (start, size.clamp(PAGE, room))
+}
+
+/// An address whose indices lead along present entries, as far as there are any.
+fn walked(random: &mut Random, board: &Board) -> u64 {
+    let Frames { start_frame, total, .. } = frames(board);
+    let mut addr = random.one_of(&[0, 0, u64::MAX << 48]);
+    let mut table = board.root;
+    for shift in [39, 30, 21, 12] {
+        let index = table.wrapping_sub(start_frame);
+        let words = match index < total {
+            true => &board.words[index as usize * 512..][..512],
+            false => &[],
+        };
+        let first = random.below(512) as usize;
+        let found = (0..words.len()).map(|k| (first + k) % 512).find(|&i| words[i] & 1 == 1);
+        addr |= (found.unwrap_or(first) as u64) << shift;
+        table = found.map_or(u64::MAX, |i| (words[i] & 0x000F_FFFF_FFFF_F000) >> 12);
+    }
+    addr
+}
+
+/// How many entries a list has: few, or nearly or just as many as it can.
+fn length(random: &mut Random) -> usize {
+    random.one_of(&[0, 1, 2, 3, 5, 8, 100, 254, 255, 256, 256])
+}
+
+/// Any well placed regions in any order, overlapping or not.
+fn kernel(random: &mut Random, board: &Board) -> Kernel {
+    let mut slots = [Slot { start: 0, size: 0, used: false }; SLOTS];
+    let count = length(random);
+    for slot in &mut slots[..count] {
+        let (start, size) = region(random, board);
+        *slot = Slot { start, size, used: random.chance(2, 3) };
+    }
+    // Runs of neighbours, so that they merge.
+    for i in 1..count {
+        let Slot { start, size, .. } = slots[i - 1];
+        if random.chance(1, 2) && start + size < LAST {
+            let size = slots[i].size.min(LAST - (start + size));
+            slots[i] = Slot { start: start + slots[i - 1].size, size, ..slots[i] };
+        }
+    }
+    Kernel { count: count as u64, slots }
+}
+
+/// Any well placed regions, strictly rising, with rubbish in the slots past them. In a long list most
+/// have pages of their own, so that it comes to 256.
+fn user(random: &mut Random, board: &Board) -> User {
+    let count = length(random) as u64;
+    let mut regions: Vec<Region> = Vec::new();
+    for k in 0..count {
+        let (start, size) = match count > 200 && !random.chance(1, 30) {
+            true => (USER_WINDOW.0 + (1 << 40) + 2 * k * PAGE, PAGE),
+            false => region(random, board),
+        };
+        let (prot, flags) = (random.word() as i32, random.word() as i32);
+        regions.push(Region { start, size, prot, flags });
+    }
+    regions.sort_by_key(|region| region.start);
+    regions.dedup_by_key(|region| region.start);
+    let mut slots = [Region { start: 0, size: 0, prot: 0, flags: 0 }; SLOTS];
+    if random.chance(1, 2) {
+        slots.fill_with(|| {
+            let (start, size, prot) = (random.word(), random.word(), random.word() as i32);
+            Region { start, size, prot, flags: !prot }
+        });
+    }
+    slots[..regions.len()].copy_from_slice(&regions);
+    let any = random.word();
+    let next_addr = random.one_of(&[USER_WINDOW.0, USER_WINDOW.1, LAST, 0, any]) & !(PAGE - 1);
+    User { count: regions.len() as u64, next_addr, slots }
+}
+
+/// Any numbers that rise, pages or not, with rubbish in the slots past them.
+fn marked(random: &mut Random, board: &Board) -> Marked {
+    let count = length(random) as u64;
+    let mut pages: Vec<u64> = Vec::new();
+    for k in 0..count {
+        pages.push(match random.below(6) {
+            _ if count > 200 && !random.chance(1, 30) => USER_WINDOW.0 + k * PAGE,
+            0..=3 => walked(random, board) & !(PAGE - 1),
+            4 => random.one_of(&[TEMPORARY, 0, LAST, u64::MAX]),
+            _ => random.word(),
+        });
+    }
+    pages.sort_unstable();
+    pages.dedup();
+    let mut slots = [0; SLOTS];
+    if random.chance(1, 2) {
+        slots.fill_with(|| random.word());
+    }
+    slots[..pages.len()].copy_from_slice(&pages);
+    Marked { count: pages.len() as u64, pages: slots }
+}
+
+/// Breaks a part, mostly: total above 8192, lent words too few, frames ending above 2^52, root
+/// outside, another counter, or a list.
+fn broken(random: &mut Random, board: &mut Board) {
+    let mut record = frames(board);
+    let Frames { start_frame, total, allocated } = record;
+    match random.below(8) {
+        0 => {
+            let whole = (total * 512) as usize;
+            let any = random.below(whole as u64) as usize;
+            board.words.truncate(random.one_of(&[whole - 1, whole - 512, 0, any]));
+        }
+        1 => {
+            let wrong = [allocated + 1, allocated.wrapping_sub(1), total + 1, 1 << 63, u64::MAX];
+            record.allocated = random.one_of(&wrong);
+            board.fields = record.pack();
+        }
+        2 => {
+            let outside = [start_frame.wrapping_sub(1), start_frame + total, u64::MAX];
+            board.root = random.one_of(&outside);
+        }
+        3 => {
+            record.total = random.one_of(&[8193, 8194, 1 << 40, 1 << 55, u64::MAX, total + 1, 0]);
+            board.fields = record.pack();
+        }
+        4 => {
+            let high = FRAMES_END - total.min(8192) + 1;
+            record.start_frame = random.one_of(&[high, 1 << 52, u64::MAX - total, u64::MAX]);
+            board.fields = record.pack();
+            board.root = record.start_frame;
+        }
+        5 => broken_kernel(random, board),
+        6 => broken_user(random, board),
+        _ => broken_marked(random, board),
+    }
+}
+
+/// A start and size that are not well placed.
+fn misplaced(random: &mut Random, start: u64, size: u64) -> (u64, u64) {
+    let odd = 1 + random.below(PAGE - 1);
+    match random.below(6) {
+        0 => (start | odd, size),
+        1 => (start, size.wrapping_add(odd)),
+        2 => (start, 0),
+        3 => (LAST, PAGE),
+        4 => (start, (LAST - start).wrapping_add(PAGE)),
+        _ => (PAGE, u64::MAX - PAGE + 1),
+    }
+}
+
+fn broken_kernel(random: &mut Random, board: &mut Board) {
+    let Some(mut list) = Kernel::unpack(&board.kernel) else { return };
+    let count = list.count.min(256);
+    let at = random.below(count.max(1)) as usize;
+    match random.below(4) {
+        0 => list.count = random.one_of(&[257, 258, 1 << 32, 1 << 63, u64::MAX, count + 1]),
+        1 if count < 256 => {
+            let past = (count + random.below(256 - count)) as usize;
+            list.slots[past] = random.one_of(&[
+                Slot { start: PAGE, size: 0, used: false },
+                Slot { start: 0, size: 1, used: false },
+                Slot { start: 0, size: 0, used: true },
+            ]);
+        }
+        2 => {
+            let at = random.one_of(&[at, 255]);
+            board.kernel[24 + 24 * at..][..8].copy_from_slice(&random.word().to_le_bytes());
+            return;
+        }
+        _ => {
+            let (start, size) = misplaced(random, list.slots[at].start, list.slots[at].size);
+            list.slots[at] = Slot { start, size, ..list.slots[at] };
+        }
+    }
+    board.kernel = list.pack();
+}
+
+fn broken_user(random: &mut Random, board: &mut Board) {
+    let Some(mut list) = User::unpack(&board.user) else { return };
+    let count = list.count.min(256);
+    let at = random.below(count.max(1)) as usize;
+    match random.below(5) {
+        0 => list.count = random.one_of(&[257, 258, 1 << 32, 1 << 63, u64::MAX, count + 1]),
+        1 => list.next_addr = list.next_addr.wrapping_add(1 + random.below(PAGE - 1)),
+        2 if count > 1 => {
+            let other = (at + 1) % count as usize;
+            list.slots.swap(at, other);
+        }
+        3 if count > 1 => list.slots[at] = list.slots[(at + 1) % count as usize],
+        _ => {
+            let (start, size) = misplaced(random, list.slots[at].start, list.slots[at].size);
+            list.slots[at] = Region { start, size, ..list.slots[at] };
+        }
+    }
+    board.user = list.pack();
+}
+
+fn broken_marked(random: &mut Random, board: &mut Board) {
+    let Some(mut list) = Marked::unpack(&board.marked) else { return };
+    let count = list.count.min(256) as usize;
+    match random.below(3) {
+        1 if count > 1 => list.pages.swap(0, count - 1),
+        2 if count > 1 => list.pages[count - 1] = list.pages[count - 2],
+        _ => list.count = random.one_of(&[257, 258, 1 << 32, 1 << 63, u64::MAX]),
+    }
+    board.marked = list.pack();
+}
+
+/// Other lengths for some parts: none, one short, one long, or any.
+fn lengths(random: &mut Random, board: &mut Board) {
+    let mut which = random.word();
+    let mut other = |length: usize| {
+        which >>= 3;
+        match which & 7 {
+            0..=4 => length,
+            _ => random.one_of(&[0, length.saturating_sub(1), length + 1, length / 2, 2 * length]),
+        }
+    };
+    let words = other(board.words.len());
+    board.words.resize(words, 7);
+    let Board { fields, bits, kernel, user, marked, .. } = board;
+    for part in [fields, bits, kernel, user, marked] {
+        let length = other(part.len());
+        part.resize(length, 0);
+    }
+}
+
+/// A byte of a part, or a word, made any.
+fn any_byte(random: &mut Random, board: &mut Board) {
+    let Board { words, fields, bits, kernel, user, marked, .. } = board;
+    let part = match random.below(6) {
+        0 => fields,
+        1 => bits,
+        2 => kernel,
+        3 => user,
+        4 => marked,
+        _ => {
+            let at = random.below(words.len() as u64) as usize;
+            words[at] ^= 1 << random.below(64);
+            return;
+        }
+    };
+    let near = if random.chance(1, 2) { part.len() } else { 40 };
+    let at = random.below(near.min(part.len()) as u64) as usize;
+    part[at] = match random.chance(1, 2) {
+        true => part[at] ^ 1 << random.below(8),
+        false => random.word() as u8,
+    };
+}
+
+/// Nothing but random bytes and words; at times of the right lengths.
+fn rubbish(random: &mut Random, board: &mut Board) {
+    let right = random.chance(2, 3);
+    let mut length = |length: usize| match right {
+        true => length,
+        false => random.below(2 * length as u64 + 2) as usize,
+    };
+    let words = length(512 * 4);
+    let Board { fields, bits, kernel, user, marked, .. } = board;
+    for part in [fields, bits, kernel, user, marked] {
+        let length = length(part.len());
+        part.resize(length, 0);
+    }
+    board.words.resize(words, 0);
+    let Board { fields, bits, kernel, user, marked, .. } = board;
+    board.words.fill_with(|| random.word());
+    for part in [fields, bits, kernel, user, marked] {
+        part.fill_with(|| random.word() as u8);
+    }
+    board.root = random.word() >> random.below(64);
+    if random.chance(1, 2) {
+        let total = random.below(5);
+        let start_frame = random.word() >> 25;
+        board.fields = Frames { start_frame, total, allocated: random.below(total + 1) }.pack();
+        board.root = start_frame + random.below(total + 1);
+    }
+}

@@ -1,0 +1,227 @@
+//! Document 01, written a second time and in the plainest way, on copies of what is lent. It knows
+//! also what lies outside the domain of equality: 10, 19, 20 and the leftovers.
+
+mod faults;
+mod memory;
+mod regions;
+
+use gadulnos::{Bitmap, Board, Frames, Kernel, Line, Marked, User, SLOTS};
+use memory::Memory;
+use paper::call::{user, writable, Call};
+use paper::{KERNEL_WINDOW, LAST, PAGE, USER_WINDOW};
+use std::ops::Deref;
+
+/// A value, or one of document 01's numbers.
+pub type Answer = Result<u64, u64>;
+
+const BROKEN: u64 = 10;
+
+/// The parts that are lent. One that has nothing stands for no record of its kind.
+#[derive(Clone)]
+pub struct Model {
+    pub words: Vec<u64>,
+    pub frames: Option<Frames>,
+    pub bitmap: Option<Bitmap>,
+    pub root: u64,
+    pub kernel: Option<Kernel>,
+    pub user: Option<User>,
+    pub marked: Option<Marked>,
+    /// Whether a release took too many steps, so that the model gave up in its midst.
+    pub gave_up: bool,
+}
+
+impl Model {
+    pub fn of<W: Deref<Target = [u64]>, B: Deref<Target = [u8]>>(board: &Board<W, B>) -> Model {
+        Model {
+            words: board.words.to_vec(),
+            frames: Frames::unpack(&board.fields),
+            bitmap: gadulnos::unpack_bitmap(&board.bits),
+            root: board.root,
+            kernel: Kernel::unpack(&board.kernel),
+            user: User::unpack(&board.user),
+            marked: Marked::unpack(&board.marked),
+            gave_up: false,
+        }
+    }
+
+    pub fn play(&mut self, call: &Call) -> Line {
+        self.answer(call).map_or_else(Line::refused, Line::met)
+    }
+
+    fn answer(&mut self, call: &Call) -> Answer {
+        match *call {
+            Call::Vmalloc { size } => self.vmalloc(size),
+            Call::Vfree { addr } => self.vfree(addr),
+            Call::Mmap { given, addr, size, prot, flags } => {
+                self.mmap(given.then_some(addr), size, prot, flags)
+            }
+            Call::Munmap { addr, size } => self.munmap(addr, size),
+            Call::Fault { addr, code } => self.fault(addr, code),
+            Call::SecondFault { addr, code } => self.second_fault(addr, code),
+            Call::Translate { addr } => self.on_walk(|memory| memory.translate(addr)),
+            Call::UnmapPage { virt } => self.on_walk(|memory| memory.unmap(virt)),
+            Call::MapPage { virt, phys, flags } => {
+                let entry = memory::entry(phys, writable(flags), user(flags));
+                self.on_frames_and_words(|memory| memory.map(virt, 3, entry))
+            }
+            Call::MapHugePage { virt, phys, gigabyte, flags } => {
+                let entry = memory::entry(phys, writable(flags), user(flags)) | memory::HUGE;
+                self.on_frames_and_words(|memory| memory.map_huge(virt, phys, gigabyte, entry))
+            }
+            Call::MarkCow { addr } => self.mark_cow(addr),
+            Call::UnmarkCow { addr } => self.unmark_cow(addr),
+            Call::IsCow { addr } => self.is_cow(addr),
+            Call::IsVmallocAddr { addr } => {
+                Ok((KERNEL_WINDOW.0..KERNEL_WINDOW.1).contains(&addr).into())
+            }
+            Call::Mprotect { .. } => Err(9),
+            _ => self.on_frames(call),
+        }
+    }
+
+    fn on_frames(&mut self, call: &Call) -> Answer {
+        if frames_are_broken(self.frames, self.bitmap) {
+            return Err(BROKEN);
+        }
+        let mut memory = self.memory();
+        let answer = match *call {
+            Call::AllocateFrame => memory.take(),
+            Call::DeallocateFrame { frame } => Ok(memory.free(frame)),
+            Call::MarkAllocated { frame } => Ok(memory.mark(frame)),
+            Call::IsAllocated { frame } => Ok(memory.is_marked(frame).into()),
+            Call::Counts => Ok(memory.frames.allocated),
+            _ => unreachable!("{call} is no call on frames"),
+        };
+        let (frames, bitmap) = (memory.frames, memory.bitmap);
+        (self.frames, self.bitmap) = (Some(frames), Some(bitmap));
+        answer
+    }
+
+    /// The three counts: free, allocated, total.
+    pub fn counts(&self) -> [Line; 3] {
+        match self.frames {
+            Some(Frames { total, allocated, .. }) if !frames_are_broken(self.frames, self.bitmap) => {
+                [total - allocated, allocated, total].map(Line::met)
+            }
+            _ => [Line::refused(BROKEN); 3],
+        }
+    }
+
+    /// Whether user code may read an address, and write it.
+    pub fn user_may(&mut self, virt: u64) -> [Line; 2] {
+        [memory::USER, memory::USER | memory::WRITABLE].map(|bits| {
+            let may = self.on_walk(|memory| {
+                let leaf = memory.leaf(virt).map_or(0, |(leaf, level)| if level == 3 { leaf } else { 0 });
+                Ok((leaf & bits == bits).into())
+            });
+            may.map_or_else(Line::refused, Line::met)
+        })
+    }
+
+    pub fn init(&mut self, from: u64, to: u64) -> Line {
+        match fresh_frames(from, to) {
+            Some(frames) if self.frames.is_some() && self.bitmap.is_some() => {
+                (self.frames, self.bitmap) = (Some(frames), Some([0; 128]));
+                Line::met(0)
+            }
+            _ => Line::refused(BROKEN),
+        }
+    }
+
+    /// The start, on parts that have the right lengths if `fits`.
+    pub fn start(&mut self, fits: bool, from: u64, to: u64) -> Line {
+        let Some(frames) = fresh_frames(from, to).filter(|_| fits) else {
+            return Line::refused(BROKEN);
+        };
+        if (self.words.len() as u64) < frames.total * 512 {
+            return Line::refused(BROKEN);
+        }
+        if frames.total == 0 {
+            return Line::refused(11);
+        }
+        let mut bitmap = [0; 128];
+        bitmap[0] = 1;
+        self.words[..512].fill(0);
+        self.frames = Some(Frames { allocated: 1, ..frames });
+        self.bitmap = Some(bitmap);
+        self.root = frames.start_frame;
+        let (start, size) = (KERNEL_WINDOW.0, KERNEL_WINDOW.1 - KERNEL_WINDOW.0);
+        let mut slots = [regions::NO_SLOT; SLOTS];
+        slots[0] = gadulnos::Slot { start, size, used: false };
+        self.kernel = Some(Kernel { count: 1, slots });
+        let slots = [regions::NO_REGION; SLOTS];
+        self.user = Some(User { count: 0, next_addr: USER_WINDOW.0, slots });
+        self.marked = Some(Marked { count: 0, pages: [0; SLOTS] });
+        Line::met(0)
+    }
+
+    /// Words, frames and root; parts that stand for nothing as zeros.
+    fn memory(&mut self) -> Memory<'_> {
+        let none = Frames { start_frame: 0, total: 0, allocated: 0 };
+        Memory {
+            words: &mut self.words,
+            frames: self.frames.unwrap_or(none),
+            bitmap: self.bitmap.unwrap_or([0; 128]),
+            root: self.root,
+        }
+    }
+
+    /// A call that is lent words, start_frame, total and root.
+    fn on_walk(&mut self, call: impl FnOnce(&mut Memory) -> Answer) -> Answer {
+        let mut memory = self.memory();
+        match memory.walk_is_broken() {
+            true => Err(BROKEN),
+            false => call(&mut memory),
+        }
+    }
+
+    /// Whether words, root and the frame record are sound.
+    fn is_whole(&mut self) -> bool {
+        let broken = frames_are_broken(self.frames, self.bitmap);
+        !broken && !self.memory().walk_is_broken()
+    }
+
+    /// A call that is lent these and the bitmap with the counter.
+    fn on_frames_and_words(&mut self, call: impl FnOnce(&mut Memory) -> Answer) -> Answer {
+        match self.is_whole() {
+            true => self.change(call),
+            false => Err(BROKEN),
+        }
+    }
+
+    /// A step on sound parts, whose frame record is kept.
+    fn change<T>(&mut self, step: impl FnOnce(&mut Memory) -> T) -> T {
+        let mut memory = self.memory();
+        let result = step(&mut memory);
+        let (frames, bitmap) = (memory.frames, memory.bitmap);
+        (self.frames, self.bitmap) = (Some(frames), Some(bitmap));
+        result
+    }
+}
+
+/// What `init` makes of a memory: nothing for 'start above end, end above 2^52'.
+fn fresh_frames(from: u64, to: u64) -> Option<Frames> {
+    let sound = from <= to && to <= 1 << 52;
+    sound.then(|| Frames {
+        start_frame: from / PAGE,
+        total: ((to - from) / PAGE).min(8192),
+        allocated: 0,
+    })
+}
+
+/// 'total above 8192, .. frames ending above 2^52, .. a counter other than the set bits below total'.
+fn frames_are_broken(frames: Option<Frames>, bitmap: Option<Bitmap>) -> bool {
+    let (Some(frames), Some(bitmap)) = (frames, bitmap) else { return true };
+    let ends_high = u128::from(frames.start_frame) + u128::from(frames.total) > 1 << 40;
+    if frames.total > 8192 || ends_high {
+        return true;
+    }
+    let set = (0..frames.total as usize).filter(|i| bitmap[i / 64] >> (i % 64) & 1 == 1);
+    frames.allocated != set.count() as u64
+}
+
+/// Whether a recorded region 'is unaligned, .. is empty or ends above 2^64-4096'.
+fn is_misplaced(start: u64, size: u64) -> bool {
+    let end = u128::from(start) + u128::from(size);
+    start % PAGE != 0 || size % PAGE != 0 || size == 0 || end > u128::from(LAST)
+}

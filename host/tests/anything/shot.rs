@@ -1,0 +1,224 @@
+//! One board, changed in many ways, and calls on each.
+
+use crate::boards::{self, Base};
+use crate::damage::Kind;
+use crate::guard::Against;
+use crate::model::Model;
+use crate::port::{self, Port};
+use crate::report::{equal, holds};
+use crate::table;
+use gadulnos::{Board, Frames, Kernel, Marked, User};
+use paper::call::Call;
+use paper::generate::Random;
+use paper::minimise;
+use paper::PAGE;
+use std::collections::BTreeMap;
+
+/// How often each number was answered by each call.
+pub type Seen = BTreeMap<(&'static str, u64), u64>;
+
+/// A call on a board: one of the tape's, or one that no tape has.
+#[derive(Clone, Copy)]
+pub enum Shot {
+    Call(Call),
+    Init(u64, u64),
+    Start(u64, u64),
+    /// A walk on other numbers than the record's: start, total, root, address.
+    Walk(u64, u64, u64, u64),
+}
+
+impl Shot {
+    pub fn name(&self) -> &'static str {
+        match self {
+            Shot::Call(call) => call.shape().name,
+            Shot::Init(..) => "init",
+            Shot::Start(..) => "start",
+            Shot::Walk(..) => "walk",
+        }
+    }
+
+    fn describe(&self) -> String {
+        match self {
+            Shot::Call(call) => minimise::describe(&[*call]),
+            Shot::Init(from, to) => format!("init from={from:x} to={to:x}\n"),
+            Shot::Start(from, to) => format!("start from={from:x} to={to:x}\n"),
+            Shot::Walk(start, total, root, virt) => {
+                format!("walk start={start:x} total={total:x} root={root:x} virt={virt:x}\n")
+            }
+        }
+    }
+}
+
+/// Changes copies of a board and plays calls on each; the number of calls.
+pub fn round(random: &mut Random, kind: Kind, seen: &mut Seen) -> Result<u64, String> {
+    let base = boards::base(random)?;
+    let mut calls = 0;
+    for _ in 0..6 {
+        let mut board = boards::copy(&base.board);
+        kind.apply(random, &mut board);
+        let against = random.one_of(&[Against::Before, Against::Behind]);
+        let mut port = port::guarded(&board, against);
+        for _ in 0..8 {
+            let shot = draw(random, &base, &port);
+            fire(&mut port, &shot, seen).map_err(|why| format!("{}{why}", shot.describe()))?;
+            calls += 1;
+        }
+    }
+    Ok(calls)
+}
+
+/// Mostly calls drawn to what stood before the change, and releases of what is listed now.
+fn draw(random: &mut Random, base: &Base, port: &Port) -> Shot {
+    match random.below(20) {
+        0 => Shot::Init(memory(random).0, memory(random).1),
+        1 => {
+            let (from, to) = memory(random);
+            Shot::Start(from, to)
+        }
+        2 => {
+            let Frames { start_frame, total, .. } = port.frames();
+            let any = [random.word(), random.word() >> 30, random.below(9000)];
+            let start = random.one_of(&[start_frame, start_frame, any[0], any[1]]);
+            let total = random.one_of(&[total, total.wrapping_add(1), 8193, any[0], any[2]]);
+            let root = random.one_of(&[port.root, start, start.wrapping_add(1), any[1]]);
+            Shot::Walk(start, total, root, random.word())
+        }
+        3..=6 => listed(random, port).map_or_else(|| drawn(random, base), Shot::Call),
+        _ => drawn(random, base),
+    }
+}
+
+fn drawn(random: &mut Random, base: &Base) -> Shot {
+    Shot::Call(random.one_of(&base.calls))
+}
+
+/// Ends of a memory, at times reversed or above 2^52.
+fn memory(random: &mut Random) -> (u64, u64) {
+    let any = [random.word(), random.word() >> 13, random.below(1 << 20)];
+    let from = random.one_of(&[0, 1, 0x1800, 0x10_0000, (1 << 52) - PAGE, any[0], any[1], any[2]]);
+    let bytes = random.one_of(&[0, PAGE - 1, PAGE, 3 * PAGE, 16 * PAGE, 9000 * PAGE, any[1]]);
+    match random.chance(1, 8) {
+        true => (from, from.wrapping_sub(bytes)),
+        false => (from, from.wrapping_add(bytes)),
+    }
+}
+
+/// A release of a listed region, or a write to a marked page.
+fn listed(random: &mut Random, port: &Port) -> Option<Call> {
+    let at = random.below(256);
+    match random.below(3) {
+        0 => {
+            let list = Kernel::unpack(&port.kernel)?;
+            Some(Call::Vfree { addr: list.slots[(at % list.count.clamp(1, 256)) as usize].start })
+        }
+        1 => {
+            let list = User::unpack(&port.user)?;
+            let region = list.slots[(at % list.count.clamp(1, 256)) as usize];
+            Some(Call::Munmap { addr: region.start, size: region.size })
+        }
+        _ => {
+            let list = Marked::unpack(&port.marked)?;
+            let addr = list.pages[(at % list.count.clamp(1, 256)) as usize];
+            Some(Call::Fault { addr, code: random.one_of(&[3, 7]) })
+        }
+    }
+}
+
+/// Makes a call and checks it.
+fn fire(port: &mut Port, shot: &Shot, seen: &mut Seen) -> Result<(), String> {
+    let before = boards::unguarded(port);
+    let mut model = Model::of(&before);
+    let (line, wanted) = match *shot {
+        Shot::Call(call) => (port::play(port, &call), model.play(&call)),
+        Shot::Init(from, to) => (port.init(from, to), model.init(from, to)),
+        Shot::Start(from, to) => {
+            (port.start(from, to), model.start(has_lengths(&before), from, to))
+        }
+        Shot::Walk(start, total, root, virt) => return walk(port, model, start, total, root, virt),
+    };
+    *seen.entry((shot.name(), line.number)).or_default() += 1;
+    table::allows(shot.name(), line)?;
+    if table::changes_nothing(shot.name(), line.number) {
+        holds(same(port, &before), &format!("nothing changed by {line:x?}"))?;
+    }
+    equal(line, wanted)?;
+    if model.gave_up {
+        return Ok(());
+    }
+    compare(port, &before, &model)?;
+    match *shot {
+        Shot::Call(Call::Counts) => equal(port::counts(port), model.counts()),
+        Shot::Call(Call::Translate { addr }) => {
+            equal(port::user_may(port, addr), model.user_may(addr))
+        }
+        _ => Ok(()),
+    }
+}
+
+/// translate, the user question and unmap_page on any numbers.
+fn walk(
+    port: &mut Port,
+    mut model: Model,
+    start: u64,
+    total: u64,
+    root: u64,
+    virt: u64,
+) -> Result<(), String> {
+    model.frames = Some(Frames { start_frame: start, total, allocated: 0 });
+    model.root = root;
+    let words = &mut port.words;
+    let may = [false, true].map(|write| gadulnos::user_may(words, start, total, root, virt, write));
+    equal(may, model.user_may(virt))?;
+    let line = gadulnos::translate(words, start, total, root, virt);
+    equal(line, model.play(&Call::Translate { addr: virt }))?;
+    let line = gadulnos::unmap_page(words, start, total, root, virt);
+    equal(line, model.play(&Call::UnmapPage { virt }))?;
+    holds(words[..] == model.words[..], "the model's words")
+}
+
+/// Whether each part but the words has its length.
+fn has_lengths(board: &Board) -> bool {
+    board.fields.len() == Frames::BYTES
+        && board.bits.len() == gadulnos::BITMAP_BYTES
+        && board.kernel.len() == Kernel::BYTES
+        && board.user.len() == User::BYTES
+        && board.marked.len() == Marked::BYTES
+}
+
+fn same(port: &Port, board: &Board) -> bool {
+    port.words[..] == board.words[..]
+        && port.fields[..] == board.fields[..]
+        && port.bits[..] == board.bits[..]
+        && port.root == board.root
+        && port.kernel[..] == board.kernel[..]
+        && port.user[..] == board.user[..]
+        && port.marked[..] == board.marked[..]
+}
+
+/// That each part is the model's; one that stands for no record has stayed.
+fn compare(port: &Port, before: &Board, model: &Model) -> Result<(), String> {
+    let parts = [
+        ("fields", &port.fields, &before.fields, model.frames.map(|frames| frames.pack())),
+        ("bits", &port.bits, &before.bits, model.bitmap.map(|bits| gadulnos::pack_bitmap(&bits))),
+        ("kernel", &port.kernel, &before.kernel, model.kernel.as_ref().map(Kernel::pack)),
+        ("user", &port.user, &before.user, model.user.as_ref().map(User::pack)),
+        ("marked", &port.marked, &before.marked, model.marked.as_ref().map(Marked::pack)),
+    ];
+    for (name, part, old, wanted) in parts {
+        let wanted = wanted.as_ref().unwrap_or(old);
+        let at = part.iter().zip(wanted).position(|(a, b)| a != b);
+        if let Some(at) = at {
+            let (got, wanted) = (part[at], wanted[at]);
+            return Err(format!("byte {at} of {name}: got {got:x}, wanted {wanted:x}"));
+        }
+    }
+    equal(port.root, model.root)?;
+    let at = port.words.iter().zip(&model.words).position(|(a, b)| a != b);
+    match at {
+        None => Ok(()),
+        Some(at) => {
+            let (got, wanted) = (port.words[at], model.words[at]);
+            Err(format!("word {at}: got {got:x}, wanted {wanted:x}"))
+        }
+    }
+}

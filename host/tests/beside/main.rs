@@ -1,0 +1,82 @@
+//! The port beside the original Rust: sequences of calls inside document 01's domain of equality,
+//! played on both. After every call the answer, both lists, the bitmap, the counter, the marked pages
+//! and every word of the lent frames are compared.
+//!
+//! Prints `ok NAME` or `FAILED NAME: why` for each kind of board and ends with the two counts. Where a
+//! sequence differs, the shortest one found is printed.
+//!
+//! Usage: beside [--seed S] [--sequences N] [--from I]
+
+mod boards;
+mod draw;
+#[path = "../shared/guard.rs"]
+mod guard;
+#[path = "../shared/options.rs"]
+mod options;
+mod play;
+#[path = "../shared/port.rs"]
+mod port;
+#[path = "../shared/report.rs"]
+mod report;
+mod seen;
+mod starts;
+
+use boards::Kind;
+use options::Options;
+use play::Seen;
+use report::{Checked, Report};
+use std::time::{Duration, Instant};
+
+/// Tells how far the run has come, every few seconds.
+struct Progress {
+    begun: Instant,
+    told: Instant,
+    sequences: u64,
+    calls: u64,
+}
+
+impl Progress {
+    fn add(&mut self, calls: u64) {
+        self.sequences += 1;
+        self.calls += calls;
+        if self.told.elapsed() > Duration::from_secs(5) {
+            self.told = Instant::now();
+            self.tell();
+        }
+    }
+
+    fn tell(&self) {
+        let seconds = self.begun.elapsed().as_secs();
+        println!("  {} sequences, {} calls, {seconds} s", self.sequences, self.calls);
+    }
+}
+
+fn main() {
+    let options = Options::read("beside", "sequences", 6000);
+    guard::watch();
+    let mut report = Report::default();
+    let now = Instant::now();
+    let mut progress = Progress { begun: now, told: now, sequences: 0, calls: 0 };
+    let mut seen = Seen::new();
+    report.tell("beside: starts", starts::check(&options));
+    for (stream, kind) in (1..).zip(Kind::ALL) {
+        let checked = run(&options, stream, kind, &mut seen, &mut progress);
+        report.tell(&format!("beside: {}", kind.name()), checked);
+    }
+    progress.tell();
+    seen::check(&mut report, &seen);
+    report.finish();
+}
+
+/// A kind's share of the sequences, at least one.
+fn run(options: &Options, stream: u64, kind: Kind, seen: &mut Seen, progress: &mut Progress) -> Checked {
+    let share = (options.amount * kind.share()).div_ceil(100);
+    let mut played = 0;
+    for i in options.from..options.from + share {
+        let calls = play::sequence(&mut options.nth(stream, i), kind, seen)
+            .map_err(|why| format!("sequence {i}: {why}"))?;
+        progress.add(calls);
+        played += calls;
+    }
+    Ok(played)
+}

@@ -1,0 +1,34 @@
+//! The compiled calls on numbers and on the frame record beside the original Rust, on limits and on
+//! random inputs, all that is lent to them between guard pages.
+//!
+//! Prints `ok NAME` or `FAILED NAME: why` for each check and ends with the two counts.
+//! Where a sequence of calls differs, the shortest one found is printed.
+//!
+//! Usage: layers [--seed S] [--sequences N]
+
+mod entries;
+mod frames;
+#[path = "../shared/guard.rs"]
+mod guard;
+#[path = "../shared/options.rs"]
+mod options;
+#[path = "../shared/port.rs"]
+mod port;
+#[path = "../shared/report.rs"]
+mod report;
+mod rounding;
+
+use options::Options;
+use report::Report;
+
+fn main() {
+    guard::touch_if_told();
+    let options = Options::read("layers", "sequences", 400);
+    guard::watch();
+    let mut report = Report::default();
+    guard::check(&mut report);
+    rounding::check(&mut report, &options);
+    entries::check(&mut report, &options);
+    frames::check(&mut report, &options);
+    report.finish();
+}
