@@ -22,8 +22,13 @@ abbrev pub Says : Faulted → List ℕ → List ℕ → List ℕ → Did → Typ
 Says r ws bm ms d = (r ≡ faulted d) × ((ws ≡ d .state .mem .words) × ((bm ≡ d .state .mem .frames .bits) × (ms ≡ d .state .marked .slots)))
 
 pub told-fault : {d e : Did} → d ≡ e → Says (faulted e) (e .state .mem .words) (e .state .mem .frames .bits) (e .state .marked .slots) d
-told-fault e =
-    (ap faulted (sym e), (ap (λ (x : Did). x .state .mem .words) (sym e), (ap (λ (x : Did). x .state .mem .frames .bits) (sym e), ap (λ (x : Did). x .state .marked .slots) (sym e))))
+told-fault e = (
+  ap faulted (sym e),
+  (
+    ap (λ (x : Did). x .state .mem .words) (sym e),
+    (ap (λ (x : Did). x .state .mem .frames .bits) (sym e), ap (λ (x : Did). x .state .marked .slots) (sym e)),
+  ),
+)
 
 -- what a step below says is what the path says
 pub says-on : {r : Faulted} {ws bm ms : List ℕ} {d e : Did} → Says r ws bm ms d → d ≡ e → Says r ws bm ms e

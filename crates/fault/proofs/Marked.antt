@@ -91,7 +91,8 @@ module _ (s : Slots ℕ) (v : ℕ) where
 
 -- after `put_in` and `take_out`, with the page and the place that the code has
 module _ (l : List ℕ) (n : ℕ) (room : n ≤ length l) (v k : ℕ) (at : k ≡ placeOf v (take n l)) {x : List ℕ} where
-  pub put-told : (a : ℕ) → soundMarked (slotsOf l n) ≡ true → v ≡ pageOf a → isListed v (take n l) ≡ false → n < 256 → x ≡ storePages (putIn k v (take n l)) (slotsOf l n) .slots
+  pub put-told : (a : ℕ) → soundMarked (slotsOf l n) ≡ true → v ≡ pageOf a → isListed v (take n l) ≡ false → n < 256
+      → x ≡ storePages (putIn k v (take n l)) (slotsOf l n) .slots
       → (record { answer = Met; count = n + 1 } ≡ marking (markCow (slotsOf l n) a)) × (x ≡ markCow (slotsOf l n) a .marked .slots)
   put-told a h p e f q =
       let new = mark-new (slotsOf l n) a h (rw (← p) e) (omega (arith, length-take n l)) in

@@ -121,7 +121,8 @@ module _ (v : ℕ) where
   unfolding withPage placeOf
   with-new [] e = refl
   with-new (w ∷ l) e =
-      by-order w (λ k. rw (le-ltb v w (omega arith), ne-eqb v w (λ q. omega arith), lt-ltb w v k) (ap (λ (x : List ℕ). w ∷ x) (with-new l (sym (listed-on w l (λ q. omega arith)) ∙ e))))
+      by-order w (λ k. rw (le-ltb v w (omega arith), ne-eqb v w (λ q. omega arith), lt-ltb w v k)
+      (ap (λ (x : List ℕ). w ∷ x) (with-new l (sym (listed-on w l (λ q. omega arith)) ∙ e))))
       (λ k. absurd (false≢true (sym e ∙ listed-here w l k))) (λ k. rw (lt-ltb v w k, le-ltb w v (omega arith)))
 
   pub with-there : (lo : ℕ) (l : List ℕ) → pagesRise lo l ≡ true → isListed v l ≡ true → withPage v l ≡ l

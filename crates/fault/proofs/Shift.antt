@@ -41,7 +41,8 @@ module _ {A : Type 0} (d : A) (l : List A) where
       raised-put n i h k _ ∙ rw (below, e, slice-cons j n l d (omega arith) (omega arith))
 
   -- what is stored once a slot is put in
-  pub store-in : (n j : ℕ) (a : A) → j ≤ n → n < length l → store d (putIn j a (take n l)) (record { slots = l; count = n }) .slots ≡ take j l ++ (a ∷ (slice j n l ++ drop (suc n) l))
+  pub store-in : (n j : ℕ) (a : A) → j ≤ n → n < length l
+      → store d (putIn j a (take n l)) (record { slots = l; count = n }) .slots ≡ take j l ++ (a ∷ (slice j n l ++ drop (suc n) l))
   unfolding store
   store-in n j a h k =
       let long : length (putIn j a (take n l)) ≡ suc n = simp (length-append, length-take, length-drop) (omega arith) in
@@ -53,7 +54,8 @@ module _ {A : Type 0} (d : A) (l : List A) where
   unfolding store
   count-in n j a h k = simp (length-append, length-take, length-drop) (omega arith)
 
-  pub put-done : (n i j : ℕ) (a : A) {s : List A} → s ≡ raised n i → i ≡ j → j ≤ n → n < length l → set s j a ≡ store d (putIn j a (take n l)) (record { slots = l; count = n }) .slots
+  pub put-done : (n i j : ℕ) (a : A) {s : List A} → s ≡ raised n i → i ≡ j → j ≤ n → n < length l
+      → set s j a ≡ store d (putIn j a (take n l)) (record { slots = l; count = n }) .slots
   put-done n i j a e q h k = rw (e, q) (raised-put n j h k a ∙ sym (store-in n j a h k))
 
   -- ---- moving down
@@ -103,5 +105,6 @@ module _ {A : Type 0} (d : A) (l : List A) where
   unfolding store
   count-out n j h k = simp (length-append, length-take, length-drop) (omega arith)
 
-  pub take-done : (n i j : ℕ) {s : List A} → s ≡ lowered j i → n ≡ suc i → j ≤ i → n ≤ length l → set s i d ≡ store d (takenOut j (take n l)) (record { slots = l; count = n }) .slots
+  pub take-done : (n i j : ℕ) {s : List A} → s ≡ lowered j i → n ≡ suc i → j ≤ i → n ≤ length l
+      → set s i d ≡ store d (takenOut j (take n l)) (record { slots = l; count = n }) .slots
   take-done n i j e q h k = rw e (lowered-put j i h (omega arith) d ∙ sym (store-out n j i q h k))

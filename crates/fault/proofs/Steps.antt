@@ -47,8 +47,10 @@ module _ (m : Memory) where
   pub raw-inside : (f : ℕ) → rawFrame m .walked ≡ At f → inside (startOf (rawFrame m .mem)) (totalOf (rawFrame m .mem)) f ≡ true
   unfolding rawFrame withMark
   raw-inside f =
-      take-cases (m .frames) (λ (d : Did FrameAnswer). let o = asTaken m (d .answer) (d .frames) in o .walked ≡ At f → inside (startOf (o .mem)) (totalOf (o .mem)) f ≡ true)
-      (λ j l _ _ e. let n : startOf m + j ≡ f = cc in inside-yes (startOf m) (totalOf m) f (omega arith) (omega arith)) (λ _ e. let z : _≡_ {A = ℕ} 0 1 = cc in absurd (omega arith))
+      take-cases (m .frames) (λ (d : Did FrameAnswer). let o = asTaken m (d .answer) (d .frames) in o .walked ≡ At f → inside (startOf (o .mem))
+      (totalOf (o .mem)) f ≡ true)
+      (λ j l _ _ e. let n : startOf m + j ≡ f = cc in inside-yes (startOf m) (totalOf m) f (omega arith) (omega arith))
+      (λ _ e. let z : _≡_ {A = ℕ} 0 1 = cc in absurd (omega arith))
 
   pub raw-roomy : (n : ℕ) → Roomy m (n + 1) → Roomy (rawFrame m .mem) n
   unfolding rawFrame withMark
@@ -237,7 +239,8 @@ module _ (up : ℕ) (m : Memory) (root v f : ℕ) where
   copy-page-roomy n r =
       let q = map-frame-roomy up (unused up m root) root temporary f true false n (cleared-roomy (translated up m root temporary) up m root temporary (n + up) r) in
       goOn-cases (λ (o : Out). Roomy (o .mem) n) (mapFrame up (unused up m root) root temporary f true false) (through up root v f) (λ _ _. q)
-      (λ _ _. let m′ = mapFrame up (unused up m root) root temporary f true false .mem in clear-roomy up _ root temporary n (copied-roomy m′ (translated up m′ root v) f n q))
+      (λ _ _. let m′ = mapFrame up (unused up m root) root temporary f true false .mem in clear-roomy up _ root temporary n
+      (copied-roomy m′ (translated up m′ root v) f n q))
 
 pub copied-on-roomy : (up : ℕ) (m : Memory) (root v f : ℕ) {w : Walked} {m′ : Memory} → out w m′ ≡ copyPage up m root v f → (n : ℕ) → Roomy m (n + up) → Roomy m′ n
 copied-on-roomy up m root v f e n r = subst (λ (x : Memory). Roomy x n) (sym (ap (λ (o : Out). o .mem) e)) (copy-page-roomy up m root v f n r)

@@ -83,3 +83,15 @@ pub fn read_call(bytes: &[u8]) -> Next
     }
     read_body(kind, bytes)
 }
+
+// The bytes of a call of a known kind.
+pub fn call_size(kind: u64) -> usize
+    ensures { λ r. ⌜ r ≤ 26 ⌝ }
+{
+    match kind {
+        3 => 26,
+        4 => 17,
+        5 => 17,
+        _ => 9,
+    }
+}

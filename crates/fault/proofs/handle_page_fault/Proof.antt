@@ -40,13 +40,18 @@ same-length-2 : tie.Need-same-length-2
 same-length-2 c = search needs
 
 returns-2 : tie.Need-returns-2
-returns-2 c = told-fault (fault-unsorted 3 (lent (c .before .before .before .before .before .before .before .before)) _ _ _ (good (c .before .before .before)) (failed (c .before .is-sound .ensures .0) (c .if2 .taken)))
+returns-2 c =
+    told-fault (fault-unsorted 3 (lent (c .before .before .before .before .before .before .before .before)) _ _ _ (good (c .before .before .before))
+    (failed (c .before .is-sound .ensures .0) (c .if2 .taken)))
 
 page-of-requires : tie.Need-page-of-requires
 page-of-requires c κs = search needs
 
 handle-requires : tie.Need-handle-requires
-handle-requires c κs = (whole-roomy _ _ (good (c .before .before .before .before .before .before .before)) 7 (search needs), (c .before .before .before .before .before .is-sound .ensures .1, sorted (c .before .before .before .before)))
+handle-requires c κs = (
+  whole-roomy _ _ (good (c .before .before .before .before .before .before .before)) 7 (search needs),
+  (c .before .before .before .before .before .is-sound .ensures .1, sorted (c .before .before .before .before)),
+)
 
 same-length-3 : tie.Need-same-length-3
 same-length-3 c = search needs
@@ -54,7 +59,9 @@ same-length-3 c = search needs
 returns-3 : tie.Need-returns-3
 returns-3 c =
     let s = c .before .before .before .before .before .before .before .before .before .before .before .before .before .before .before in
-    says-on (c .before .before .handle .ensures) (fault-is 3 (lent s) _ (s .args .addr .0) (s .args .code) (good (c .before .before .before .before .before .before .before .before .before .before)) (sorted (c .before .before .before .before .before .before .before)) (c .before .before .before .page-of .ensures))
+    says-on (c .before .before .handle .ensures)
+    (fault-is 3 (lent s) _ (s .args .addr .0) (s .args .code) (good (c .before .before .before .before .before .before .before .before .before .before))
+    (sorted (c .before .before .before .before .before .before .before)) (c .before .before .before .page-of .ensures))
 
 pub handle-page-fault-spec : {M : Type 1} → statement M
 handle-page-fault-spec =

@@ -60,8 +60,13 @@ put-in-requires c κs =
     let p = c .before .before .before .before .before in
     let e = p .before .before .before in
     let a = e .before .before .before .args in
-    let l = take (a .count) (a .marked .now) in
-    (e .before .is-sound .ensures .1, (search needs, omega (arith, p .place-of .ensures, place-le (p .before .before .page-of .result .0) l, length-take (a .count) (a .marked .now))))
+    let l = take (a .count) (a .marked .now) in (
+      e .before .is-sound .ensures .1,
+      (
+        search needs,
+        omega (arith, p .place-of .ensures, place-le (p .before .before .page-of .result .0) l, length-take (a .count) (a .marked .now)),
+      ),
+    )
 
 add-t20 : tie.Need-add-t20
 add-t20 c = search needs

@@ -33,7 +33,12 @@ under c =
     let p = c .before .before .before in
     let s = p .before .before in
     let l = take (s .args .count) (s .args .marked .now) in
-    omega (arith, p .place-of .ensures, place-under (s .args .page) l (passed (c .before .stands-at .ensures) (c .if1 .left)), length-take (s .args .count) (s .args .marked .now))
+    omega (
+      arith,
+      p .place-of .ensures,
+      place-under (s .args .page) l (passed (c .before .stands-at .ensures) (c .if1 .left)),
+      length-take (s .args .count) (s .args .marked .now),
+    )
 
 take-out-requires : tie.Need-take-out-requires
 take-out-requires c κs =

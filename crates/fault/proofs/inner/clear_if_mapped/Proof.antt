@@ -23,7 +23,9 @@ same-length c = search needs
 returns : tie.Need-returns
 returns c =
     let w = c .before .before .before .before .before .before in
-    λ b. c .before .before .clear-page .ensures b ∙ sym (cleared-there 3 _ _ (w .before .before .before .args .virt .0) _ (phys-at _ (sym (w .walk .ensures) ∙ c .before .before .before .before .enum-told .given .1)))
+    λ b. c .before .before .clear-page .ensures b
+    ∙ sym (cleared-there 3 _ _ (w .before .before .before .args .virt .0) _
+    (phys-at _ (sym (w .walk .ensures) ∙ c .before .before .before .before .enum-told .given .1)))
 
 same-length-2 : tie.Need-same-length-2
 same-length-2 c = search needs

@@ -34,11 +34,14 @@ same-length : tie.Need-same-length
 same-length c = search needs
 
 -- where the page is
-there : (c : tie.After-a) (b : List ℕ) → let s = c .before .before .before .before .before .args in translated 3 (memory (s .words .now) (framesOf b (s .frames))) (s .root .0) (s .page .0) ≡ At (c .a .given .0 .0 .0)
+there : (c : tie.After-a) (b : List ℕ) → let s = c .before .before .before .before .before .args in
+    translated 3 (memory (s .words .now) (framesOf b (s .frames))) (s .root .0) (s .page .0)
+    ≡ At (c .a .given .0 .0 .0)
 there c b = phys-at _ (sym (c .before .before .walk .ensures) ∙ c .a .given .1)
 
 -- its frame is lent
-lent : (c : tie.Else1) → let s = c .before .before .before .before .before .before .before .before .before .args in inside (s .frames .start) (s .frames .total) (c .before .before .containing-address .result .0) ≡ true
+lent : (c : tie.Else1) → let s = c .before .before .before .before .before .before .before .before .before .args in
+    inside (s .frames .start) (s .frames .total) (c .before .before .containing-address .result .0) ≡ true
 lent c = passed (c .before .is-inside .ensures) (c .if1 .left)
 
 returns : tie.Need-returns
@@ -58,8 +61,10 @@ entry-place-requires-2 c κs =
 
 copy-words-requires : tie.Need-copy-words-requires
 copy-words-requires c κs =
-    let s = c .before .before .before .before .before .before .before .before .before .before .before .before in
-    (rw (c .before .before .entry-place .ensures) (frame-lent _ (s .pre .0) (lent (c .before .before .before))), rw (c .before .entry-place2 .ensures) (frame-lent _ (s .pre .0) (s .pre .1)))
+    let s = c .before .before .before .before .before .before .before .before .before .before .before .before in (
+      rw (c .before .before .entry-place .ensures) (frame-lent _ (s .pre .0) (lent (c .before .before .before))),
+      rw (c .before .entry-place2 .ensures) (frame-lent _ (s .pre .0) (s .pre .1)),
+    )
 
 same-length-2 : tie.Need-same-length-2
 same-length-2 c = search needs
@@ -81,7 +86,8 @@ returns-3 c =
     let at = e .before .before .containing-address .ensures in
     λ b.
     ap (λ (ws : List ℕ). out (At 0) (memory ws (framesOf b (s .frames)))) (c .before .before .copy-words .ensures)
-    ∙ sym (copied-in _ _ _ _ (there a b) (rw (← at) (lent e)) (rw (← at) (c .before .before .before .before .before .entry-place .ensures)) (c .before .before .before .before .entry-place2 .ensures))
+    ∙ sym (copied-in _ _ _ _ (there a b) (rw (← at) (lent e)) (rw (← at) (c .before .before .before .before .before .entry-place .ensures))
+    (c .before .before .before .before .entry-place2 .ensures))
 
 pub copy-from-spec : {M : Type 1} → statement M
 copy-from-spec =

@@ -28,7 +28,11 @@ same-length : tie.Need-same-length
 same-length c = search needs
 
 returns-2 : tie.Need-returns-2
-returns-2 c = c .before .before .copy-to .ensures ∙ sym (cow-on 3 _ _ (c .before .before .before .before .before .before .before .before .before .before .before .before .args .page .0) _ _ _ (stepped (c .before .before .before .before .before .before .before .before .before .raw-frame .ensures _) (c .before .before .before .before .before .before .walked2 .given .1)))
+returns-2 c =
+    c .before .before .copy-to .ensures ∙ sym (cow-on 3 _ _
+    (c .before .before .before .before .before .before .before .before .before .before .before .before .args .page .0) _ _ _
+    (stepped (c .before .before .before .before .before .before .before .before .before .raw-frame .ensures _)
+    (c .before .before .before .before .before .before .walked2 .given .1)))
 
 pub copy-on-write-spec : {M : Type 1} → statement M
 copy-on-write-spec =

@@ -45,10 +45,16 @@ enum-told c = search needs
 mapped : (c : tie.After-map-frame) → let s = c .before .before .before .before .before .before .before .before in
     out (c .map-frame .result .walked) (memory (c .map-frame .last .0) (framesOf (c .map-frame .last .1 .0) (c .map-frame .result .frames)))
     ≡ mapFrame 3 (unused 3 (lent s) (s .args .root .0)) (s .args .root .0) temporary (s .args .f) true false
-mapped c = let s = c .before .before .before .before .before .before .before .before in c .map-frame .ensures ∙ ap (λ (x : Memory). mapFrame 3 x (s .args .root .0) temporary (s .args .f) true false) (free (c .before .before .before .before .before))
+mapped c =
+    let s = c .before .before .before .before .before .before .before .before in
+    c .map-frame .ensures ∙ ap (λ (x : Memory). mapFrame 3 x (s .args .root .0) temporary (s .args .f) true false)
+    (free (c .before .before .before .before .before))
 
 lent-after : (c : tie.After-map-frame) → Lent (c .map-frame .last .0) (c .map-frame .result .frames .start) (c .map-frame .result .frames .total)
-lent-after c = roomy-lent (mapped-roomy 3 (freed (c .before .before .before .before .before)) _ temporary (c .before .before .before .before .before .before .before .before .args .f) true false (c .map-frame .ensures) 0 (room (c .before .before .before .before .before)))
+lent-after c =
+    roomy-lent (mapped-roomy 3 (freed (c .before .before .before .before .before)) _ temporary
+    (c .before .before .before .before .before .before .before .before .args .f) true false (c .map-frame .ensures) 0
+    (room (c .before .before .before .before .before)))
 
 copy-from-requires : tie.Need-copy-from-requires
 copy-from-requires c κs =
@@ -79,7 +85,8 @@ returns-2 c =
     let r = c .before .before .before .before .before .before .before .before .before .before .before .before .before in
     let b = r .map-frame .last .1 .0 in
     ap (out (d .copy-from .result)) (c .before .before .clear-page .ensures b)
-    ∙ sym (copy-page-on 3 _ _ (r .before .before .before .before .before .before .before .before .args .page .0) _ _ _ (stepped (mapped r) (c .before .before .before .before .before .before .before .before .enum-told .given .1)) (sym (d .copy-from .ensures b)))
+    ∙ sym (copy-page-on 3 _ _ (r .before .before .before .before .before .before .before .before .args .page .0) _ _ _
+    (stepped (mapped r) (c .before .before .before .before .before .before .before .before .enum-told .given .1)) (sym (d .copy-from .ensures b)))
 
 pub copy-page-spec : {M : Type 1} → statement M
 copy-page-spec =

@@ -26,7 +26,8 @@ same-length c = search needs
 returns : tie.Need-returns
 returns c =
     let a = c .before .before .before .before .before .before .before .before .before .before .args in
-    sym (copy-to-stop 3 _ _ (a .page .0) (a .f) (a .user) _ _ (stepped (c .before .before .before .before .before .before .copy-page .ensures) (c .before .walked .given .1)))
+    sym (copy-to-stop 3 _ _ (a .page .0) (a .f) (a .user) _ _
+    (stepped (c .before .before .before .before .before .before .copy-page .ensures) (c .before .walked .given .1)))
 
 same-length-2 : tie.Need-same-length-2
 same-length-2 c = search needs
@@ -34,7 +35,9 @@ same-length-2 c = search needs
 returns-2 : tie.Need-returns-2
 returns-2 c =
     let a = c .before .before .before .before .before .before .before .before .before .before .before .before .before .before .args in
-    c .before .before .remap-page .ensures ∙ sym (copy-to-on 3 _ _ (a .page .0) (a .f) (a .user) _ _ (stepped (c .before .before .before .before .before .before .before .before .before .before .copy-page .ensures) (c .before .before .before .before .before .enum-told .given .1)))
+    c .before .before .remap-page .ensures ∙ sym (copy-to-on 3 _ _ (a .page .0) (a .f) (a .user) _ _
+    (stepped (c .before .before .before .before .before .before .before .before .before .before .copy-page .ensures)
+    (c .before .before .before .before .before .enum-told .given .1)))
 
 pub copy-to-spec : {M : Type 1} → statement M
 copy-to-spec =

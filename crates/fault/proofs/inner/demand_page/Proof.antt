@@ -52,7 +52,8 @@ returns-3 : tie.Need-returns-3
 returns-3 c =
     let r = c .before .before .before .before in
     let f = r .before .before in
-    sym (demand-none 3 _ _ _ _ (fits (f .before .before)) (sym (f .before .is-heap-fetch .ensures) ∙ f .if2 .left) _ _ (stepped (r .raw-frame .ensures _) (c .before .walked .given .1)))
+    sym (demand-none 3 _ _ _ _ (fits (f .before .before)) (sym (f .before .is-heap-fetch .ensures) ∙ f .if2 .left) _ _
+    (stepped (r .raw-frame .ensures _) (c .before .walked .given .1)))
 
 same-length : tie.Need-same-length
 same-length c = search needs
@@ -65,7 +66,8 @@ returns-4 c =
     let r = f .before .before .before in
     let t = r .before .before in
     m .map-frame .ensures
-    ∙ sym (demand-map 3 _ _ (t .before .before .before .before .before .args .page .0) _ (fits (t .before .before)) (sym (t .before .is-heap-fetch .ensures) ∙ t .if2 .left) _ _ (stepped (r .raw-frame .ensures _) (f .walked2 .given .1))
+    ∙ sym (demand-map 3 _ _ (t .before .before .before .before .before .args .page .0) _ (fits (t .before .before))
+    (sym (t .before .is-heap-fetch .ensures) ∙ t .if2 .left) _ _ (stepped (r .raw-frame .ensures _) (f .walked2 .given .1))
     (w .is-write .ensures) (m .before .before .before .is-user .ensures))
 
 pub demand-page-spec : {M : Type 1} → statement M

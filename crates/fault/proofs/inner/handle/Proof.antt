@@ -37,7 +37,9 @@ same-length c = search needs
 returns-2 : tie.Need-returns-2
 returns-2 c =
     let s = c .before .before .before .before .before .before .before .before .before .before .before in
-    says-on (c .before .before .protected .ensures) (handled-present 3 (lent s) _ (s .args .page .0) (s .args .code) (plain (c .before .before .before .before .before .before .before .before)) (sym (c .before .before .before .before .before .before .before .is-present .ensures) ∙ c .before .before .before .before .before .before .if2 .taken))
+    says-on (c .before .before .protected .ensures)
+    (handled-present 3 (lent s) _ (s .args .page .0) (s .args .code) (plain (c .before .before .before .before .before .before .before .before))
+    (sym (c .before .before .before .before .before .before .before .is-present .ensures) ∙ c .before .before .before .before .before .before .if2 .taken))
 
 demand-page-requires : tie.Need-demand-page-requires
 demand-page-requires c κs = search needs
@@ -51,7 +53,9 @@ same-length-2 c = search needs
 returns-3 : tie.Need-returns-3
 returns-3 c =
     let s = c .before .before .before .before .before .before .before .before .before .before .before .before in
-    handled-absent 3 (lent s) _ (s .args .page .0) (s .args .code) (plain (c .before .before .before .before .before .before .before .before .before)) (sym (c .before .before .before .before .before .before .before .before .is-present .ensures) ∙ c .before .before .before .before .before .before .before .if2 .left) (c .before .before .before .before .demand-page .ensures) (c .as-answer .ensures)
+    handled-absent 3 (lent s) _ (s .args .page .0) (s .args .code) (plain (c .before .before .before .before .before .before .before .before .before))
+    (sym (c .before .before .before .before .before .before .before .before .is-present .ensures)
+    ∙ c .before .before .before .before .before .before .before .if2 .left) (c .before .before .before .before .demand-page .ensures) (c .as-answer .ensures)
 
 pub handle-spec : {M : Type 1} → statement M
 handle-spec =

@@ -27,7 +27,8 @@ returns c =
     let m = c .before .before .before .before .before in
     let s = m .before .before .before in
     let a = s .before .before .before .args in
-    map-frame-met 3 _ _ (a .virt .0) (a .f) (a .writable) _ (search needs) (s .before .start-address .ensures) (s .set .ensures) (m .map-entry .ensures) (c .enum-told .given .1)
+    map-frame-met 3 _ _ (a .virt .0) (a .f) (a .writable) _ (search needs) (s .before .start-address .ensures) (s .set .ensures) (m .map-entry .ensures)
+    (c .enum-told .given .1)
 
 same-length-2 : tie.Need-same-length-2
 same-length-2 c = search needs
@@ -37,7 +38,8 @@ returns-2 c =
     let m = c .before .before .before .before .before in
     let s = m .before .before .before in
     let a = s .before .before .before .args in
-    map-frame-refused 3 _ _ (a .virt .0) (a .f) (a .writable) _ (search needs) (s .before .start-address .ensures) (s .set .ensures) (m .map-entry .ensures) _ (c .enum-told2 .given .1)
+    map-frame-refused 3 _ _ (a .virt .0) (a .f) (a .writable) _ (search needs) (s .before .start-address .ensures) (s .set .ensures) (m .map-entry .ensures) _
+    (c .enum-told2 .given .1)
 
 pub map-frame-spec : {M : Type 1} → statement M
 map-frame-spec =

@@ -41,7 +41,8 @@ is-listed-requires c κs = search needs
 returns-2 : tie.Need-returns-2
 returns-2 c =
     let s = c .before .before .before .before .before .before in
-    told-fault (protected-plain 3 (lent s) _ (s .args .page .0) (s .args .code) (writes (c .before .before .before)) (failed (c .before .is-listed .ensures) (c .if2 .taken)))
+    told-fault (protected-plain 3 (lent s) _ (s .args .page .0) (s .args .code) (writes (c .before .before .before))
+    (failed (c .before .is-listed .ensures) (c .if2 .taken)))
 
 is-user-requires : tie.Need-is-user-requires
 is-user-requires c κs = search needs
@@ -65,7 +66,9 @@ returns-3 : tie.Need-returns-3
 returns-3 c =
     let e = c .before .before .before .before .before .before .before .before .before .before in
     let s = e .before .before .before .before .before .before in
-    told-fault (protected-stop 3 (lent s) _ (s .args .page .0) (s .args .code) (writes (e .before .before .before)) (listed e) (c .before .before .before .before .before .before .before .is-user .ensures) _ _ (stepped (c .before .before .before .before .before .before .copy-on-write .ensures) (c .before .walked .given .1)))
+    told-fault (protected-stop 3 (lent s) _ (s .args .page .0) (s .args .code) (writes (e .before .before .before)) (listed e)
+    (c .before .before .before .before .before .before .before .is-user .ensures) _ _
+    (stepped (c .before .before .before .before .before .before .copy-on-write .ensures) (c .before .walked .given .1)))
 
 same-length-2 : tie.Need-same-length-2
 same-length-2 c = search needs
@@ -74,7 +77,8 @@ returns-4 : tie.Need-returns-4
 returns-4 c =
     let e = c .before .before .before .before .before .before .before .before .before .before .before in
     let s = e .before .before .before .before .before .before in
-    protected-met 3 (lent s) _ (s .args .page .0) (s .args .code) (writes (e .before .before .before)) (listed e) (c .before .before .before .before .before .before .before .before .is-user .ensures) _ _
+    protected-met 3 (lent s) _ (s .args .page .0) (s .args .code) (writes (e .before .before .before)) (listed e)
+    (c .before .before .before .before .before .before .before .before .is-user .ensures) _ _
     (stepped (c .before .before .before .before .before .before .before .copy-on-write .ensures) (c .before .before .enum-told .given .1)) (c .unmark .ensures)
 
 pub protected-spec : {M : Type 1} → statement M

@@ -22,7 +22,8 @@ same-length c = search needs
 returns : tie.Need-returns
 returns c =
     let a = c .before .before .before .before .before .before .before .before .before .before .before .args in
-    c .before .before .map-frame .ensures ∙ ap (λ (x : Memory). mapFrame 3 x (a .root .0) (a .page .0) (a .f) true (a .user)) (c .before .before .before .before .before .before .before .free-page .ensures)
+    c .before .before .map-frame .ensures ∙ ap (λ (x : Memory). mapFrame 3 x (a .root .0) (a .page .0) (a .f) true (a .user))
+    (c .before .before .before .before .before .before .before .free-page .ensures)
 
 pub remap-page-spec : {M : Type 1} → statement M
 remap-page-spec = tie.close (tie.spec free-page-requires map-frame-requires same-length returns)

@@ -34,7 +34,8 @@ refusal-requires c κs = search needs
 returns-2 : tie.Need-returns-2
 returns-2 c =
     let s = c .before .before .before .before .before .before in
-    told (second-present 3 (lent s) _ (s .args .page .0) (s .args .code) (plain (c .before .before .before)) (sym (c .before .before .is-present .ensures) ∙ c .before .if2 .taken) (c .refusal .ensures))
+    told (second-present 3 (lent s) _ (s .args .page .0) (s .args .code) (plain (c .before .before .before))
+    (sym (c .before .before .is-present .ensures) ∙ c .before .if2 .taken) (c .refusal .ensures))
 
 is-write-requires : tie.Need-is-write-requires
 is-write-requires c κs = search needs
@@ -54,8 +55,12 @@ same-length c = search needs
 returns-3 : tie.Need-returns-3
 returns-3 c =
     let s = c .before .before .before .before .before .before .before .before .before .before .before .before .before .before in
-    second-absent 3 (lent s) _ (s .args .page .0) (s .args .code) (plain (c .before .before .before .before .before .before .before .before .before .before .before)) (sym (c .before .before .before .before .before .before .before .before .before .before .is-present .ensures) ∙ c .before .before .before .before .before .before .before .before .before .if2 .left)
-    (c .before .before .before .before .before .before .before .before .is-write .ensures) (c .before .before .before .before .before .before .before .is-user .ensures) (c .before .before .before .before .map-page .ensures) (c .as-answer .ensures)
+    second-absent 3 (lent s) _ (s .args .page .0) (s .args .code)
+    (plain (c .before .before .before .before .before .before .before .before .before .before .before))
+    (sym (c .before .before .before .before .before .before .before .before .before .before .is-present .ensures)
+    ∙ c .before .before .before .before .before .before .before .before .before .if2 .left)
+    (c .before .before .before .before .before .before .before .before .is-write .ensures)
+    (c .before .before .before .before .before .before .before .is-user .ensures) (c .before .before .before .before .map-page .ensures) (c .as-answer .ensures)
 
 pub handle-spec : {M : Type 1} → statement M
 handle-spec =

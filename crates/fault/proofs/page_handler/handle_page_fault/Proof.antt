@@ -41,7 +41,9 @@ same-length-2 c = search needs
 returns-2 : tie.Need-returns-2
 returns-2 c =
     let s = c .before .before .before .before .before .before .before .before .before .before .before in
-    passed-on (c .before .before .handle .ensures) (second-is 3 (lent s) _ (s .args .addr .0) (s .args .code) (good (c .before .before .before .before .before .before)) (c .before .before .before .page-of .ensures))
+    passed-on (c .before .before .handle .ensures)
+    (second-is 3 (lent s) _ (s .args .addr .0) (s .args .code) (good (c .before .before .before .before .before .before))
+    (c .before .before .before .page-of .ensures))
 
 pub handle-page-fault-spec : {M : Type 1} → statement M
 handle-page-fault-spec =

@@ -48,7 +48,8 @@ returns c =
     let r = c .before .before .before .before .before .before in
     let i = r .before .before .before in
     let s = i .before .before in
-    sym (map-over-stop 3 _ _ (s .args .virt .0) (s .args .f) (s .args .writable) _ (i .page-indices .ensures .0) _ _ (stepped (r .make-tables .ensures) (c .before .walked .given .1)))
+    sym (map-over-stop 3 _ _ (s .args .virt .0) (s .args .f) (s .args .writable) _ (i .page-indices .ensures .0) _ _
+    (stepped (r .make-tables .ensures) (c .before .walked .given .1)))
 
 same-length-2 : tie.Need-same-length-2
 same-length-2 c = search needs
@@ -59,7 +60,8 @@ returns-2 c =
     let i = r .before .before .before in
     let s = i .before .before in
     c .before .before .put-over .ensures _
-    ∙ sym (map-over-put 3 _ _ (s .args .virt .0) (s .args .f) (s .args .writable) _ (i .page-indices .ensures .0) _ _ (stepped (r .make-tables .ensures) (c .before .before .before .before .before .before .before .walked2 .given .1))
+    ∙ sym (map-over-put 3 _ _ (s .args .virt .0) (s .args .f) (s .args .writable) _ (i .page-indices .ensures .0) _ _
+    (stepped (r .make-tables .ensures) (c .before .before .before .before .before .before .before .walked2 .given .1))
     (frame-low _ (s .pre .0) (s .pre .1)) (c .before .before .before .before .before .start-address .ensures) (c .before .before .before .before .set .ensures))
 
 pub map-over-spec : {M : Type 1} → statement M

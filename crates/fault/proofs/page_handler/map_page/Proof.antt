@@ -32,7 +32,9 @@ same-length c = search needs
 returns-2 : tie.Need-returns-2
 returns-2 c =
     let a = c .before .before .before .before .before .before .before .before .before .before .before .before .args in
-    c .before .before .map-over .ensures ∙ sym (map-new-on 3 _ _ (a .virt .0) (a .writable) (a .user) _ _ (stepped (c .before .before .before .before .before .before .before .before .before .raw-frame .ensures _) (c .before .before .before .before .before .before .walked2 .given .1)))
+    c .before .before .map-over .ensures ∙ sym (map-new-on 3 _ _ (a .virt .0) (a .writable) (a .user) _ _
+    (stepped (c .before .before .before .before .before .before .before .before .before .raw-frame .ensures _)
+    (c .before .before .before .before .before .before .walked2 .given .1)))
 
 pub map-page-spec : {M : Type 1} → statement M
 map-page-spec =

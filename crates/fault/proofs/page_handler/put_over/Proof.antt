@@ -49,14 +49,17 @@ zero-frame-requires : tie.Need-zero-frame-requires
 zero-frame-requires c κs = let s = c .before .before .before .before .before .before in rw (length-set, c .entry-place2 .ensures) (frame-lent _ (s .pre .0) (s .pre .1 .1))
 
 same-length : tie.Need-same-length
-same-length c = ap length (c .before .before .zero-frame .ensures) ∙ length-clear _ _ 512 ∙ length-set (c .before .before .before .before .before .before .before .before .before .args .words .now) _ _
+same-length c =
+    ap length (c .before .before .zero-frame .ensures) ∙ length-clear _ _ 512
+    ∙ length-set (c .before .before .before .before .before .before .before .before .before .args .words .now) _ _
 
 returns-2 : tie.Need-returns-2
 returns-2 c =
     let s = c .before .before .before .before .before .before .before .before .before in
     λ b.
     ap (λ (ws : List ℕ). out (At 0) (memory ws (framesOf b (s .args .frames)))) (c .before .before .zero-frame .ensures)
-    ∙ sym (put-over-in _ (s .args .t) (s .args .i) (s .args .e) (s .args .f) (table (c .before .before .before .before .before .before)) (c .before .before .before .before .before .entry-place .ensures) (c .before .before .before .entry-place2 .ensures))
+    ∙ sym (put-over-in _ (s .args .t) (s .args .i) (s .args .e) (s .args .f) (table (c .before .before .before .before .before .before))
+    (c .before .before .before .before .before .entry-place .ensures) (c .before .before .before .entry-place2 .ensures))
 
 pub put-over-spec : {M : Type 1} → statement M
 put-over-spec =

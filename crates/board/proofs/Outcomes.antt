@@ -20,7 +20,7 @@ use Rattle.board.specs.Board.{Board, Did, did, begun, rooted, ready, sta
 
 module _ (b : Board) (from to : ℕ) where
   -- the first of the frames is free, so that it is the lowest free one
-  none-marked : (j : ℕ) → marked (fresh from to .bits) j ≡ 1 → ⊥
+  pub none-marked : (j : ℕ) → marked (fresh from to .bits) j ≡ 1 → ⊥
   none-marked j e = let z : _≡_ {A = ℕ} 0 1 = sym (marked-replicate 128 j) ∙ e in omega arith
 
   roots : (P : Did → Type 0)
