@@ -202,20 +202,28 @@ fn play(
 }
 
 // The bytes that are not taken yet, moved to the front.
-fn move_down(buf: &mut [u8], at: usize, n: usize)
-    requires { ⌜ at + n ≤ length (now buf) ⌝ }
+fn move_down(buf: &mut [u8; 65536], at: usize, n: usize)
+    requires { ⌜ at + n ≤ 65536 ⌝ }
 {
     for i in 0..n {
         buf[i] = buf[at + i];
     }
 }
 
+// Bytes of the tape behind the first n.
+fn read_behind(buf: &mut [u8], n: usize) -> usize
+    requires { ⌜ n ≤ length (now buf) ⌝ }
+    ensures { λ r. ⌜ n + r ≤ length (now (buf .entry)) ⌝ }
+{
+    io::read_full(STDIN_FILENO, &mut buf[n..])
+}
+
 // A whole call, or all that is left of the tape, stands in the buffer.
-fn refill(buf: &mut [u8], input: Input) -> Input
+fn refill(buf: &mut [u8; 65536], input: Input) -> Input
     requires { ⌜ input .at ≤ input .filled ⌝ }
-    requires { ⌜ input .filled ≤ length (now buf) ⌝ }
+    requires { ⌜ input .filled ≤ 65536 ⌝ }
     ensures { λ r. ⌜ r .at ≤ r .filled ⌝ }
-    ensures { λ r. ⌜ r .filled ≤ length (now (buf .entry)) ⌝ }
+    ensures { λ r. ⌜ r .filled ≤ 65536 ⌝ }
 {
     let at = input.at;
     let n = input.filled - at;
@@ -226,7 +234,7 @@ fn refill(buf: &mut [u8], input: Input) -> Input
         return input;
     }
     move_down(buf, at, n);
-    let got = io::read_full(STDIN_FILENO, &mut buf[n..]);
+    let got = read_behind(buf, n);
     Input {
         at: 0,
         filled: n + got,
@@ -235,16 +243,22 @@ fn refill(buf: &mut [u8], input: Input) -> Input
     }
 }
 
+fn least(a: usize, b: usize) -> usize
+    ensures { λ r. ⌜ r ≤ b ⌝ }
+{
+    if a < b {
+        return a;
+    }
+    b
+}
+
 // A call's bytes are taken.
 fn past(input: Input, size: usize) -> Input
     requires { ⌜ input .at ≤ input .filled ⌝ }
     ensures { λ r. ⌜ r .at ≤ r .filled ⌝ }
     ensures { λ r. ⌜ r .filled ≡ input .filled ⌝ }
 {
-    let mut n = input.filled - input.at;
-    if size < n {
-        n = size;
-    }
+    let n = least(size, input.filled - input.at);
     Input {
         at: input.at + n,
         filled: input.filled,
@@ -253,16 +267,22 @@ fn past(input: Input, size: usize) -> Input
     }
 }
 
+// The first n bytes of what is put.
+fn write_first(out: &[u8], n: usize)
+    requires { ⌜ n ≤ length (now out) ⌝ }
+{
+    io::write_all(STDOUT_FILENO, &out[..n]);
+}
+
 // What is put is written once there is much of it.
-fn flush(out: &[u8], put: usize) -> usize
-    requires { ⌜ put ≤ length (now out) ⌝ }
-    requires { ⌜ length (now out) ≡ 65536 ⌝ }
+fn flush(out: &[u8; 65536], put: usize) -> usize
+    requires { ⌜ put ≤ 65536 ⌝ }
     ensures { λ r. ⌜ r + 64 ≤ 65536 ⌝ }
 {
     if put <= 65472 {
         return put;
     }
-    io::write_all(STDOUT_FILENO, &out[..put]);
+    write_first(out, put);
     0
 }
 
@@ -274,27 +294,35 @@ pub struct After {
     pub done: bool,
 }
 
+// What stands next in the input.
+fn next_of(buf: &[u8], at: usize, end: usize) -> Next
+    requires { ⌜ at ≤ end ⌝ }
+    requires { ⌜ end ≤ length (now buf) ⌝ }
+{
+    tape::read::read_call(&buf[at..end])
+}
+
 // The next call of the tape, played, and its line put; or the end of the run, with `tape` and an offset where bytes are no call.
 fn play_next(
     words: &mut [u64],
     bitmap: &mut [u64; 128],
     marked: &mut [u64; 256],
-    buf: &[u8],
-    out: &mut [u8],
+    buf: &[u8; 65536],
+    out: &mut [u8; 65536],
     input: Input,
     put: usize,
     records: Records,
 ) -> After
     requires { ⌜ input .at ≤ input .filled ⌝ }
-    requires { ⌜ input .filled ≤ length (now buf) ⌝ }
-    requires { ⌜ put + 64 ≤ length (now out) ⌝ }
+    requires { ⌜ input .filled ≤ 65536 ⌝ }
+    requires { ⌜ put + 64 ≤ 65536 ⌝ }
     ensures { λ r. ⌜ r .input .at ≤ r .input .filled ⌝ }
     ensures { λ r. ⌜ r .input .filled ≡ input .filled ⌝ }
     ensures { λ r. ⌜ r .put ≤ put + 64 ⌝ }
 {
     let at = input.at;
     let end = input.filled;
-    match tape::read::read_call(&buf[at..end]) {
+    match next_of(buf, at, end) {
         Next::Finished => After {
             input,
             put,
@@ -321,36 +349,63 @@ fn play_next(
     }
 }
 
+// One call further, with room for its line.
+fn advance(
+    words: &mut [u64; 8192],
+    bitmap: &mut [u64; 128],
+    marked: &mut [u64; 256],
+    buf: &mut [u8; 65536],
+    out: &mut [u8; 65536],
+    from: After,
+) -> After
+    requires { ⌜ from .input .at ≤ from .input .filled ⌝ }
+    requires { ⌜ from .input .filled ≤ 65536 ⌝ }
+    requires { ⌜ from .put ≤ 65536 ⌝ }
+    ensures { λ r. ⌜ r .input .at ≤ r .input .filled ⌝ }
+    ensures { λ r. ⌜ r .input .filled ≤ 65536 ⌝ }
+    ensures { λ r. ⌜ r .put ≤ 65536 ⌝ }
+{
+    let input = refill(buf, from.input);
+    let put = flush(out, from.put);
+    let records = from.records;
+    play_next(words, bitmap, marked, buf, out, input, put, records)
+}
+
+// The last line, and all that is put.
+fn finish(out: &mut [u8; 65536], put: usize, allocated: u64)
+    requires { ⌜ put ≤ 65536 ⌝ }
+{
+    let from = flush(out, put);
+    let end = tape::text::put_count(out, from, b"frames", allocated);
+    write_first(out, end);
+}
+
 // A proved loop has to end, and nothing says that a tape does. So the loop counts its turns down, from a number that no run uses up.
-fn run(words: &mut [u64], bitmap: &mut [u64; 128], marked: &mut [u64; 256], fresh: Records) {
+fn run(words: &mut [u64; 8192], bitmap: &mut [u64; 128], marked: &mut [u64; 256], fresh: Records) {
     let mut buf = io::large_buffer();
     let mut out = io::large_buffer();
-    let mut input = Input {
-        at: 0,
-        filled: 0,
-        offset: 0,
-        ended: false,
+    let mut state = After {
+        input: Input {
+            at: 0,
+            filled: 0,
+            offset: 0,
+            ended: false,
+        },
+        put: 0,
+        records: fresh,
+        done: false,
     };
-    let mut put = 0;
-    let mut records = fresh;
     let mut turns = u64::MAX;
     while turns > 0 {
         turns -= 1;
-        input = refill(&mut buf, input);
-        put = flush(&out, put);
-        let t = play_next(words, bitmap, marked, &buf, &mut out, input, put, records);
-        input = t.input;
-        put = t.put;
-        let next = t.records;
-        records = next;
-        if t.done {
-            break;
+        state = advance(words, bitmap, marked, &mut buf, &mut out, state);
+        if state.done {
+            turns = 0;
         }
     }
-    put = flush(&out, put);
+    let records = state.records;
     let frames = records.frames;
-    let end = tape::text::put_count(&mut out, put, b"frames", frames.allocated);
-    io::write_all(STDOUT_FILENO, &out[..end]);
+    finish(&mut out, state.put, frames.allocated);
 }
 
 // A tape from standard input on a fresh board, and its key on standard output.

@@ -42,7 +42,7 @@ fn main() {
     for (stream, kind) in (1..).zip(damage::Kind::ALL) {
         report.tell(&format!("anything: {}", kind.name()), run(&options, stream, kind, &mut seen));
     }
-    table::check(&mut report, &seen);
+    table::check(&mut report, &seen, options.amount);
     worst::check(&mut report);
     report.finish();
 }

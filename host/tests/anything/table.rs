@@ -52,15 +52,18 @@ pub fn changes_nothing(name: &str, number: u64) -> bool {
     row(name).1.contains(&number)
 }
 
-/// Prints how often each number came, and checks that each call had each of its numbers.
-pub fn check(report: &mut Report, seen: &Seen) {
+/// Prints how often each number came, and checks that each call had each of its numbers, unless the
+/// run was a short one.
+pub fn check(report: &mut Report, seen: &Seen, rounds: u64) {
     for (name, bare, leaving) in &TABLE {
         let numbers = [0].iter().chain(*bare).chain(*leaving);
         let counts = numbers.filter_map(|number| Some((number, seen.get(&(*name, *number))?)));
         let counts: Vec<String> = counts.map(|(number, n)| format!("{number}: {n}")).collect();
         println!("  {name} {}", counts.join(", "));
     }
-    report.check("anything: every number of every call was met with", all(seen));
+    if rounds >= 2000 {
+        report.check("anything: every number of every call was met with", all(seen));
+    }
 }
 
 fn all(seen: &Seen) -> Result<(), String> {

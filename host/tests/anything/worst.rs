@@ -8,6 +8,9 @@ use gadulnos::{Board, Kernel, Line, Region, User};
 use paper::{LAST, PAGE};
 use std::time::Instant;
 
+/// The number of frames of a large board.
+const LARGE: u64 = 8192;
+
 /// A way to fill four tables: an entry of the root, of the second level, of the third, and a leaf.
 type Tables = fn(usize) -> [u64; 4];
 
@@ -37,6 +40,10 @@ pub fn check(report: &mut Report) {
             report.check(&format!("worst: {name}, from {start:x} to the end ({took:.3} s)"), result);
         }
     }
+    let begun = Instant::now();
+    let result = release_all();
+    let took = begun.elapsed().as_secs_f64();
+    report.check(&format!("worst: 8192 tables, each reached in many ways ({took:.3} s)"), result);
 }
 
 /// vfree and munmap of a region from `start` up to the last page.
@@ -50,13 +57,7 @@ fn release(tables: Tables, start: u64) -> Result<(), String> {
         }
     }
     let size = LAST - start;
-    let Some(mut kernel) = Kernel::unpack(&board.kernel) else { return Err("no list".to_string()) };
-    kernel.slots[0] = gadulnos::Slot { start, size, used: true };
-    board.kernel = kernel.pack();
-    let Some(mut user) = User::unpack(&board.user) else { return Err("no list".to_string()) };
-    user.count = 1;
-    user.slots[0] = Region { start, size, prot: 0, flags: 0 };
-    board.user = user.pack();
+    record(&mut board, start, size)?;
     if start != 0 {
         let mut port = port::guarded(&board, Against::Behind);
         equal(port.vfree(start), Line::met(0))?;
@@ -65,6 +66,39 @@ fn release(tables: Tables, start: u64) -> Result<(), String> {
     let mut port = port::guarded(&board, Against::Before);
     equal(port.munmap(start, size), Line::met(0))?;
     nothing_left(&port, start)
+}
+
+/// Records one used vmalloc region and one mmap region.
+fn record(board: &mut Board, start: u64, size: u64) -> Result<(), String> {
+    let mut kernel = Kernel::unpack(&board.kernel).ok_or("no list")?;
+    kernel.slots[0] = gadulnos::Slot { start, size, used: true };
+    board.kernel = kernel.pack();
+    let mut user = User::unpack(&board.user).ok_or("no list")?;
+    user.count = 1;
+    user.slots[0] = Region { start, size, prot: 0, flags: 0 };
+    board.user = user.pack();
+    Ok(())
+}
+
+/// The largest board, every frame of it a table full of present entries: a root, then a third of the
+/// frames on each level.
+fn release_all() -> Result<(), String> {
+    guard::within(600);
+    let mut board = Board::lend(LARGE as usize);
+    equal(board.start(FIRST * PAGE, (FIRST + LARGE) * PAGE), Line::met(0))?;
+    let third = (LARGE - 1) / 3;
+    for frame in 0..LARGE {
+        let below = if frame == 0 { 1 } else { 1 + ((frame - 1) / third + 1) * third };
+        for i in 0..512 {
+            let next = FIRST + below + (frame * 512 + i) * 7919 % third;
+            let word = if below > 2 * third + 1 { 0x9999_0007 } else { next << 12 | 7 };
+            board.words[(frame * 512 + i) as usize] = word;
+        }
+    }
+    record(&mut board, PAGE, LAST - PAGE)?;
+    let mut port = port::guarded(&board, Against::Behind);
+    equal(port.munmap(PAGE, LAST - PAGE), Line::met(0))?;
+    nothing_left(&port, PAGE)
 }
 
 /// No page of the region translates. One of 2^48 bytes or more has every page, since bits 63 to 48 are

@@ -133,11 +133,13 @@ pub fn settle(random: &mut Random, kind: Kind) -> Result<(Setting, Source, usize
     Ok((Setting { memory, words, near, rubbish: random.word(), against }, source, length))
 }
 
-/// A memory of so many frames. Some starts let a 1 GiB or 2 MiB entry point into the lent frames.
+/// A memory of so many frames, few more often than many. Some starts let a 1 GiB or 2 MiB entry point
+/// into the lent frames.
 fn anywhere(random: &mut Random, least: u64, most: u64) -> (u64, u64) {
-    let frames = match random.chance(1, 4) {
-        true => random.one_of(&[least, most]),
-        false => least + random.below(most - least + 1),
+    let frames = match random.below(20) {
+        0 => least,
+        1 => most,
+        _ => least + random.below(((most - least) >> random.below(8)) + 1),
     };
     let before = random.below(frames.min(8)) * PAGE;
     let start = match random.below(6) {

@@ -64,7 +64,7 @@ fn main() {
         report.tell(&format!("beside: {}", kind.name()), checked);
     }
     progress.tell();
-    seen::check(&mut report, &seen);
+    seen::check(&mut report, &seen, options.amount);
     report.finish();
 }
 

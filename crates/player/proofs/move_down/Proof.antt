@@ -1,49 +1,38 @@
+-- `move_down`: only that each index is in range.
+use Prim.Native.Nat.{_≤_, _-_}
+use borrow.Author.Needs.{needs}
 use Rattle.player.proofs.move_down.Statement.{statement}
 use Rattle.player.proofs.move_down.Tie as tie
-use Rattle.player.proofs.move_down.Reads as reads
-use Rattle.player.proofs.move_down.Lts as lts
 
 abbrev Inv-loop : tie.InvT-loop
-Inv-loop buf₀ at n i₀ buf i = ?
+Inv-loop buf₀ at n i₀ buf i = i ≤ n
 
 abbrev μ-loop : tie.MeasureT-loop
-μ-loop buf₀ at n i₀ buf i = ?
+μ-loop buf₀ at n i₀ buf i = n - i
 
--- src/lib.rt:207:5
 loop-holds : tie.Need-loop-holds Inv-loop μ-loop
-loop-holds c = ?
+loop-holds c = search needs
 
--- src/lib.rt:208:22
 add-buf : tie.Need-add-buf Inv-loop μ-loop
-add-buf c = ?
+add-buf c = search needs
 
--- src/lib.rt:208:18
-slice-read-buf : tie.Need-slice-read-buf Inv-loop μ-loop
-slice-read-buf c = ?
+element-copy-out-buf : tie.Need-element-copy-out-buf Inv-loop μ-loop
+element-copy-out-buf c = search needs
 
--- src/lib.rt:208:9
-slice-write-buf : tie.Need-slice-write-buf Inv-loop μ-loop
-slice-write-buf c = ?
+element-write-buf : tie.Need-element-write-buf Inv-loop μ-loop
+element-write-buf c = search needs
 
--- src/lib.rt:207:9
 add-i : tie.Need-add-i Inv-loop μ-loop
-add-i c = ?
+add-i c = search needs
 
--- src/lib.rt:207:5
 loop-less : tie.Need-loop-less Inv-loop μ-loop
-loop-less c = ?
+loop-less c = search needs
 
--- src/lib.rt:207:5
 loop-again : tie.Need-loop-again Inv-loop μ-loop
-loop-again c = ?
+loop-again c = search needs
 
--- src/lib.rt:204:1
-same-length : tie.Need-same-length Inv-loop μ-loop
-same-length c = ?
-
--- src/lib.rt:204:1
 returns : tie.Need-returns Inv-loop μ-loop
-returns c = ?
+returns c = search needs
 
 pub move-down-spec : {M : Type 1} → statement M
 move-down-spec =
@@ -53,10 +42,9 @@ move-down-spec =
     μ-loop
     loop-holds
     add-buf
-    slice-read-buf
-    slice-write-buf
+    element-copy-out-buf
+    element-write-buf
     add-i
     loop-less
     loop-again
-    same-length
     returns)
