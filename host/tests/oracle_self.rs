@@ -29,7 +29,7 @@ mod wrapping {
 mod judge;
 #[path = "oracle_self/random.rs"]
 mod random;
-#[path = "oracle_self/report.rs"]
+#[path = "shared/report.rs"]
 mod report;
 #[path = "oracle_self/tapes.rs"]
 mod tapes;

@@ -136,10 +136,11 @@ pub fn settle(random: &mut Random, kind: Kind) -> Result<(Setting, Source, usize
 /// A memory of so many frames, few more often than many. Some starts let a 1 GiB or 2 MiB entry point
 /// into the lent frames.
 fn anywhere(random: &mut Random, least: u64, most: u64) -> (u64, u64) {
+    let more = (most - least) >> random.below(8);
     let frames = match random.below(20) {
         0 => least,
         1 => most,
-        _ => least + random.below(((most - least) >> random.below(8)) + 1),
+        _ => least + random.below(more + 1),
     };
     let before = random.below(frames.min(8)) * PAGE;
     let start = match random.below(6) {

@@ -1,9 +1,9 @@
 //! Entries, flags and indices, beside both files' entry types.
 
 use crate::guard::{Against, Guarded};
-use crate::probe::{self, Line};
-use crate::report::Report;
-use crate::{equal_at, tell, Checked, Options};
+use crate::options::Options;
+use crate::report::{equal_at, Checked, Report};
+use gadulnos::Line;
 use paper::generate::Random;
 use paper::{KERNEL_WINDOW, LAST, TEMPORARY, USER_WINDOW};
 use rinux::oracle::pure;
@@ -12,13 +12,13 @@ use rinux::page_handler::PageFlags;
 const NO_ENTRY: Line = Line::refused(14);
 
 pub fn check(report: &mut Report, options: &Options) {
-    tell(report, "entries: set and set_huge", set(options));
-    tell(report, "entries: address and flags of a word", parts(options));
-    tell(report, "entries: PageFlags, each of the 1024 choices", choices());
-    tell(report, "entries: PageFlags of any word", flags(options));
-    tell(report, "entries: set of the second path", second(options));
-    tell(report, "entries: get_entry", get_entry(options));
-    tell(report, "entries: page_indices", page_indices(options));
+    report.tell("entries: set and set_huge", set(options));
+    report.tell("entries: address and flags of a word", parts(options));
+    report.tell("entries: PageFlags, each of the 1024 choices", choices());
+    report.tell("entries: PageFlags of any word", flags(options));
+    report.tell("entries: set of the second path", second(options));
+    report.tell("entries: get_entry", get_entry(options));
+    report.tell("entries: page_indices", page_indices(options));
 }
 
 /// Every single bit, every run of low bits and its complement, and random words.
@@ -30,11 +30,11 @@ fn words(random: &mut Random, count: u64) -> Vec<u64> {
 }
 
 fn set(options: &Options) -> Checked {
-    let words = words(&mut options.random(10), 20 * options.sequences);
+    let words = words(&mut options.random(10), 20 * options.amount);
     for &phys in &words {
         for (writable, user) in [(false, false), (true, false), (false, true), (true, true)] {
             let at = (phys, writable, user);
-            let (set, huge) = (probe::entry_set, probe::entry_set_huge);
+            let (set, huge) = (gadulnos::entry_set, gadulnos::entry_set_huge);
             equal_at(at, set(phys, writable, user), pure::entry_word(phys, writable, user))?;
             equal_at(at, huge(phys, writable, user), pure::huge_entry_word(phys, writable, user))?;
         }
@@ -43,17 +43,17 @@ fn set(options: &Options) -> Checked {
 }
 
 fn parts(options: &Options) -> Checked {
-    let words = words(&mut options.random(11), 40 * options.sequences);
+    let words = words(&mut options.random(11), 40 * options.amount);
     for &word in &words {
         let bits = [
-            probe::entry_present(word),
-            probe::entry_writable(word),
-            probe::entry_user(word),
-            probe::entry_huge(word),
+            gadulnos::entry_present(word),
+            gadulnos::entry_writable(word),
+            gadulnos::entry_user(word),
+            gadulnos::entry_huge(word),
         ];
-        equal_at(word, (bits, probe::entry_addr(word)), pure::entry_parts(word))?;
+        equal_at(word, (bits, gadulnos::entry_addr(word)), pure::entry_parts(word))?;
         let second =
-            (probe::handler_present(word), probe::handler_addr(word), probe::handler_flags(word));
+            (gadulnos::handler_present(word), gadulnos::handler_addr(word), gadulnos::handler_flags(word));
         equal_at(word, second, pure::second_entry_parts(word))?;
     }
     Ok(words.len() as u64)
@@ -81,7 +81,7 @@ fn choices() -> Checked {
     for number in 0..1024 {
         let flags = choice(number);
         let word = flags.to_bits();
-        let ours = probe::flags_to_bits(
+        let ours = gadulnos::flags_to_bits(
             flags.present,
             flags.writable,
             flags.user,
@@ -94,15 +94,15 @@ fn choices() -> Checked {
             flags.no_execute,
         );
         equal_at(number, ours, word)?;
-        equal_at(number, probe::flags(word), word)?;
+        equal_at(number, gadulnos::flags(word), word)?;
     }
     Ok(1024)
 }
 
 fn flags(options: &Options) -> Checked {
-    let words = words(&mut options.random(12), 40 * options.sequences);
+    let words = words(&mut options.random(12), 40 * options.amount);
     for &word in &words {
-        equal_at(word, probe::flags(word), pure::page_flags(word))?;
+        equal_at(word, gadulnos::flags(word), pure::page_flags(word))?;
     }
     Ok(words.len() as u64)
 }
@@ -110,10 +110,10 @@ fn flags(options: &Options) -> Checked {
 fn second(options: &Options) -> Checked {
     let mut random = options.random(13);
     let mut cases = 0;
-    for phys in words(&mut random, 10 * options.sequences) {
+    for phys in words(&mut random, 10 * options.amount) {
         for flags in [0, 1, 7, 0x1FF, 1 << 63, u64::MAX, random.word()] {
             let at = (phys, flags);
-            equal_at(at, probe::handler_entry(phys, flags), pure::second_entry_word(phys, flags))?;
+            equal_at(at, gadulnos::handler_entry(phys, flags), pure::second_entry_word(phys, flags))?;
             cases += 1;
         }
     }
@@ -124,15 +124,15 @@ fn second(options: &Options) -> Checked {
 fn get_entry(options: &Options) -> Checked {
     let mut random = options.random(14);
     let mut cases = 0;
-    for _ in 0..1 + options.sequences / 20 {
-        let mut lent = Guarded::new(512, Against::Behind);
-        lent.fill_with(|| random.word());
+    for _ in 0..1 + options.amount / 20 {
+        let lent: [u64; 512] = std::array::from_fn(|_| random.word());
+        let lent = Guarded::copy(&lent, Against::Behind);
         let table: &[u64; 512] = lent.array();
         let far = [512, 513, 1023, 1 << 32, 1 << 60, 1 << 63, usize::MAX - 511, usize::MAX];
         let any = [random.word() as usize, random.below(1024) as usize];
         for index in (0..512).chain(far).chain(any) {
             let wanted = table.get(index).map_or(NO_ENTRY, |&word| Line::met(word));
-            equal_at(index, probe::get_entry(table, index), wanted)?;
+            equal_at(index, gadulnos::get_entry(table, index), wanted)?;
             equal_at(index, pure::get_entry(table, index), [table.get(index).copied(); 2])?;
             cases += 1;
         }
@@ -144,10 +144,10 @@ fn page_indices(options: &Options) -> Checked {
     let limits = [0, USER_WINDOW.0, USER_WINDOW.1, KERNEL_WINDOW.0, KERNEL_WINDOW.1, TEMPORARY];
     let around = limits.into_iter().flat_map(|addr| [addr, addr.wrapping_sub(1), addr + 1]);
     let mut addresses: Vec<u64> = around.chain([1 << 47, LAST, u64::MAX]).collect();
-    addresses.extend(words(&mut options.random(15), 40 * options.sequences));
+    addresses.extend(words(&mut options.random(15), 40 * options.amount));
     for &addr in &addresses {
         let mut out = [usize::MAX; 4];
-        probe::page_indices(addr, &mut out);
+        gadulnos::page_indices(addr, &mut out);
         equal_at(addr, out, pure::page_indices(addr))?;
     }
     Ok(addresses.len() as u64)

@@ -1,46 +1,48 @@
-//! The frame allocator, beside the original's own struct, and broken records.
+//! The frame allocator, beside the original's own struct, on records of any number of frames anywhere
+//! below 2^52.
 
-use crate::draw::{any_bitmap, FRAMES_END};
 use crate::guard::Against;
-use crate::probe::{Bitmap, Line, Record};
-use crate::report::{equal, Report};
-use crate::side::Side;
-use crate::{equal_at, tell, Checked, Options};
+use crate::options::Options;
+use crate::port;
+use crate::report::{equal_at, Checked, Report};
+use gadulnos::{Bitmap, Board, Frames, Line};
 use paper::call::Call;
 use paper::generate::Random;
 use paper::minimise;
+use paper::state::bit;
 use paper::PAGE;
 use rinux::frame::access;
 use rinux::frame::FrameAllocator;
+
+/// Frames end at most at this number: addresses have 52 bits.
+const FRAMES_END: u64 = 1 << 40;
 
 /// Document 01's sizes at which something changes, in frames.
 const SIZES: [u64; 14] = [0, 1, 2, 63, 64, 65, 127, 128, 1000, 8127, 8128, 8191, 8192, 8193];
 
 pub fn check(report: &mut Report, options: &Options) {
-    tell(report, "frames: calls after init", after_init(options));
-    tell(report, "frames: calls on any record that is not broken", after_set(options));
-    tell(report, "frames: init with its ends reversed or above 2^52", refused_init(options));
-    tell(report, "frames: a broken record is 10 and stays", broken(options));
+    report.tell("frames: calls after init", after_init(options));
+    report.tell("frames: calls on any record that is not broken", after_set(options));
 }
 
 /// What a sequence starts from: any record, and the ends of an init if there is one.
 struct Start {
     bitmap: Bitmap,
-    record: Record,
+    frames: Frames,
     init: Option<(u64, u64)>,
 }
 
 fn after_init(options: &Options) -> Checked {
     let mut random = options.random(20);
     let mut cases = 0;
-    for i in 0..options.sequences {
+    for i in 0..options.amount {
         let size = SIZES[i as usize % SIZES.len()];
         let first = first_frame(&mut random, size);
         let end = FRAMES_END * PAGE;
         let from = (first * PAGE + random.one_of(&[0, 0, 1, PAGE / 2, PAGE - 1])).min(end);
         let to = (from + size * PAGE + random.one_of(&[0, 0, 1, PAGE - 1])).min(end);
-        let (bitmap, record) = any_record(&mut random);
-        let start = Start { bitmap, record, init: Some((from, to)) };
+        let (bitmap, frames) = any_record(&mut random);
+        let start = Start { bitmap, frames, init: Some((from, to)) };
         cases += sequence(&mut random, first, size, &start)?;
     }
     Ok(cases)
@@ -49,11 +51,12 @@ fn after_init(options: &Options) -> Checked {
 fn after_set(options: &Options) -> Checked {
     let mut random = options.random(21);
     let mut cases = 0;
-    for i in 0..options.sequences {
+    for i in 0..options.amount {
         let size = SIZES[i as usize % SIZES.len()].min(8192);
         let first = first_frame(&mut random, size);
         let (bitmap, allocated) = any_bitmap(&mut random, size);
-        let start = Start { bitmap, record: [first, size, allocated], init: None };
+        let frames = Frames { start_frame: first, total: size, allocated };
+        let start = Start { bitmap, frames, init: None };
         cases += sequence(&mut random, first, size, &start)?;
     }
     Ok(cases)
@@ -112,20 +115,21 @@ fn draw_frame(random: &mut Random, first: u64, size: u64) -> u64 {
 
 /// Plays calls on both, and compares answers, bitmap words and records after each.
 fn play(start: &Start, against: Against, calls: &[Call]) -> Result<(), String> {
-    let Start { bitmap, record, init } = *start;
-    let [start_frame, total, allocated] = record;
+    let Start { bitmap, frames, init } = *start;
+    let Frames { start_frame, total, allocated } = frames;
     let mut rust = access::of(&access::Record { start_frame, total, allocated, bitmap });
-    let mut ours = Side::new(&[], &bitmap, &record, 0, against);
+    let (fields, bits) = (frames.pack(), gadulnos::pack_bitmap(&bitmap));
+    let mut ours = port::guarded(&Board { fields, bits, ..Board::lend(0) }, against);
     if let Some((from, to)) = init {
         rust.init(from, to);
         equal_at((from, to), ours.init(from, to), Line::met(0))?;
     }
     compare(&ours, &rust)?;
     for call in calls {
-        equal_at(call, ours.play(call), play_rust(&mut rust, call))?;
+        equal_at(call, port::play(&mut ours, call), play_rust(&mut rust, call))?;
         if *call == Call::Counts {
             let counts = [rust.free_frames(), rust.allocated_frames(), rust.total_frames()];
-            equal_at(call, ours.counts(), counts.map(Line::met))?;
+            equal_at(call, port::counts(&ours), counts.map(Line::met))?;
         }
         compare(&ours, &rust).map_err(|why| format!("after {call}: {why}"))?;
     }
@@ -147,86 +151,34 @@ fn play_rust(rust: &mut FrameAllocator, call: &Call) -> Line {
     Line::met(0)
 }
 
-fn compare(ours: &Side, rust: &FrameAllocator) -> Result<(), String> {
+fn compare(ours: &port::Port, rust: &FrameAllocator) -> Result<(), String> {
     let record = access::read(rust);
-    let numbers = [record.start_frame, record.total, record.allocated];
-    ours.difference(&[], &record.bitmap, &numbers).map_or(Ok(()), Err)
+    let (start_frame, total, allocated) = (record.start_frame, record.total, record.allocated);
+    let frames = Frames { start_frame, total, allocated };
+    equal_at("the record", ours.frames(), frames)?;
+    equal_at("the bitmap", gadulnos::unpack_bitmap(&ours.bits), Some(record.bitmap))
+}
+
+/// Any marks, also past the board's frames, and how many of these they mark.
+fn any_bitmap(random: &mut Random, total: u64) -> (Bitmap, u64) {
+    let kind = random.below(6);
+    let bitmap: Bitmap = std::array::from_fn(|_| match kind {
+        0 => 0,
+        1 => u64::MAX,
+        2 => u64::MAX << random.below(64),
+        3 => !(1 << random.below(64)),
+        4 => random.word() | random.word(),
+        _ => random.word(),
+    });
+    let marked = (0..total as usize).filter(|&index| bit(&bitmap, index)).count();
+    (bitmap, marked as u64)
 }
 
 /// Any record at all, most of them broken.
-fn any_record(random: &mut Random) -> (Bitmap, Record) {
+fn any_record(random: &mut Random) -> (Bitmap, Frames) {
     let (bitmap, set) = any_bitmap(random, 8192);
     let any = [random.word(), random.word() >> 20, random.below(8193)];
-    (bitmap, [random.one_of(&any), random.one_of(&any), random.one_of(&[set, any[0], any[2]])])
-}
-
-fn refused_init(options: &Options) -> Checked {
-    let mut random = options.random(22);
-    let end = FRAMES_END * PAGE;
-    let mut pairs = vec![(1, 0), (0x2000, 0x1000), (u64::MAX, 0), (end, end - 1), (0, end + 1)];
-    pairs.extend([(end + 1, end + 1), (0, u64::MAX), (end, u64::MAX), (u64::MAX, u64::MAX)]);
-    for _ in 0..options.sequences {
-        let from = random.below(end);
-        pairs.push((from, random.below(from + 1).wrapping_sub(1)));
-        pairs.push((from, random.word() | (end + 1)));
-    }
-    for &(from, to) in &pairs {
-        let (bitmap, record) = any_record(&mut random);
-        let mut ours = Side::new(&[], &bitmap, &record, 0, Against::Behind);
-        equal_at((from, to), ours.init(from, to), Line::refused(10))?;
-        unchanged(&ours, &bitmap, &record)?;
-    }
-    Ok(pairs.len() as u64)
-}
-
-fn broken(options: &Options) -> Checked {
-    let mut random = options.random(23);
-    let mut cases = 0;
-    for i in 0..1 + options.sequences / 4 {
-        let size = SIZES[i as usize % SIZES.len()].min(8192);
-        let (bitmap, set) = any_bitmap(&mut random, size);
-        let first = first_frame(&mut random, size);
-        for record in broken_records(&mut random, first, size, set) {
-            for call in frame_calls(draw_frame(&mut random, first, size)) {
-                let against = random.one_of(&[Against::Before, Against::Behind]);
-                let mut ours = Side::new(&[], &bitmap, &record, 0, against);
-                equal_at((record, call), ours.play(&call), Line::refused(10))?;
-                equal_at((record, call), ours.counts(), [Line::refused(10); 3])?;
-                unchanged(&ours, &bitmap, &record)?;
-                cases += 1;
-            }
-        }
-    }
-    Ok(cases)
-}
-
-/// Every kind of broken frame record: too many frames, frames that end too high, and a
-/// counter other than the set bits.
-fn broken_records(random: &mut Random, first: u64, size: u64, set: u64) -> Vec<Record> {
-    let mut records = Vec::new();
-    for total in [8193, 8194, 1 << 16, 1 << 40, 1 << 63, u64::MAX - first, u64::MAX] {
-        records.extend([[first, total, set], [first, total, total], [first, total, 0]]);
-    }
-    let high = FRAMES_END - size + 1;
-    for start in [high, high + 1, FRAMES_END + 1, 1 << 52, 1 << 63, u64::MAX - size, u64::MAX] {
-        records.push([start, size, set]);
-    }
-    records.push([0u64.wrapping_sub(size.max(1)), size, set]);
-    let others = [set + 1, set.wrapping_sub(1), set + 64, 1 << 63, u64::MAX, random.word()];
-    records.extend(others.into_iter().filter(|&n| n != set).map(|n| [first, size, n]));
-    records
-}
-
-fn frame_calls(frame: u64) -> [Call; 5] {
-    [
-        Call::AllocateFrame,
-        Call::DeallocateFrame { frame },
-        Call::MarkAllocated { frame },
-        Call::IsAllocated { frame },
-        Call::Counts,
-    ]
-}
-
-fn unchanged(ours: &Side, bitmap: &Bitmap, record: &Record) -> Result<(), String> {
-    equal(ours.difference(&[], bitmap, record), None)
+    let (start_frame, total) = (random.one_of(&any), random.one_of(&any));
+    let allocated = random.one_of(&[set, any[0], any[2]]);
+    (bitmap, Frames { start_frame, total, allocated })
 }

@@ -1,8 +1,8 @@
 //! Rounding, beside the original's formulas on numbers that wrap.
 
-use crate::probe::{self, Line};
-use crate::report::Report;
-use crate::{equal_at, tell, Checked, Options};
+use crate::options::Options;
+use crate::report::{equal_at, Checked, Report};
+use gadulnos::Line;
 use paper::generate::Random;
 use paper::LAST;
 use rinux::allocator::access;
@@ -12,10 +12,10 @@ use rinux::paging::{PhysAddr, VirtAddr};
 const TOO_LARGE: Line = Line::refused(3);
 
 pub fn check(report: &mut Report, options: &Options) {
-    tell(report, "rounding: page_align_up", pages(options));
-    tell(report, "rounding: align_up and align_down at powers of two", powers(options));
-    tell(report, "rounding: align_up and align_down elsewhere", others(options));
-    tell(report, "rounding: an alignment of 0 counts as 1", zero(options));
+    report.tell("rounding: page_align_up", pages(options));
+    report.tell("rounding: align_up and align_down at powers of two", powers(options));
+    report.tell("rounding: align_up and align_down elsewhere", others(options));
+    report.tell("rounding: an alignment of 0 counts as 1", zero(options));
 }
 
 /// Numbers at and around which something changes.
@@ -36,14 +36,14 @@ fn numbers(random: &mut Random, count: u64) -> Vec<u64> {
 
 fn pages(options: &Options) -> Checked {
     let mut random = options.random(1);
-    let sizes = numbers(&mut random, 20 * options.sequences);
+    let sizes = numbers(&mut random, 20 * options.amount);
     for &size in &sizes {
         let wanted = match size > LAST {
             true => TOO_LARGE,
             false => Line::met(pure::align_up(size)?),
         };
-        equal_at(size, probe::page_align_up(size), wanted)?;
-        equal_at(size, probe::align_up(size, 4096), wanted)?;
+        equal_at(size, gadulnos::page_align_up(size), wanted)?;
+        equal_at(size, gadulnos::align_up(size, 4096), wanted)?;
     }
     Ok(sizes.len() as u64)
 }
@@ -53,11 +53,11 @@ fn powers(options: &Options) -> Checked {
     let mut cases = 0;
     for shift in 0..64 {
         let align = 1 << shift;
-        for addr in addresses(&mut random, align, options.sequences) {
+        for addr in addresses(&mut random, align, options.amount) {
             both(addr, align)?;
             let multiple = u128::from(addr).div_ceil(u128::from(align)) * u128::from(align);
             let wanted = u64::try_from(multiple).map_or(TOO_LARGE, Line::met);
-            equal_at((addr, align), probe::align_up(addr, align), wanted)?;
+            equal_at((addr, align), gadulnos::align_up(addr, align), wanted)?;
             cases += 1;
         }
     }
@@ -68,7 +68,7 @@ fn others(options: &Options) -> Checked {
     let mut random = options.random(3);
     let mut aligns = vec![3, 5, 6, 7, 12, 100, 4095, 4097, 12288, (1 << 63) - 1, (1 << 63) + 1];
     aligns.extend([LAST, u64::MAX - 1, u64::MAX]);
-    aligns.extend((0..options.sequences).map(|i| (random.word() >> (i % 64)).max(1)));
+    aligns.extend((0..options.amount).map(|i| (random.word() >> (i % 64)).max(1)));
     let mut cases = 0;
     for align in aligns {
         for addr in addresses(&mut random, align, 40) {
@@ -92,21 +92,21 @@ fn both(addr: u64, align: u64) -> Result<(), String> {
     let at = (addr, align);
     let down = VirtAddr::new(addr).align_down(align).as_u64();
     equal_at(at, PhysAddr::new(addr).align_down(align).as_u64(), down)?;
-    equal_at(at, probe::align_down(addr, align), down)?;
+    equal_at(at, gadulnos::align_down(addr, align), down)?;
     if addr.checked_add(align - 1).is_none() {
-        return equal_at(at, probe::align_up(addr, align), TOO_LARGE);
+        return equal_at(at, gadulnos::align_up(addr, align), TOO_LARGE);
     }
     let up = access::align_up(addr as usize, align as usize) as u64;
     equal_at(at, VirtAddr::new(addr).align_up(align).as_u64(), up)?;
     equal_at(at, PhysAddr::new(addr).align_up(align).as_u64(), up)?;
-    equal_at(at, probe::align_up(addr, align), Line::met(up))
+    equal_at(at, gadulnos::align_up(addr, align), Line::met(up))
 }
 
 fn zero(options: &Options) -> Checked {
     let addresses = numbers(&mut options.random(4), 1000);
     for &addr in &addresses {
-        equal_at(addr, probe::align_up(addr, 0), Line::met(addr))?;
-        equal_at(addr, probe::align_down(addr, 0), addr)?;
+        equal_at(addr, gadulnos::align_up(addr, 0), Line::met(addr))?;
+        equal_at(addr, gadulnos::align_down(addr, 0), addr)?;
     }
     Ok(addresses.len() as u64)
 }

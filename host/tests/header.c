@@ -1,0 +1,140 @@
+/* Every C function called once from C, by the header. Prints `ok NAME` or `FAILED NAME` for each check and
+ * ends with the two counts. */
+#include "../gadulnos.h"
+
+#include <stdio.h>
+#include <string.h>
+
+enum { FRAMES = 16, WORDS = FRAMES * GADULNOS_FRAME_WORDS };
+
+static uint64_t words[WORDS];
+static uint8_t fields[GADULNOS_FIELDS_BYTES];
+static uint8_t bits[GADULNOS_BITS_BYTES];
+static uint8_t kernel[GADULNOS_KERNEL_BYTES];
+static uint8_t user[GADULNOS_USER_BYTES];
+static uint8_t marked[GADULNOS_MARKED_BYTES];
+static uint64_t root;
+
+/* The parts as arguments. */
+#define MEMORY words, WORDS
+#define RECORD fields, sizeof fields, bits, sizeof bits
+#define WALK words, WORDS, 0x100, FRAMES, root
+
+static int passed, failed;
+
+static void check(const char *name, bool holds)
+{
+    holds ? passed++ : failed++;
+    printf("%s header: %s\n", holds ? "ok" : "FAILED", name);
+}
+
+static bool is(struct gadulnos_line line, uint64_t number, uint64_t value)
+{
+    return line.number == number && line.value == value;
+}
+
+static bool start(void)
+{
+    memset(words, 0xFF, sizeof words);
+    return is(gadulnos_start(MEMORY, RECORD, &root, kernel, sizeof kernel, user, sizeof user, marked,
+                             sizeof marked, 0x100000, 0x110000),
+              0, 0) && root == 0x100;
+}
+
+static void numbers(void)
+{
+    uint64_t table[512] = {0};
+    size_t indices[4] = {0};
+
+    check("rounding", gadulnos_align_down(8191, 4096) == 4096 && is(gadulnos_align_up(1, 8), 0, 8)
+                          && is(gadulnos_page_align_up(4097), 0, 8192)
+                          && is(gadulnos_page_align_up(UINT64_MAX), 3, 0));
+    check("entries", gadulnos_entry_set(0x101000, true, false) == 0x101003
+                         && gadulnos_entry_set_huge(0x200000, true, true) == 0x200087
+                         && gadulnos_entry_addr(0x101003) == 0x101000 && gadulnos_entry_present(1)
+                         && gadulnos_entry_writable(2) && gadulnos_entry_user(4) && gadulnos_entry_huge(128));
+    check("flags", gadulnos_flags_to_bits(true, false, true, false, false, false, false, false, false, true)
+                           == (UINT64_C(1) << 63 | 5)
+                       && gadulnos_flags(UINT64_MAX) == (UINT64_C(1) << 63 | 0x1FF)
+                       && gadulnos_handler_entry(0x101234, 7) == 0x101007 && gadulnos_handler_present(1)
+                       && gadulnos_handler_addr(0x101007) == 0x101000 && gadulnos_handler_flags(0x101007) == 7);
+    table[511] = 7;
+    gadulnos_page_indices(UINT64_C(0xFFFFFFC000000000), indices);
+    check("tables and indices", is(gadulnos_get_entry(table, 511), 0, 7) && is(gadulnos_get_entry(table, 512), 14, 0)
+                                    && indices[0] == 511 && indices[1] == 256 && indices[2] == 0
+                                    && indices[3] == 0);
+    check("window, mprotect", gadulnos_is_vmalloc_addr(UINT64_C(0xFFFFFFC000000000))
+                                  && !gadulnos_is_vmalloc_addr(UINT64_C(0xFFFFFFE000000000))
+                                  && is(gadulnos_mprotect(0, 0, -1), 9, 0));
+}
+
+static void frames(void)
+{
+    check("init and counts", is(gadulnos_init(RECORD, 0x1800, 0x3800), 0, 0)
+                                 && is(gadulnos_total_frames(RECORD), 0, 2)
+                                 && is(gadulnos_free_frames(RECORD), 0, 2)
+                                 && is(gadulnos_allocated_frames(RECORD), 0, 0));
+    check("frames", is(gadulnos_allocate_frame(RECORD), 0, 1) && is(gadulnos_mark_allocated(RECORD, 2), 0, 0)
+                        && is(gadulnos_allocate_frame(RECORD), 11, 0)
+                        && is(gadulnos_deallocate_frame(RECORD, 1), 0, 0)
+                        && is(gadulnos_is_allocated(RECORD, 1), 0, 0)
+                        && is(gadulnos_is_allocated(RECORD, 2), 0, 1));
+    check("a part one byte short", is(gadulnos_allocate_frame(fields, sizeof fields - 1, bits, sizeof bits), 10, 0));
+}
+
+static void tables(void)
+{
+    check("start", start());
+    check("map", is(gadulnos_map_page(MEMORY, RECORD, root, 0x1000, 0x10F000, false, true), 0, 0)
+                     && is(gadulnos_translate(WALK, 0x1010), 0, 0x10F010)
+                     && is(gadulnos_user_may(WALK, 0x1000, false), 0, 1)
+                     && is(gadulnos_user_may(WALK, 0x1000, true), 0, 0));
+    check("unmap", is(gadulnos_unmap_page(WALK, 0x1000), 0, 0x10F) && is(gadulnos_unmap_page(WALK, 0x1000), 14, 0));
+    check("map huge", is(gadulnos_map_huge_page(MEMORY, RECORD, root, 0x1000, 0, true, true, true), 4, 0)
+                          && is(gadulnos_map_huge_page(MEMORY, RECORD, root, 0x40000000, 0x40000000, true, true, true), 0, 0)
+                          && is(gadulnos_translate(WALK, 0x40012345), 0, 0x40012345));
+}
+
+/* Document 01's worked example. */
+static void regions(void)
+{
+    const uint64_t window = UINT64_C(0xFFFFFFC000000000);
+    const uint64_t mapped = UINT64_C(0x100000000000);
+
+    check("the worked example",
+          start() && is(gadulnos_vmalloc(MEMORY, RECORD, root, kernel, sizeof kernel, 1), 0, window)
+              && is(gadulnos_translate(WALK, window + 0x10), 0, 0x101010)
+              && is(gadulnos_vfree(MEMORY, RECORD, root, kernel, sizeof kernel, window), 0, 0)
+              && is(gadulnos_mmap(MEMORY, RECORD, root, user, sizeof user, false, 0, 5000, 2, 0), 0, mapped)
+              && is(gadulnos_allocated_frames(RECORD), 0, 9));
+    check("munmap", is(gadulnos_munmap(MEMORY, RECORD, root, user, sizeof user, mapped, 4096), 16, 0)
+                        && is(gadulnos_munmap(MEMORY, RECORD, root, user, sizeof user, mapped, 4097), 0, 0));
+}
+
+static void faults(void)
+{
+    check("fault", start() && is(gadulnos_handle_page_fault(MEMORY, RECORD, root, marked, sizeof marked, 0x5123, 4), 0, 0)
+                       && is(gadulnos_translate(WALK, 0x5000), 0, 0x101000));
+    check("copy", is(gadulnos_mark_cow(marked, sizeof marked, 0x5FFF), 0, 0)
+                      && is(gadulnos_is_cow(marked, sizeof marked, 0x5000), 0, 1)
+                      && is(gadulnos_handle_page_fault(MEMORY, RECORD, root, marked, sizeof marked, 0x5123, 7), 0, 0)
+                      && is(gadulnos_is_cow(marked, sizeof marked, 0x5000), 0, 0)
+                      && is(gadulnos_user_may(WALK, 0x5000, true), 0, 1));
+    check("unmark", is(gadulnos_mark_cow(marked, sizeof marked, 0x6000), 0, 0)
+                        && is(gadulnos_unmark_cow(marked, sizeof marked, 0x6001), 0, 0)
+                        && is(gadulnos_is_cow(marked, sizeof marked, 0x6000), 0, 0));
+    check("second path", is(gadulnos_handle_page_fault_second(MEMORY, RECORD, root, 0x7000, 6), 0, 0)
+                             && is(gadulnos_user_may(WALK, 0x7000, true), 0, 1)
+                             && is(gadulnos_handle_page_fault_second(MEMORY, RECORD, root, 0x7000, 3), 17, 0));
+}
+
+int main(void)
+{
+    numbers();
+    frames();
+    tables();
+    regions();
+    faults();
+    printf("%d passed, %d failed\n", passed, failed);
+    return failed > 0;
+}
