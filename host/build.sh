@@ -5,7 +5,9 @@
 #   target/host/oracle/libpaper.rlib                      calls, tapes, states, the domain
 #   target/host/oracle-{checked,wrapping}                 the program that plays a tape
 #   target/host/oracle-self                               the oracle's own tests
-#   target/host/layers                                    the proved layers beside the original
+#   target/host/oracle/libgadulnos.rlib                   the port for a Rust host (gadulnos.rs)
+#   target/host/{layers,beside,anything,keys,header}      the port's tests
+#   target/host/bench                                     the benchmark, if asked for: build.sh bench
 set -eu
 cd "$(dirname "$0")/.."
 
@@ -68,13 +70,32 @@ if changed "$out/oracle-self" "$lib/checked/librinux.rlib" "$lib/wrapping/librin
         --extern rinux_wrapping="$lib/wrapping/librinux.rlib" host/tests/oracle_self.rs
 fi
 
-# The proved layers, which `rt staticlib probe` makes.
-archive=target/staticlib/libprobe.a
+# The port, whose C functions `rt staticlib desk` makes.
+archive=target/staticlib/libdesk.a
+gadulnos=$lib/libgadulnos.rlib
 if [ ! -e "$archive" ]; then
-    echo "no $archive (rt staticlib probe makes it): $out/layers is left out"
-elif changed "$out/layers" "$archive" "$lib/wrapping/librinux.rlib" "$lib/libpaper.rlib" \
-    host/tests/layers.rs host/tests/layers host/tests/oracle_self/report.rs; then
-    compile -o "$out/layers" -L "$lib" -L native="$(dirname "$archive")" -l static=probe \
-        --extern paper="$lib/libpaper.rlib" --extern rinux="$lib/wrapping/librinux.rlib" \
-        host/tests/layers.rs
+    echo "no $archive (rt staticlib desk makes it): the port's tests are left out"
+    exit 0
+fi
+if changed "$gadulnos" "$archive" host/gadulnos.rs; then
+    compile -o "$gadulnos" --crate-type rlib --crate-name gadulnos -L native="$(dirname "$archive")" host/gadulnos.rs
+fi
+
+# beside_rust NAME FOLDER: a program with the port and the original in it.
+beside_rust() {
+    if changed "$out/$1" "$gadulnos" "$lib/wrapping/librinux.rlib" "$lib/libpaper.rlib" host/tests/shared "$2"; then
+        compile -o "$out/$1" -L "$lib" --extern gadulnos="$gadulnos" --extern paper="$lib/libpaper.rlib" \
+            --extern rinux="$lib/wrapping/librinux.rlib" "$2/main.rs"
+    fi
+}
+
+for program in layers beside anything keys; do
+    beside_rust $program host/tests/$program
+done
+if changed "$out/header" "$archive" host/gadulnos.h host/tests/header.c; then
+    echo "build $out/header"
+    cc -std=c99 -O1 -Wall -Wextra -Werror -pedantic -o "$out/header" host/tests/header.c "$archive"
+fi
+if [ "${1:-}" = bench ]; then
+    beside_rust bench host/bench
 fi

@@ -1,9 +1,9 @@
 #!/usr/bin/env bash
-# The host tests: the oracle's own, and the proved layers beside the original Rust. `rt staticlib` links what is proved already and checks the one thin
-# crate of C functions again. The last line sums both programs: 'N passed, M failed'.
+# The host tests: the oracle's own, and the port's, beside the original Rust and on any input. `rt staticlib` links what is proved already and checks the
+# one thin crate of C functions again. The last line sums the programs: 'N passed, M failed'.
 set -euo pipefail
 cd "$(dirname "$0")/.."
-rt staticlib probe
+rt staticlib desk
 host/build.sh
 log=$(mktemp)
 trap 'rm -f "$log"' EXIT
@@ -24,7 +24,8 @@ counted() {
     fi
 }
 
-counted target/host/oracle-self
-counted target/host/layers
+for program in oracle-self layers header beside anything keys; do
+    counted target/host/$program
+done
 echo "$passed passed, $failed failed"
 [ "$failed" -eq 0 ]
