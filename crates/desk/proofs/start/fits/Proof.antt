@@ -1,44 +1,48 @@
+-- `fits`: one part after the other.
+use mathlib.Core.Path.{_∙_}
+use Rattle.frame.proofs.Laws.{passed, failed}
+use Rattle.layout.proofs.Fit.{fit-other, fit-one}
 use borrow.Author.Needs.{needs}
 use Rattle.desk.proofs.start.fits.Statement.{statement}
 use Rattle.desk.proofs.start.fits.Tie as tie
-use Rattle.desk.proofs.start.fits.Reads as reads
-use Rattle.desk.proofs.start.fits.Lts as lts
-use Rattle.layout.proofs.lists.marked_fits.Reads as marked-fits-reads
-use Rattle.layout.proofs.lists.mmap_fits.Reads as mmap-fits-reads
-use Rattle.layout.proofs.lists.vm_fits.Reads as vm-fits-reads
-use Rattle.layout.proofs.parts.frames_fit.Reads as frames-fit-reads
 
--- src/start.rt:25:9
 frames-fit-requires : tie.Need-frames-fit-requires
 frames-fit-requires c κs = search needs
 
--- src/start.rt:26:9
 returns : tie.Need-returns
-returns c = ?
+returns c = fit-other _ _ (failed (c .before .frames-fit .ensures) (c .if1 .taken))
 
--- src/start.rt:28:9
 vm-fits-requires : tie.Need-vm-fits-requires
 vm-fits-requires c κs = search needs
 
--- src/start.rt:29:9
 returns-2 : tie.Need-returns-2
-returns-2 c = ?
+returns-2 c =
+    let d = c .before .before in
+    fit-other _ _ (failed (c .before .vm-fits .ensures) (c .if2 .taken)) ∙ fit-one _ _ (passed (d .before .frames-fit .ensures) (d .if1 .left))
 
--- src/start.rt:31:9
 mmap-fits-requires : tie.Need-mmap-fits-requires
 mmap-fits-requires c κs = search needs
 
--- src/start.rt:32:9
 returns-3 : tie.Need-returns-3
-returns-3 c = ?
+returns-3 c =
+    let v = c .before .before in
+    let d = v .before .before in
+    fit-other _ _ (failed (c .before .mmap-fits .ensures) (c .if3 .taken))
+    ∙ fit-one _ _ (passed (v .before .vm-fits .ensures) (v .if2 .left))
+    ∙ fit-one _ _ (passed (d .before .frames-fit .ensures) (d .if1 .left))
 
--- src/start.rt:34:5
 marked-fits-requires : tie.Need-marked-fits-requires
 marked-fits-requires c κs = search needs
 
--- src/start.rt:22:1
 returns-4 : tie.Need-returns-4
-returns-4 c = ?
+returns-4 c =
+    let u = c .before in
+    let v = u .before .before in
+    let d = v .before .before in
+    c .marked-fits .ensures
+    ∙ fit-one _ _ (passed (u .before .mmap-fits .ensures) (u .if3 .left))
+    ∙ fit-one _ _ (passed (v .before .vm-fits .ensures) (v .if2 .left))
+    ∙ fit-one _ _ (passed (d .before .frames-fit .ensures) (d .if1 .left))
 
 pub fits-spec : {M : Type 1} → statement M
 fits-spec =

@@ -1,75 +1,82 @@
+-- Parts that do not fit, or the start.
+use mathlib.Core.Path.{refl, _∙_, ap}
+use Rattle.answer.specs.declared.Line.{Line}
+use Rattle.frame.proofs.Laws.{passed, failed}
 use borrow.Author.Needs.{needs}
+use Rattle.desk.proofs.Board.{lengths-board, refused-keeps}
 use Rattle.desk.proofs.start.gadulnos_start.Statement.{statement}
 use Rattle.desk.proofs.start.gadulnos_start.Tie as tie
-use Rattle.desk.proofs.start.gadulnos_start.Reads as reads
-use Rattle.desk.proofs.start.gadulnos_start.Lts as lts
-use Rattle.desk.proofs.start.fits.Reads as fits-reads
-use Rattle.desk.proofs.start.start_in.Reads as start-in-reads
-use Rattle.layout.proofs.parts.broken.Reads as broken-reads
 
--- src/start.rt:139:9
 fits-requires : tie.Need-fits-requires
 fits-requires c κs = search needs
 
--- src/start.rt:140:9
 broken-requires : tie.Need-broken-requires
 broken-requires c κs = search needs
 
--- src/start.rt:140:9
 same-length : tie.Need-same-length
 same-length c = search needs
 
--- src/start.rt:140:9
 same-length-2 : tie.Need-same-length-2
 same-length-2 c = search needs
 
--- src/start.rt:140:9
 same-length-3 : tie.Need-same-length-3
 same-length-3 c = search needs
 
--- src/start.rt:140:9
 same-length-4 : tie.Need-same-length-4
 same-length-4 c = search needs
 
--- src/start.rt:140:9
 same-length-5 : tie.Need-same-length-5
 same-length-5 c = search needs
 
--- src/start.rt:140:9
 returns : tie.Need-returns
-returns c = ?
+returns c =
+    rw (c .broken .ensures, failed (c .before .before .fits2 .ensures) (c .before .if1 .taken))
+    (refl, (refl, (refl, (refl, (refl, (refl, (refl, (refl, λ _. (refl, (refl, (refl, (refl, (refl, (refl, refl))))))))))))))
 
--- src/start.rt:142:5
+-- what was lent, from after the test
+abbrev entry : tie.After-fits2 → tie.Start
+entry d = d .before .before .before .before .before .before .before .before .before .before .before .before
+
 start-in-requires : tie.Need-start-in-requires
-start-in-requires c κs = ?
+start-in-requires c κs =
+    let d = c .before .before .before .before .before .before .before .before in
+    let a = entry d .args in
+    lengths-board (a .fields .now) (a .bits .now) (a .kernel .now) (a .user .now) (a .marked .now) (passed (d .fits2 .ensures) (c .before .before .before .before .before .before .before .if1 .left))
 
--- src/start.rt:118:1
 same-length-6 : tie.Need-same-length-6
 same-length-6 c = search needs
 
--- src/start.rt:118:1
 same-length-7 : tie.Need-same-length-7
 same-length-7 c = search needs
 
--- src/start.rt:118:1
 same-length-8 : tie.Need-same-length-8
 same-length-8 c = search needs
 
--- src/start.rt:118:1
 same-length-9 : tie.Need-same-length-9
 same-length-9 c = search needs
 
--- src/start.rt:118:1
 same-length-10 : tie.Need-same-length-10
 same-length-10 c = search needs
 
--- src/start.rt:118:1
 same-length-11 : tie.Need-same-length-11
 same-length-11 c = search needs
 
--- src/start.rt:118:1
 returns-2 : tie.Need-returns-2
-returns-2 c = ?
+returns-2 c =
+    let d = c .before .before .before .before .before .before .before .before .before .before .before .before .before .before .before .before .before .before .before .before .before in
+    let k = d .before .before .before .before .before .before in
+    let a = entry d .args in
+    let e = c .before .before .before .before .before .before .before .before .before .before .before .before .start-in .ensures in
+    let fit = passed (d .fits2 .ensures) (c .before .before .before .before .before .before .before .before .before .before .before .before .before .before .before .before .before .before .before .before .if1 .left) in
+    rw fit (e .0, (e .1 .0, (e .1 .1 .0, (e .1 .1 .1 .0, (e .1 .1 .1 .1 .0, (e .1 .1 .1 .1 .1 .0, (e .1 .1 .1 .1 .1 .1 .0, (e .1 .1 .1 .1 .1 .1 .1, λ h.
+      let kept =
+          refused-keeps (a .fields .now) (a .bits .now) (a .kernel .now) (a .user .now) (a .marked .now) fit (λ i. k .before .before .before .before .slice-known2 .given i .fits)
+          (λ i. k .before .before .before .slice-known3 .given i .fits) (λ i. k .before .before .slice-known4 .given i .fits) (λ i. k .before .slice-known5 .given i .fits)
+          (λ i. k .slice-known6 .given i .fits) (a .words .now) (a .root .now) (a .from) (a .to) (λ z. h (ap (λ (l : Line). l .number) (e .0) ∙ z))
+      in
+      (e .1 .0 ∙ kept .0, (e .1 .1 .0 ∙ kept .1 .0, (e .1 .1 .1 .0 ∙ kept .1 .1 .0, (e .1 .1 .1 .1 .0 ∙ kept .1 .1 .1 .0,
+      (e .1 .1 .1 .1 .1 .0 ∙ kept .1 .1 .1 .1 .0, (e .1 .1 .1 .1 .1 .1 .0 ∙ kept .1 .1 .1 .1 .1 .0, e .1 .1 .1 .1 .1 .1 .1 ∙ kept .1 .1 .1 .1 .1 .1))))))
+    ))))))))
 
 pub gadulnos-start-spec : {M : Type 1} → statement M
 gadulnos-start-spec =

@@ -1,76 +1,81 @@
+-- The start on the parts unpacked, and the parts that it leaves packed.
+use mathlib.Core.Path.{_∙_, ap}
+use Rattle.answer.specs.Numbers.{answerLine}
+use Rattle.packed.specs.Words.{pack}
+use Rattle.vmalloc.specs.List.{slotsOf}
+use Rattle.mmap.specs.List.{slotsOf as mappedSlots}
+use Rattle.board.specs.Board.{Did, started}
+use Rattle.board.specs.declared.Started.{Started}
+use Rattle.layout.specs.Parts.{fieldsOut}
+use Rattle.layout.specs.Lists.{vmOut, mmapOut, markedOut, markedSlots}
 use borrow.Author.Needs.{needs}
+use Rattle.desk.proofs.Same.{same-start}
 use Rattle.desk.proofs.start.start_in.Statement.{statement}
 use Rattle.desk.proofs.start.start_in.Tie as tie
-use Rattle.desk.proofs.start.start_in.Reads as reads
-use Rattle.desk.proofs.start.start_in.Lts as lts
-use Rattle.answer.proofs.answer_line.Reads as answer-line-reads
-use Rattle.board.proofs.start.Reads as start-reads
-use Rattle.desk.proofs.start.get_records.Reads as get-records-reads
-use Rattle.desk.proofs.start.put_lists.Reads as put-lists-reads
-use Rattle.layout.proofs.lists.get_marked.Reads as get-marked-reads
-use Rattle.layout.proofs.parts.get_bits.Reads as get-bits-reads
-use Rattle.layout.proofs.parts.put_bits.Reads as put-bits-reads
-use Rattle.layout.proofs.parts.put_fields.Reads as put-fields-reads
 
--- src/start.rt:103:22
 get-bits-requires : tie.Need-get-bits-requires
 get-bits-requires c κs = search needs
 
--- src/start.rt:104:21
 get-marked-requires : tie.Need-get-marked-requires
 get-marked-requires c κs = search needs
 
--- src/start.rt:105:9
 get-records-requires : tie.Need-get-records-requires
 get-records-requires c κs = search needs
 
--- src/start.rt:106:9
 start-requires : tie.Need-start-requires
 start-requires c κs = search needs
 
--- src/start.rt:111:5
+-- the entry, from after the call
+abbrev entry : tie.After-start → tie.Start
+entry r = r .before .before .before .before .before .before .before .before .before .before .before .before .before .before .before .before .before .before .before .before
+
 put-fields-requires : tie.Need-put-fields-requires
-put-fields-requires c κs = ?
+put-fields-requires c κs = entry (c .before .before .before .before .before .before) .pre .0
 
--- src/start.rt:112:5
 put-bits-requires : tie.Need-put-bits-requires
-put-bits-requires c κs = ?
+put-bits-requires c κs = entry (c .before .before .before .before .before .before .before .before .before .before .before) .pre .1 .0
 
--- src/start.rt:114:5
 put-lists-requires : tie.Need-put-lists-requires
-put-lists-requires c κs = ?
+put-lists-requires c κs = entry (c .before .before .before .before .before .before .before .before .before .before .before .before .before .before .before .before .before .before) .pre .1 .1
 
--- src/start.rt:115:5
 answer-line-requires : tie.Need-answer-line-requires
 answer-line-requires c κs = search needs
 
--- src/start.rt:78:1
 same-length : tie.Need-same-length
 same-length c = search needs
 
--- src/start.rt:78:1
 same-length-2 : tie.Need-same-length-2
 same-length-2 c = search needs
 
--- src/start.rt:78:1
 same-length-3 : tie.Need-same-length-3
 same-length-3 c = search needs
 
--- src/start.rt:78:1
 same-length-4 : tie.Need-same-length-4
 same-length-4 c = search needs
 
--- src/start.rt:78:1
 same-length-5 : tie.Need-same-length-5
 same-length-5 c = search needs
 
--- src/start.rt:78:1
 same-length-6 : tie.Need-same-length-6
 same-length-6 c = search needs
 
--- src/start.rt:78:1
 returns : tie.Need-returns
-returns c = ?
+returns c =
+    let r = c .before .before .before .before .before .before .before .before .before .before .before .before .before .before .before .before .before .before .before .before .before .before .before .before .before .before in
+    let a = entry r .args in
+    let e = r .start .ensures in
+    let l = c .before .before .before .before .before .before .before .put-lists .ensures in
+    let did = same-start (a .words .now) (a .from) (a .to) (r .before .before .before .before .before .before .before .before .before .before .before .before .get-bits .ensures) (r .before .before .before .before .before .before .before .before .before .before .get-marked .ensures) (r .before .before .before .before .get-records .ensures) in
+    let p = e .0 ∙ ap started did in (
+      c .answer-line .ensures ∙ ap (λ (x : Started). answerLine (x .answer)) p,
+      (e .1 .0 ∙ ap (λ (d : Did). d .board .mem .words) did,
+      (c .before .before .before .before .before .before .before .before .before .before .before .before .before .before .before .before .before .before .before .put-fields .ensures ∙ ap (λ (x : Started). fieldsOut (x .records .frames)) p,
+      (c .before .before .before .before .before .before .before .before .before .before .before .before .before .before .put-bits .ensures ∙ ap pack (e .1 .1 .0 ∙ ap (λ (d : Did). d .board .mem .frames .bits) did),
+      (ap (λ (x : Started). x .records .root .0) p,
+      (l .0 ∙ ap (λ (x : Started). vmOut (slotsOf (x .records .kernel))) p,
+      (l .1 .0 ∙ ap (λ (x : Started). mmapOut (mappedSlots (x .records .user)) (x .records .user .next)) p,
+      l .1 .1 ∙ (λ j. markedOut (markedSlots ((e .1 .1 .1 ∙ ap (λ (d : Did). d .board .marked .slots) did) j) (p j .records .count))))))))),
+    )
 
 pub start-in-spec : {M : Type 1} → statement M
 start-in-spec =

@@ -1,0 +1,53 @@
+-- All packed parts of a board: their lengths, and a refused start that leaves each as it was.
+use Prim.Native.Nat.{ℕ}
+use mathlib.Core.Path.{_≡_, refl}
+use mathlib.Core.Bool.{true}
+use mathlib.Core.List.{List}
+use lib.ListN.{length}
+use borrow.Author.Tests.{eqb-true}
+use Rattle.bits.specs.Bit.{both}
+use Rattle.bits.proofs.Choice.{both-true}
+use Rattle.answer.specs.Numbers.{answerLine}
+use Rattle.packed.specs.Words.{pack}
+use Rattle.paging.specs.Calls.{asAnswer}
+use Rattle.board.specs.Board.{Board, Did, start}
+use Rattle.board.proofs.Outcomes.{start-cases}
+use Rattle.layout.specs.Parts.{framesFit, fieldsOut}
+use Rattle.layout.specs.Lists.{vmFit, vmOut, mmapFit, mmapOut, markedFit, markedOut}
+use Rattle.layout.proofs.RoundTrip.{Bytes, fields-back, bits-back, vm-back, mmap-back, marked-back}
+use Rattle.desk.specs.Board.{boardIn, boardFit}
+
+module _ (fields bits kernel user marked : List ℕ) (fit : boardFit fields bits kernel user marked ≡ true) where
+  apart : (framesFit fields bits ≡ true) × (both (vmFit kernel) (both (mmapFit user) (markedFit marked)) ≡ true)
+  apart = both-true (framesFit fields bits) (both (vmFit kernel) (both (mmapFit user) (markedFit marked))) fit
+
+  lists : (vmFit kernel ≡ true) × ((length user ≡ 6160) × (length marked ≡ 2056))
+  lists =
+      let h = both-true (vmFit kernel) (both (mmapFit user) (markedFit marked)) (apart .1) in
+      let k = both-true (mmapFit user) (markedFit marked) (h .1) in
+      (h .0, (eqb-true _ 6160 (k .0), eqb-true _ 2056 (k .1)))
+
+  pub lengths-board : (length fields ≡ 24) × ((length bits ≡ 1024) × ((length kernel ≡ 6152) × ((length user ≡ 6160) × (length marked ≡ 2056))))
+  lengths-board =
+      let f = both-true _ _ (apart .0) in
+      (eqb-true _ 24 (f .0), (eqb-true _ 1024 (f .1), (eqb-true _ 6152 (both-true _ _ (lists .0) .0), lists .1)))
+
+  module _ (f : Bytes fields) (b : Bytes bits) (k : Bytes kernel) (u : Bytes user) (m : Bytes marked) (words : List ℕ) (root : ℕ) where
+    -- what a board leaves in the parts, where that is what they held
+    abbrev Kept : Board → Type 0
+    Kept s =
+        (s .mem .words ≡ words) × ((fieldsOut (s .mem .frames .fa) ≡ fields) × ((pack (s .mem .frames .bits) ≡ bits) × ((s .root ≡ root)
+        × ((vmOut (s .kernel) ≡ kernel) × ((mmapOut (s .user) (s .next) ≡ user) × (markedOut (s .marked) ≡ marked))))))
+
+    as-before : Kept (boardIn words fields bits root kernel user marked)
+    as-before =
+        let l = lengths-board in
+        (refl, (fields-back fields (l .0) f, (bits-back bits (l .1 .0) b, (refl,
+        (vm-back kernel (lists .0) k, (mmap-back user (lists .1 .0) u, marked-back marked (lists .1 .1) m))))))
+
+    pub refused-keeps : (from to : ℕ) → (answerLine (asAnswer (start (boardIn words fields bits root kernel user marked) from to .answer)) .number ≡ 0 → ⊥)
+        → Kept (start (boardIn words fields bits root kernel user marked) from to .board)
+    refused-keeps from to =
+        start-cases (boardIn words fields bits root kernel user marked) from to
+        (λ (d : Did). (answerLine (asAnswer (d .answer)) .number ≡ 0 → ⊥) → Kept (d .board))
+        (λ _ _ _ _ h. absurd (h refl)) (λ _. as-before) (λ _. as-before)
