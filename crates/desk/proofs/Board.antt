@@ -41,9 +41,19 @@ module _ (fields bits kernel user marked : List ℕ) (fit : boardFit fields bits
 
     as-before : Kept (boardIn words fields bits root kernel user marked)
     as-before =
-        let l = lengths-board in
-        (refl, (fields-back fields (l .0) f, (bits-back bits (l .1 .0) b, (refl,
-        (vm-back kernel (lists .0) k, (mmap-back user (lists .1 .0) u, marked-back marked (lists .1 .1) m))))))
+        let l = lengths-board in (
+          refl,
+          (
+            fields-back fields (l .0) f,
+            (
+              bits-back bits (l .1 .0) b,
+              (
+                refl,
+                (vm-back kernel (lists .0) k, (mmap-back user (lists .1 .0) u, marked-back marked (lists .1 .1) m)),
+              ),
+            ),
+          ),
+        )
 
     pub refused-keeps : (from to : ℕ) → (answerLine (asAnswer (start (boardIn words fields bits root kernel user marked) from to .answer)) .number ≡ 0 → ⊥)
         → Kept (start (boardIn words fields bits root kernel user marked) from to .board)

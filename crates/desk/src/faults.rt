@@ -109,7 +109,16 @@ fn handle_in(
     let frames = parts::get_fields(fields);
     let mut pages = lists::get_marked(marked);
     let n = lists::marked_count(marked);
-    let did = fault::handle_page_fault(words, &mut bitmap, frames, Frame(root), &mut pages, n, VirtAddr(addr), code);
+    let did = fault::handle_page_fault(
+        words,
+        &mut bitmap,
+        frames,
+        Frame(root),
+        &mut pages,
+        n,
+        VirtAddr(addr),
+        code,
+    );
     let left = did.frames;
     let count = did.count;
     let a = did.answer;
@@ -159,7 +168,14 @@ fn handle_second_in(
 {
     let mut bitmap = parts::get_bits(bits);
     let frames = parts::get_fields(fields);
-    let did = fault::page_handler::handle_page_fault(words, &mut bitmap, frames, Frame(root), VirtAddr(addr), code);
+    let did = fault::page_handler::handle_page_fault(
+        words,
+        &mut bitmap,
+        frames,
+        Frame(root),
+        VirtAddr(addr),
+        code,
+    );
     let left = did.frames;
     let a = did.answer;
     parts::put_fields(fields, left);

@@ -1,7 +1,7 @@
 // The frame allocator's calls: the record and the bitmap are packed bytes.
-use layout::parts;
 use address::Frame;
 use answer::Line;
+use layout::parts;
 ghost use mathlib.Core.Path.{_≡_};
 ghost use lib.ListN.{length};
 ghost use Rattle.bits.specs.Bit.{unless};

@@ -48,7 +48,14 @@ fn vmalloc_in(
 {
     let mut bitmap = parts::get_bits(bits);
     let frames = parts::get_fields(fields);
-    let did = vmalloc::vmalloc(words, &mut bitmap, frames, Frame(root), lists::get_vm(list), size);
+    let did = vmalloc::vmalloc(
+        words,
+        &mut bitmap,
+        frames,
+        Frame(root),
+        lists::get_vm(list),
+        size,
+    );
     let left = did.frames;
     let next = did.list;
     let a = did.answer;
@@ -98,7 +105,14 @@ fn vfree_in(
 {
     let mut bitmap = parts::get_bits(bits);
     let frames = parts::get_fields(fields);
-    let did = vmalloc::vfree(words, &mut bitmap, frames, Frame(root), lists::get_vm(list), VirtAddr(addr));
+    let did = vmalloc::vfree(
+        words,
+        &mut bitmap,
+        frames,
+        Frame(root),
+        lists::get_vm(list),
+        VirtAddr(addr),
+    );
     let left = did.frames;
     let next = did.list;
     let a = did.answer;

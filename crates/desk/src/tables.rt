@@ -1,9 +1,9 @@
 // The mapper's calls, on lent words; the frame record and the bitmap are packed bytes.
-use layout::parts;
 use address::Frame;
 use address::PhysAddr;
 use address::VirtAddr;
 use answer::Line;
+use layout::parts;
 use paging::HugePageSize;
 ghost use mathlib.Core.Path.{_≡_};
 ghost use lib.ListN.{length};
@@ -167,7 +167,17 @@ pub extern "C" fn gadulnos_map_huge_page(
     if !parts::frames_fit(fields, bits) {
         return parts::broken();
     }
-    map_huge_page_in(words, fields, bits, root, virt, phys, gigabyte, writable, user)
+    map_huge_page_in(
+        words,
+        fields,
+        bits,
+        root,
+        virt,
+        phys,
+        gigabyte,
+        writable,
+        user,
+    )
 }
 
 #[no_mangle]

@@ -64,7 +64,17 @@ fn mmap_in(
 {
     let mut bitmap = parts::get_bits(bits);
     let frames = parts::get_fields(fields);
-    let did = mmap::mmap(words, &mut bitmap, frames, Frame(root), lists::get_mmap(list), wish_of(given, addr), size, prot, flags);
+    let did = mmap::mmap(
+        words,
+        &mut bitmap,
+        frames,
+        Frame(root),
+        lists::get_mmap(list),
+        wish_of(given, addr),
+        size,
+        prot,
+        flags,
+    );
     let left = did.frames;
     let next = did.list;
     let a = did.answer;
@@ -96,7 +106,18 @@ pub extern "C" fn gadulnos_mmap(
     if !fits(fields, bits, list) {
         return parts::broken();
     }
-    mmap_in(words, fields, bits, root, list, given, addr, size, prot, flags)
+    mmap_in(
+        words,
+        fields,
+        bits,
+        root,
+        list,
+        given,
+        addr,
+        size,
+        prot,
+        flags,
+    )
 }
 
 fn munmap_in(
@@ -119,7 +140,15 @@ fn munmap_in(
 {
     let mut bitmap = parts::get_bits(bits);
     let frames = parts::get_fields(fields);
-    let did = mmap::munmap(words, &mut bitmap, frames, Frame(root), lists::get_mmap(list), VirtAddr(addr), size);
+    let did = mmap::munmap(
+        words,
+        &mut bitmap,
+        frames,
+        Frame(root),
+        lists::get_mmap(list),
+        VirtAddr(addr),
+        size,
+    );
     let left = did.frames;
     let next = did.list;
     let a = did.answer;

@@ -77,11 +77,11 @@ triple x y z = bytes 8 x ++ (bytes 8 y ++ bytes 8 z)
 next-three : (n : ℕ) (bs : List ℕ) → triple (number 8 bs) (number 8 (drop 8 bs)) (number 8 (drop 16 bs)) ++ pack (unpack n (drop 24 bs)) ≡ pack (unpack (suc (suc (suc n))) bs)
 next-three n bs =
     rw (further 8 16 24 bs refl, further 8 8 16 bs refl) (
-      simp append-assoc (
-        ap (λ (l : List ℕ). bytes 8 (number 8 bs) ++ (bytes 8 (number 8 (drop 8 bs)) ++ l)) (next-word n (drop 8 (drop 8 bs)))
-        ∙ ap (λ (l : List ℕ). bytes 8 (number 8 bs) ++ l) (next-word (suc n) (drop 8 bs))
-        ∙ next-word (suc (suc n)) bs
-      )
+    simp append-assoc (
+    ap (λ (l : List ℕ). bytes 8 (number 8 bs) ++ (bytes 8 (number 8 (drop 8 bs)) ++ l)) (next-word n (drop 8 (drop 8 bs)))
+    ∙ ap (λ (l : List ℕ). bytes 8 (number 8 bs) ++ l) (next-word (suc n) (drop 8 bs))
+    ∙ next-word (suc (suc n)) bs
+    )
     )
 
 -- .. and as they are written
@@ -195,7 +195,7 @@ vm-kept s h n fits =
     let text = packed vmRegionOut (s .slots) in
     λ j. record {
       slots = (ap (records vmRegionIn 256) (drop-at (bytes 8 (s .count)) text 8 (length-bytes 8 (s .count))) ∙ ap (λ (k : ℕ). records vmRegionIn k text) (sym n)
-        ∙ slots-kept vmRegionIn vmRegionOut noSlot VmFits length-vm vm-region-kept (s .slots) fits) j;
+          ∙ slots-kept vmRegionIn vmRegionOut noSlot VmFits length-vm vm-region-kept (s .slots) fits) j;
       count = number-kept (s .count) text h j;
     }
 
@@ -218,9 +218,9 @@ mapped-back n bs (long, b) =
     let prot = half-fits (drop 16 bs) (omega (arith, length-drop 16 bs)) (λ i _. bytes-behind 16 bs b i) in
     let flags = half-fits (drop 20 bs) (omega (arith, length-drop 20 bs)) (λ i _. bytes-behind 20 bs b i) in
     ap (triple (number 8 bs) (number 8 (drop 8 bs))) (
-      (λ j. ofZ-toZ prot j + ofZ-toZ flags j * 2 ^ 32)
-      ∙ ap (λ (l : List ℕ). number 4 (drop 16 bs) + number 4 l * 2 ^ 32) (further 4 16 20 bs refl)
-      ∙ sym (halves (drop 16 bs) (omega (arith, length-drop 16 bs)))
+    (λ j. ofZ-toZ prot j + ofZ-toZ flags j * 2 ^ 32)
+    ∙ ap (λ (l : List ℕ). number 4 (drop 16 bs) + number 4 l * 2 ^ 32) (further 4 16 20 bs refl)
+    ∙ sym (halves (drop 16 bs) (omega (arith, length-drop 16 bs)))
     )
 
 pub mmap-back : (bs : List ℕ) → length bs ≡ 6160 → Bytes bs → mmapOut (mmapIn bs) (nextIn bs) ≡ bs
@@ -283,11 +283,11 @@ module _ (s : Slots MappedRegion) (next : ℕ) (h : s .count < 2 ^ 64) (k : next
 
   pub mmap-kept : length (s .slots) ≡ 256 → ((i : ℕ) → MappedFits (getD (s .slots) i noMapped)) → mmapIn (mmapOut s next) ≡ s
   mmap-kept n fits = λ j. record {
-      slots = (ap (records mappedIn 256) (further 8 8 16 (mmapOut s next) refl ∙ ap (drop 8) behind ∙ drop-at (bytes 8 next) written 8 (length-bytes 8 next))
+    slots = (ap (records mappedIn 256) (further 8 8 16 (mmapOut s next) refl ∙ ap (drop 8) behind ∙ drop-at (bytes 8 next) written 8 (length-bytes 8 next))
         ∙ ap (λ (m : ℕ). records mappedIn m written) (sym n)
         ∙ slots-kept mappedIn mappedOut noMapped MappedFits length-mapped mapped-kept (s .slots) fits) j;
-      count = (ap (number 8) ahead ∙ number-kept (s .count) (bytes 8 next ++ written) h) j;
-    }
+    count = (ap (number 8) ahead ∙ number-kept (s .count) (bytes 8 next ++ written) h) j;
+  }
 
 -- ---- the marked pages
 
@@ -296,7 +296,7 @@ marked-back bs n b = next-word 256 bs ∙ pack-unpack 257 bs n b
 
 pub marked-kept : (s : Slots ℕ) → s .count < 2 ^ 64 → length (s .slots) ≡ 256 → Words (s .slots) → markedIn (markedOut s) ≡ s
 marked-kept s h n fits = λ j. record {
-    slots = (ap (unpack 256) (drop-at (bytes 8 (s .count)) (pack (s .slots)) 8 (length-bytes 8 (s .count))) ∙ ap (λ (k : ℕ). unpack k (pack (s .slots))) (sym n)
+  slots = (ap (unpack 256) (drop-at (bytes 8 (s .count)) (pack (s .slots)) 8 (length-bytes 8 (s .count))) ∙ ap (λ (k : ℕ). unpack k (pack (s .slots))) (sym n)
       ∙ unpack-pack (s .slots) fits) j;
-    count = number-kept (s .count) (pack (s .slots)) h j;
-  }
+  count = number-kept (s .count) (pack (s .slots)) h j;
+}

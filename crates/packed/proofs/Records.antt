@@ -39,11 +39,11 @@ module _ {A : Type 0} (f : List ℕ → A) where
   read-next d i bs l l₀ a h q e =
       let s : i + 1 ≡ suc i = omega arith in
       rw (e, s) (
-        ap (λ (k : List A). set (records f i bs ++ k) i a) (drop-cons l₀ i d h)
-        ∙ set-at (records f i bs) (getD l₀ i d) (drop (suc i) l₀) a i (length-records i bs)
-        ∙ sym (append-snoc (records f i bs) a (drop (suc i) l₀))
-        ∙ ap (λ (x : A). (records f i bs ++ (x ∷ [])) ++ drop (suc i) l₀) q
-        ∙ ap (λ (k : List A). k ++ drop (suc i) l₀) (sym (records-next i bs))
+      ap (λ (k : List A). set (records f i bs ++ k) i a) (drop-cons l₀ i d h)
+      ∙ set-at (records f i bs) (getD l₀ i d) (drop (suc i) l₀) a i (length-records i bs)
+      ∙ sym (append-snoc (records f i bs) a (drop (suc i) l₀))
+      ∙ ap (λ (x : A). (records f i bs ++ (x ∷ [])) ++ drop (suc i) l₀) q
+      ∙ ap (λ (k : List A). k ++ drop (suc i) l₀) (sym (records-next i bs))
       )
 
   pub read-all : (n : ℕ) (bs : List ℕ) (l l₀ : List A) → length l₀ ≤ n → l ≡ records f n bs ++ drop n l₀ → l ≡ records f n bs
@@ -91,7 +91,7 @@ module _ {A : Type 0} (g : A → List ℕ) (each : (a : A) → length (g a) ≡ 
       let t : k + i * 24 + 24 ≡ k + suc i * 24 = omega arith in
       let u : k + i * 24 + 24 ≡ length head + 24 = omega arith in
       let back : drop (k + i * 24 + 24) bs ≡ drop (k + suc i * 24) bs₀ =
-          rw (e′, u) (drop-append-add head (drop (k + i * 24) bs₀) 24) ∙ drop-drop 24 (k + i * 24) bs₀ ∙ ap (λ (j : ℕ). drop j bs₀) t
+      rw (e′, u) (drop-append-add head (drop (k + i * 24) bs₀) 24) ∙ drop-drop 24 (k + i * 24) bs₀ ∙ ap (λ (j : ℕ). drop j bs₀) t
       in
       sets-eq (g a) bs (k + i * 24) (omega arith)
       ∙ rw (before, w, back, s, packed-last d i l h) (simp append-assoc refl)
@@ -100,7 +100,7 @@ module _ {A : Type 0} (g : A → List ℕ) (each : (a : A) → length (g a) ≡ 
       → bs ≡ take k bs₀ ++ (packed g (take n l) ++ drop (k + n * 24) bs₀) → bs ≡ take k bs₀ ++ packed g l
   write-all k n l bs bs₀ h m e =
       e ∙ ap (λ (q : List ℕ). take k bs₀ ++ q)
-        (ap (λ (q : List ℕ). packed g (take n l) ++ q) (drop-of-length-le bs₀ m) ∙ append-nil (packed g (take n l)) ∙ ap (packed g) (take-all n l h))
+      (ap (λ (q : List ℕ). packed g (take n l) ++ q) (drop-of-length-le bs₀ m) ∙ append-nil (packed g (take n l)) ∙ ap (packed g) (take-all n l h))
 
   -- a record that survives alone survives among others
   pub records-packed : (f : List ℕ → A) → ((a : A) (bs : List ℕ) → f (g a ++ bs) ≡ a) → (l : List A) → records f (length l) (packed g l) ≡ l

@@ -64,10 +64,10 @@ got-next i bs ws ws₀ h e =
     let a = number 8 (drop (i * 8) bs) in
     let s : i + 1 ≡ suc i = omega arith in
     rw (e, s) (
-      ap (λ (l : List ℕ). set (unpack i bs ++ l) i a) (drop-cons ws₀ i 0 h)
-      ∙ set-at (unpack i bs) (getD ws₀ i 0) (drop (suc i) ws₀) a i (length-unpack i bs)
-      ∙ sym (append-snoc (unpack i bs) a (drop (suc i) ws₀))
-      ∙ ap (λ (l : List ℕ). l ++ drop (suc i) ws₀) (sym (unpack-next i bs))
+    ap (λ (l : List ℕ). set (unpack i bs ++ l) i a) (drop-cons ws₀ i 0 h)
+    ∙ set-at (unpack i bs) (getD ws₀ i 0) (drop (suc i) ws₀) a i (length-unpack i bs)
+    ∙ sym (append-snoc (unpack i bs) a (drop (suc i) ws₀))
+    ∙ ap (λ (l : List ℕ). l ++ drop (suc i) ws₀) (sym (unpack-next i bs))
     )
 
 pub got-all : (n : ℕ) (bs ws ws₀ : List ℕ) → length ws₀ ≤ n → ws ≡ unpack n bs ++ drop n ws₀ → ws ≡ unpack n bs
@@ -93,9 +93,9 @@ put-next i ws bs bs₀ h k l e =
     let front = length-front i ws (omega arith) in
     let eight = length-bytes 8 w in
     let back : drop (i * 8 + 8) bs ≡ drop (suc i * 8) bs₀ =
-        let t : i * 8 + 8 ≡ suc i * 8 = omega arith in
-        let u : i * 8 + 8 ≡ length (pack (take i ws)) + 8 = omega arith in
-        rw (e, u) (drop-append-add (pack (take i ws)) (drop (i * 8) bs₀) 8) ∙ drop-drop 8 (i * 8) bs₀ ∙ ap (λ (n : ℕ). drop n bs₀) t
+    let t : i * 8 + 8 ≡ suc i * 8 = omega arith in
+    let u : i * 8 + 8 ≡ length (pack (take i ws)) + 8 = omega arith in
+    rw (e, u) (drop-append-add (pack (take i ws)) (drop (i * 8) bs₀) 8) ∙ drop-drop 8 (i * 8) bs₀ ∙ ap (λ (n : ℕ). drop n bs₀) t
     in
     let before : take (i * 8) bs ≡ pack (take i ws) = rw e (take-at (pack (take i ws)) (drop (i * 8) bs₀) (i * 8) front) in
     sets-eq (bytes 8 w) bs (i * 8) (omega arith)
@@ -128,7 +128,7 @@ number-four at bs h =
 
 pub number-eight : (at : ℕ) (bs : List ℕ) → at + 8 ≤ length bs
     → number 8 (drop at bs) ≡ getD bs at 0 + getD bs (at + 1) 0 * 256 + getD bs (at + 2) 0 * 65536 + getD bs (at + 3) 0 * 16777216 + getD bs (at + 4) 0 * 4294967296
-        + getD bs (at + 5) 0 * 1099511627776 + getD bs (at + 6) 0 * 281474976710656 + getD bs (at + 7) 0 * 72057594037927936
+    + getD bs (at + 5) 0 * 1099511627776 + getD bs (at + 6) 0 * 281474976710656 + getD bs (at + 7) 0 * 72057594037927936
 number-eight at bs h =
     let a = number-step 7 at (at + 1) bs (omega arith) (omega arith) in
     let b = number-step 6 (at + 1) (at + 2) bs (omega arith) (omega arith) in

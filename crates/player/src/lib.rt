@@ -97,7 +97,17 @@ fn play_mmap(words: &mut [u64], bitmap: &mut [u64; 128], records: Records, c: Mm
     let root = records.root;
     let list = records.user;
     let wish = wish_of(c.given, c.addr);
-    let did = mmap::mmap(words, bitmap, frames, root, list, wish, c.size, c.prot, c.flags);
+    let did = mmap::mmap(
+        words,
+        bitmap,
+        frames,
+        root,
+        list,
+        wish,
+        c.size,
+        c.prot,
+        c.flags,
+    );
     let a = did.answer;
     let left = did.frames;
     let user = did.list;
@@ -115,7 +125,12 @@ fn play_mmap(words: &mut [u64], bitmap: &mut [u64; 128], records: Records, c: Mm
     }
 }
 
-fn play_munmap(words: &mut [u64], bitmap: &mut [u64; 128], records: Records, c: MunmapCall) -> Played {
+fn play_munmap(
+    words: &mut [u64],
+    bitmap: &mut [u64; 128],
+    records: Records,
+    c: MunmapCall,
+) -> Played {
     let frames = records.frames;
     let root = records.root;
     let list = records.user;

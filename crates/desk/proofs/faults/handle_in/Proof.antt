@@ -59,10 +59,16 @@ returns c =
     let did = same-fault (a .words .now) (λ (s : Faulting). handleFault 3 s (a .root) (a .addr) (a .code)) (r .before .before .before .before .before .before .before .before .before .before .get-bits .ensures) (r .before .before .before .before .before .before .before .before .get-fields .ensures) (r .before .before .before .before .before .before .get-marked .ensures) (r .before .before .before .before .marked-count .ensures) in
     let p = e .0 ∙ ap faulted did in (
       c .answer-line .ensures ∙ ap (λ (x : Faulted). answerLine (x .answer)) p,
-      (e .1 .0 ∙ ap (λ (d : Did). d .state .mem .words) did,
-      (c .before .before .before .before .before .before .before .before .before .before .before .before .before .put-fields .ensures ∙ ap (λ (x : Faulted). fieldsOut (x .frames)) p,
-      (c .before .before .before .before .before .before .before .before .put-bits .ensures ∙ ap pack (e .1 .1 .0 ∙ ap (λ (d : Did). d .state .mem .frames .bits) did),
-      c .before .before .before .put-marked .ensures ∙ (λ j. markedOut (slotsOf ((e .1 .1 .1 ∙ ap (λ (d : Did). d .state .marked .slots) did) j) (p j .count)))))),
+      (
+        e .1 .0 ∙ ap (λ (d : Did). d .state .mem .words) did,
+        (
+          c .before .before .before .before .before .before .before .before .before .before .before .before .before .put-fields .ensures ∙ ap (λ (x : Faulted). fieldsOut (x .frames)) p,
+          (
+            c .before .before .before .before .before .before .before .before .put-bits .ensures ∙ ap pack (e .1 .1 .0 ∙ ap (λ (d : Did). d .state .mem .frames .bits) did),
+            c .before .before .before .put-marked .ensures ∙ (λ j. markedOut (slotsOf ((e .1 .1 .1 ∙ ap (λ (d : Did). d .state .marked .slots) did) j) (p j .count))),
+          ),
+        ),
+      ),
     )
 
 pub handle-in-spec : {M : Type 1} → statement M

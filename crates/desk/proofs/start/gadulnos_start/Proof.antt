@@ -68,15 +68,48 @@ returns-2 c =
     let a = entry d .args in
     let e = c .before .before .before .before .before .before .before .before .before .before .before .before .start-in .ensures in
     let fit = passed (d .fits2 .ensures) (c .before .before .before .before .before .before .before .before .before .before .before .before .before .before .before .before .before .before .before .before .if1 .left) in
-    rw fit (e .0, (e .1 .0, (e .1 .1 .0, (e .1 .1 .1 .0, (e .1 .1 .1 .1 .0, (e .1 .1 .1 .1 .1 .0, (e .1 .1 .1 .1 .1 .1 .0, (e .1 .1 .1 .1 .1 .1 .1, λ h.
-      let kept =
-          refused-keeps (a .fields .now) (a .bits .now) (a .kernel .now) (a .user .now) (a .marked .now) fit (λ i. k .before .before .before .before .slice-known2 .given i .fits)
-          (λ i. k .before .before .before .slice-known3 .given i .fits) (λ i. k .before .before .slice-known4 .given i .fits) (λ i. k .before .slice-known5 .given i .fits)
-          (λ i. k .slice-known6 .given i .fits) (a .words .now) (a .root .now) (a .from) (a .to) (λ z. h (ap (λ (l : Line). l .number) (e .0) ∙ z))
-      in
-      (e .1 .0 ∙ kept .0, (e .1 .1 .0 ∙ kept .1 .0, (e .1 .1 .1 .0 ∙ kept .1 .1 .0, (e .1 .1 .1 .1 .0 ∙ kept .1 .1 .1 .0,
-      (e .1 .1 .1 .1 .1 .0 ∙ kept .1 .1 .1 .1 .0, (e .1 .1 .1 .1 .1 .1 .0 ∙ kept .1 .1 .1 .1 .1 .0, e .1 .1 .1 .1 .1 .1 .1 ∙ kept .1 .1 .1 .1 .1 .1))))))
-    ))))))))
+    rw fit (
+      e .0,
+      (
+        e .1 .0,
+        (
+          e .1 .1 .0,
+          (
+            e .1 .1 .1 .0,
+            (
+              e .1 .1 .1 .1 .0,
+              (
+                e .1 .1 .1 .1 .1 .0,
+                (
+                  e .1 .1 .1 .1 .1 .1 .0,
+                  (
+                    e .1 .1 .1 .1 .1 .1 .1,
+                    λ h.
+                        let kept =
+                        refused-keeps (a .fields .now) (a .bits .now) (a .kernel .now) (a .user .now) (a .marked .now) fit (λ i. k .before .before .before .before .slice-known2 .given i .fits)
+                        (λ i. k .before .before .before .slice-known3 .given i .fits) (λ i. k .before .before .slice-known4 .given i .fits) (λ i. k .before .slice-known5 .given i .fits)
+                        (λ i. k .slice-known6 .given i .fits) (a .words .now) (a .root .now) (a .from) (a .to) (λ z. h (ap (λ (l : Line). l .number) (e .0) ∙ z))
+                        in (
+                          e .1 .0 ∙ kept .0,
+                          (
+                            e .1 .1 .0 ∙ kept .1 .0,
+                            (
+                              e .1 .1 .1 .0 ∙ kept .1 .1 .0,
+                              (
+                                e .1 .1 .1 .1 .0 ∙ kept .1 .1 .1 .0,
+                                (e .1 .1 .1 .1 .1 .0 ∙ kept .1 .1 .1 .1 .0, (e .1 .1 .1 .1 .1 .1 .0 ∙ kept .1 .1 .1 .1 .1 .0, e .1 .1 .1 .1 .1 .1 .1 ∙ kept .1 .1 .1 .1 .1 .1)),
+                              ),
+                            ),
+                          ),
+                        ),
+                  ),
+                ),
+              ),
+            ),
+          ),
+        ),
+      ),
+    )
 
 pub gadulnos-start-spec : {M : Type 1} → statement M
 gadulnos-start-spec =

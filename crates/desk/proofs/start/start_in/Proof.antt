@@ -68,13 +68,25 @@ returns c =
     let did = same-start (a .words .now) (a .from) (a .to) (r .before .before .before .before .before .before .before .before .before .before .before .before .get-bits .ensures) (r .before .before .before .before .before .before .before .before .before .before .get-marked .ensures) (r .before .before .before .before .get-records .ensures) in
     let p = e .0 ∙ ap started did in (
       c .answer-line .ensures ∙ ap (λ (x : Started). answerLine (x .answer)) p,
-      (e .1 .0 ∙ ap (λ (d : Did). d .board .mem .words) did,
-      (c .before .before .before .before .before .before .before .before .before .before .before .before .before .before .before .before .before .before .before .put-fields .ensures ∙ ap (λ (x : Started). fieldsOut (x .records .frames)) p,
-      (c .before .before .before .before .before .before .before .before .before .before .before .before .before .before .put-bits .ensures ∙ ap pack (e .1 .1 .0 ∙ ap (λ (d : Did). d .board .mem .frames .bits) did),
-      (ap (λ (x : Started). x .records .root .0) p,
-      (l .0 ∙ ap (λ (x : Started). vmOut (slotsOf (x .records .kernel))) p,
-      (l .1 .0 ∙ ap (λ (x : Started). mmapOut (mappedSlots (x .records .user)) (x .records .user .next)) p,
-      l .1 .1 ∙ (λ j. markedOut (markedSlots ((e .1 .1 .1 ∙ ap (λ (d : Did). d .board .marked .slots) did) j) (p j .records .count))))))))),
+      (
+        e .1 .0 ∙ ap (λ (d : Did). d .board .mem .words) did,
+        (
+          c .before .before .before .before .before .before .before .before .before .before .before .before .before .before .before .before .before .before .before .put-fields .ensures ∙ ap (λ (x : Started). fieldsOut (x .records .frames)) p,
+          (
+            c .before .before .before .before .before .before .before .before .before .before .before .before .before .before .put-bits .ensures ∙ ap pack (e .1 .1 .0 ∙ ap (λ (d : Did). d .board .mem .frames .bits) did),
+            (
+              ap (λ (x : Started). x .records .root .0) p,
+              (
+                l .0 ∙ ap (λ (x : Started). vmOut (slotsOf (x .records .kernel))) p,
+                (
+                  l .1 .0 ∙ ap (λ (x : Started). mmapOut (mappedSlots (x .records .user)) (x .records .user .next)) p,
+                  l .1 .1 ∙ (λ j. markedOut (markedSlots ((e .1 .1 .1 ∙ ap (λ (d : Did). d .board .marked .slots) did) j) (p j .records .count))),
+                ),
+              ),
+            ),
+          ),
+        ),
+      ),
     )
 
 pub start-in-spec : {M : Type 1} → statement M

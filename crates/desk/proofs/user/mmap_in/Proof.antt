@@ -63,10 +63,16 @@ returns c =
     let did = same-user (a .words .now) (λ (u : User) (w : Wish). mmapOf 3 u (a .root) w (a .size) (a .prot) (a .flags)) (r .before .before .before .before .before .before .before .before .get-bits .ensures) (r .before .before .before .before .before .before .get-fields .ensures) (r .before .before .get-mmap .ensures) (r .before .wish-of .ensures) in
     let p = e .0 ∙ ap mmapped did in (
       c .virt-line .ensures ∙ ap (λ (x : Mmapped). virtLine (x .answer)) p,
-      (e .1 .0 ∙ ap (λ (d : Did). d .user .mem .words) did,
-      (c .before .before .before .before .before .before .before .before .before .before .before .before .put-fields .ensures ∙ ap (λ (x : Mmapped). fieldsOut (x .frames)) p,
-      (c .before .before .before .before .before .before .before .put-bits .ensures ∙ ap pack (e .1 .1 ∙ ap (λ (d : Did). d .user .mem .frames .bits) did),
-      c .before .before .before .put-mmap .ensures ∙ ap (λ (x : Mmapped). mmapOut (slotsOf (x .list)) (x .list .next)) p))),
+      (
+        e .1 .0 ∙ ap (λ (d : Did). d .user .mem .words) did,
+        (
+          c .before .before .before .before .before .before .before .before .before .before .before .before .put-fields .ensures ∙ ap (λ (x : Mmapped). fieldsOut (x .frames)) p,
+          (
+            c .before .before .before .before .before .before .before .put-bits .ensures ∙ ap pack (e .1 .1 ∙ ap (λ (d : Did). d .user .mem .frames .bits) did),
+            c .before .before .before .put-mmap .ensures ∙ ap (λ (x : Mmapped). mmapOut (slotsOf (x .list)) (x .list .next)) p,
+          ),
+        ),
+      ),
     )
 
 pub mmap-in-spec : {M : Type 1} → statement M

@@ -58,10 +58,16 @@ returns c =
     let did = same-user (a .words .now) (λ (u : User) (w : Wish). munmapOf 3 u (a .root) (a .addr) (a .size)) (r .before .before .before .before .before .before .before .get-bits .ensures) (r .before .before .before .before .before .get-fields .ensures) (r .before .get-mmap .ensures) (refl {a = Anywhere}) in
     let p = r .munmap .ensures .0 ∙ ap munmapped did in (
       c .answer-line .ensures ∙ ap (λ (x : Munmapped). answerLine (x .answer)) p,
-      (r .munmap .ensures .1 .0 ∙ ap (λ (d : Did). d .user .mem .words) did,
-      (c .before .before .before .before .before .before .before .before .before .before .before .before .put-fields .ensures ∙ ap (λ (x : Munmapped). fieldsOut (x .frames)) p,
-      (c .before .before .before .before .before .before .before .put-bits .ensures ∙ ap pack (r .munmap .ensures .1 .1 ∙ ap (λ (d : Did). d .user .mem .frames .bits) did),
-      c .before .before .before .put-mmap .ensures ∙ ap (λ (x : Munmapped). mmapOut (slotsOf (x .list)) (x .list .next)) p))),
+      (
+        r .munmap .ensures .1 .0 ∙ ap (λ (d : Did). d .user .mem .words) did,
+        (
+          c .before .before .before .before .before .before .before .before .before .before .before .before .put-fields .ensures ∙ ap (λ (x : Munmapped). fieldsOut (x .frames)) p,
+          (
+            c .before .before .before .before .before .before .before .put-bits .ensures ∙ ap pack (r .munmap .ensures .1 .1 ∙ ap (λ (d : Did). d .user .mem .frames .bits) did),
+            c .before .before .before .put-mmap .ensures ∙ ap (λ (x : Munmapped). mmapOut (slotsOf (x .list)) (x .list .next)) p,
+          ),
+        ),
+      ),
     )
 
 pub munmap-in-spec : {M : Type 1} → statement M

@@ -57,7 +57,7 @@ loop-again c =
       search needs,
       search needs,
       p .put-mapped .ensures ∙ ap (λ (n : ℕ). sets (l .loop .bytes) n (mappedOut (getD (s .args .t2) i noSlot))) at
-      ∙ write-next mappedOut length-mapped noSlot 16 i (s .args .t2) (l .loop .bytes) (s .args .bytes .now) (search needs) (omega (arith, s .pre)) (l .loop .inv .1) (l .loop .inv .2),
+          ∙ write-next mappedOut length-mapped noSlot 16 i (s .args .t2) (l .loop .bytes) (s .args .bytes .now) (search needs) (omega (arith, s .pre)) (l .loop .inv .1) (l .loop .inv .2),
     )
 
 same-length : tie.Need-same-length Inv-loop μ-loop

@@ -57,7 +57,7 @@ loop-again c =
       search needs,
       search needs,
       p .put-vm-region .ensures ∙ ap (λ (n : ℕ). sets (l .loop .bytes) n (vmRegionOut (getD (s .args .t2) i noSlot))) at
-      ∙ write-next vmRegionOut length-vm noSlot 8 i (s .args .t2) (l .loop .bytes) (s .args .bytes .now) (search needs) (omega (arith, s .pre)) (l .loop .inv .1) (l .loop .inv .2),
+          ∙ write-next vmRegionOut length-vm noSlot 8 i (s .args .t2) (l .loop .bytes) (s .args .bytes .now) (search needs) (omega (arith, s .pre)) (l .loop .inv .1) (l .loop .inv .2),
     )
 
 same-length : tie.Need-same-length Inv-loop μ-loop

@@ -46,8 +46,8 @@ loop-again c =
       search needs,
       search needs,
       ap (λ (o : List ℕ). set o (s .args .at + i) (getD (s .args .text .now) i 0)) (l .loop .inv .2)
-      ∙ paste-suc (s .args .out .now) (s .args .at) (s .args .text .now) i 0 (omega (arith, s .pre)) less
-      ∙ ap (paste (s .args .out .now) (s .args .at) (s .args .text .now)) e,
+          ∙ paste-suc (s .args .out .now) (s .args .at) (s .args .text .now) i 0 (omega (arith, s .pre)) less
+          ∙ ap (paste (s .args .out .now) (s .args .at) (s .args .text .now)) e,
     )
 
 add-result : tie.Need-add-result Inv-loop μ-loop
@@ -63,8 +63,8 @@ returns c =
     let n = length (s .args .text .now) in
     let e : l .loop .i ≡ n = search needs in (
       ap (take (s .args .at + n)) (l .loop .inv .2 ∙ ap (paste (s .args .out .now) (s .args .at) (s .args .text .now)) e)
-      ∙ take-paste (s .args .out .now) (s .args .at) (s .args .text .now) n (omega (arith, s .pre)) (le-refl n)
-      ∙ ap (λ (t : List ℕ). take (s .args .at) (s .args .out .now) ++ t) (take-length (s .args .text .now)),
+          ∙ take-paste (s .args .out .now) (s .args .at) (s .args .text .now) n (omega (arith, s .pre)) (le-refl n)
+          ∙ ap (λ (t : List ℕ). take (s .args .at) (s .args .out .now) ++ t) (take-length (s .args .text .now)),
       refl,
     )
 

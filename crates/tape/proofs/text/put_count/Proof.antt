@@ -35,7 +35,7 @@ returns c =
     let s = word .before .before .before .before in
     let x = take (s .args .at) (s .args .out .now) in (
       ended x (s .args .word .now) (decimal (s .args .n))
-      (spaced x (s .args .word .now) (decimal (s .args .n)) (word .put .ensures .0) (space .put-byte .ensures .0) (digits .put-decimal .ensures .0)) (end .put-byte2 .ensures .0),
+          (spaced x (s .args .word .now) (decimal (s .args .n)) (word .put .ensures .0) (space .put-byte .ensures .0) (digits .put-decimal .ensures .0)) (end .put-byte2 .ensures .0),
       search needs,
     )
 
