@@ -1,6 +1,6 @@
 -- All packed parts of a board: their lengths, and a refused start that leaves each as it was.
 use Prim.Native.Nat.{ℕ}
-use mathlib.Core.Path.{_≡_, refl}
+use mathlib.Core.Path.{_≡_, refl, _∙_, ap}
 use mathlib.Core.Bool.{true}
 use mathlib.Core.List.{List}
 use lib.ListN.{length}
@@ -8,6 +8,7 @@ use borrow.Author.Tests.{eqb-true}
 use Rattle.bits.specs.Bit.{both}
 use Rattle.bits.proofs.Choice.{both-true}
 use Rattle.answer.specs.Numbers.{answerLine}
+use Rattle.answer.specs.declared.Line.{Line}
 use Rattle.packed.specs.Words.{pack}
 use Rattle.paging.specs.Calls.{asAnswer}
 use Rattle.board.specs.Board.{Board, Did, start}
@@ -32,32 +33,39 @@ module _ (fields bits kernel user marked : List ℕ) (fit : boardFit fields bits
       let f = both-true _ _ (apart .0) in
       (eqb-true _ 24 (f .0), (eqb-true _ 1024 (f .1), (eqb-true _ 6152 (both-true _ _ (lists .0) .0), lists .1)))
 
-  module _ (f : Bytes fields) (b : Bytes bits) (k : Bytes kernel) (u : Bytes user) (m : Bytes marked) (words : List ℕ) (root : ℕ) where
-    -- what a board leaves in the parts, where that is what they held
+  module _ (f : Bytes fields) (b : Bytes bits) (k : Bytes kernel) (u : Bytes user) (m : Bytes marked) (words : List ℕ) (root from to : ℕ) where
+    abbrev lent : Board
+    lent = boardIn words fields bits root kernel user marked
+
+    -- a board packed into the same parts again
     abbrev Kept : Board → Type 0
     Kept s =
-        (s .mem .words ≡ words) × ((fieldsOut (s .mem .frames .fa) ≡ fields) × ((pack (s .mem .frames .bits) ≡ bits) × ((s .root ≡ root)
-        × ((vmOut (s .kernel) ≡ kernel) × ((mmapOut (s .user) (s .next) ≡ user) × (markedOut (s .marked) ≡ marked))))))
+        (s .mem .words ≡ words) × (fieldsOut (s .mem .frames .fa) ≡ fields) × (pack (s .mem .frames .bits) ≡ bits) × (s .root ≡ root)
+        × (vmOut (s .kernel) ≡ kernel) × (mmapOut (s .user) (s .next) ≡ user) × (markedOut (s .marked) ≡ marked)
 
-    as-before : Kept (boardIn words fields bits root kernel user marked)
+    as-before : Kept lent
     as-before =
         let l = lengths-board in (
           refl,
-          (
-            fields-back fields (l .0) f,
-            (
-              bits-back bits (l .1 .0) b,
-              (
-                refl,
-                (vm-back kernel (lists .0) k, (mmap-back user (lists .1 .0) u, marked-back marked (lists .1 .1) m)),
-              ),
-            ),
-          ),
+          fields-back fields (l .0) f,
+          bits-back bits (l .1 .0) b,
+          refl,
+          vm-back kernel (lists .0) k,
+          mmap-back user (lists .1 .0) u,
+          marked-back marked (lists .1 .1) m,
         )
 
-    pub refused-keeps : (from to : ℕ) → (answerLine (asAnswer (start (boardIn words fields bits root kernel user marked) from to .answer)) .number ≡ 0 → ⊥)
-        → Kept (start (boardIn words fields bits root kernel user marked) from to .board)
-    refused-keeps from to =
-        start-cases (boardIn words fields bits root kernel user marked) from to
-        (λ (d : Did). (answerLine (asAnswer (d .answer)) .number ≡ 0 → ⊥) → Kept (d .board))
-        (λ _ _ _ _ h. absurd (h refl)) (λ _. as-before) (λ _. as-before)
+    refused-keeps : (answerLine (asAnswer (start lent from to .answer)) .number ≡ 0 → ⊥) → Kept (start lent from to .board)
+    refused-keeps =
+        start-cases lent from to (λ (d : Did). (answerLine (asAnswer (d .answer)) .number ≡ 0 → ⊥) → Kept (d .board)) (λ _ _ _ _ h. absurd (h refl)) (λ _. as-before)
+        (λ _. as-before)
+
+    -- .. so that all that a refused start leaves is what it was lent
+    pub refused-start : {line : Line} {ws fs bs ks us ms : List ℕ} {r : ℕ} → let s = start lent from to .board in
+        (line ≡ answerLine (asAnswer (start lent from to .answer)))
+        × ((ws ≡ s .mem .words) × ((fs ≡ fieldsOut (s .mem .frames .fa)) × ((bs ≡ pack (s .mem .frames .bits)) × ((r ≡ s .root)
+        × ((ks ≡ vmOut (s .kernel)) × ((us ≡ mmapOut (s .user) (s .next)) × (ms ≡ markedOut (s .marked))))))))
+        → (line .number ≡ 0 → ⊥) → (ws ≡ words) × (fs ≡ fields) × (bs ≡ bits) × (r ≡ root) × (ks ≡ kernel) × (us ≡ user) × (ms ≡ marked)
+    refused-start (e, (w, (x, (y, (z, (v, (p, q))))))) h =
+        let same = refused-keeps (λ o. h (ap (λ (l : Line). l .number) e ∙ o)) in
+        (w ∙ same .0, x ∙ same .1, y ∙ same .2, z ∙ same .3, v ∙ same .4, p ∙ same .5, q ∙ same .6)

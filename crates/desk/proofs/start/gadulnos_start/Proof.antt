@@ -1,9 +1,8 @@
 -- Parts that do not fit, or the start.
-use mathlib.Core.Path.{refl, _∙_, ap}
-use Rattle.answer.specs.declared.Line.{Line}
+use mathlib.Core.Path.{refl}
 use Rattle.frame.proofs.Laws.{passed, failed}
 use borrow.Author.Needs.{needs}
-use Rattle.desk.proofs.Board.{lengths-board, refused-keeps}
+use Rattle.desk.proofs.Board.{lengths-board, refused-start}
 use Rattle.desk.proofs.start.gadulnos_start.Statement.{statement}
 use Rattle.desk.proofs.start.gadulnos_start.Tie as tie
 
@@ -31,7 +30,7 @@ same-length-5 c = search needs
 returns : tie.Need-returns
 returns c =
     rw (c .broken .ensures, failed (c .before .before .fits2 .ensures) (c .before .if1 .taken))
-    (refl, (refl, (refl, (refl, (refl, (refl, (refl, (refl, λ _. (refl, (refl, (refl, (refl, (refl, (refl, refl))))))))))))))
+    (λ _. (refl, refl, refl, refl, refl, refl, refl), (refl, (refl, (refl, (refl, (refl, (refl, (refl, refl))))))))
 
 -- what was lent, from after the test
 abbrev entry : tie.After-fits2 → tie.Start
@@ -64,52 +63,17 @@ same-length-11 c = search needs
 returns-2 : tie.Need-returns-2
 returns-2 c =
     let d = c .before .before .before .before .before .before .before .before .before .before .before .before .before .before .before .before .before .before .before .before .before in
-    let k = d .before .before .before .before .before .before in
     let a = entry d .args in
     let e = c .before .before .before .before .before .before .before .before .before .before .before .before .start-in .ensures in
     let fit = passed (d .fits2 .ensures) (c .before .before .before .before .before .before .before .before .before .before .before .before .before .before .before .before .before .before .before .before .if1 .left) in
-    rw fit (
-      e .0,
-      (
-        e .1 .0,
-        (
-          e .1 .1 .0,
-          (
-            e .1 .1 .1 .0,
-            (
-              e .1 .1 .1 .1 .0,
-              (
-                e .1 .1 .1 .1 .1 .0,
-                (
-                  e .1 .1 .1 .1 .1 .1 .0,
-                  (
-                    e .1 .1 .1 .1 .1 .1 .1,
-                    λ h.
-                        let kept =
-                        refused-keeps (a .fields .now) (a .bits .now) (a .kernel .now) (a .user .now) (a .marked .now) fit (λ i. k .before .before .before .before .slice-known2 .given i .fits)
-                        (λ i. k .before .before .before .slice-known3 .given i .fits) (λ i. k .before .before .slice-known4 .given i .fits) (λ i. k .before .slice-known5 .given i .fits)
-                        (λ i. k .slice-known6 .given i .fits) (a .words .now) (a .root .now) (a .from) (a .to) (λ z. h (ap (λ (l : Line). l .number) (e .0) ∙ z))
-                        in (
-                          e .1 .0 ∙ kept .0,
-                          (
-                            e .1 .1 .0 ∙ kept .1 .0,
-                            (
-                              e .1 .1 .1 .0 ∙ kept .1 .1 .0,
-                              (
-                                e .1 .1 .1 .1 .0 ∙ kept .1 .1 .1 .0,
-                                (e .1 .1 .1 .1 .1 .0 ∙ kept .1 .1 .1 .1 .0, (e .1 .1 .1 .1 .1 .1 .0 ∙ kept .1 .1 .1 .1 .1 .0, e .1 .1 .1 .1 .1 .1 .1 ∙ kept .1 .1 .1 .1 .1 .1)),
-                              ),
-                            ),
-                          ),
-                        ),
-                  ),
-                ),
-              ),
-            ),
-          ),
-        ),
-      ),
-    )
+    -- the bytes of each part are below 256
+    let k = d .before .before .before .before .before .before in
+    let refused =
+        refused-start (a .fields .now) (a .bits .now) (a .kernel .now) (a .user .now) (a .marked .now) fit (λ i. k .before .before .before .before .slice-known2 .given i .fits)
+        (λ i. k .before .before .before .slice-known3 .given i .fits) (λ i. k .before .before .slice-known4 .given i .fits) (λ i. k .before .slice-known5 .given i .fits)
+        (λ i. k .slice-known6 .given i .fits) (a .words .now) (a .root .now) (a .from) (a .to) e
+    in
+    rw fit (refused, e)
 
 pub gadulnos-start-spec : {M : Type 1} → statement M
 gadulnos-start-spec =
