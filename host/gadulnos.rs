@@ -422,7 +422,14 @@ impl<W: DerefMut<Target = [u64]>, B: DerefMut<Target = [u8]>> Board<W, B> {
         map_page(words, fields, bits, *root, virt, phys, writable, user)
     }
 
-    pub fn map_huge_page(&mut self, virt: u64, phys: u64, gigabyte: bool, writable: bool, user: bool) -> Line {
+    pub fn map_huge_page(
+        &mut self,
+        virt: u64,
+        phys: u64,
+        gigabyte: bool,
+        writable: bool,
+        user: bool,
+    ) -> Line {
         let Board { words, fields, bits, root, .. } = self;
         map_huge_page(words, fields, bits, *root, virt, phys, gigabyte, writable, user)
     }

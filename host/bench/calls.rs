@@ -1,7 +1,7 @@
 //! vmalloc, mmap and the faults.
 
 use crate::both::Both;
-use crate::table::{timed, Table};
+use crate::table::{mean_of, timed, Table};
 use crate::LARGE;
 use paper::PAGE;
 use rinux::paging::{PageMapper, PhysAddr, VirtAddr};
@@ -116,64 +116,71 @@ pub fn faults(table: &mut Table) {
     }
 }
 
-/// Each round has all the pages fault, then unmaps them and frees their frames.
+/// How often a round has all the pages fault.
+const CYCLES: u64 = 8;
+
+/// The pages fault, then are unmapped and their frames freed, outside the timed part.
 fn demand(table: &mut Table, marked: u64, main: bool) {
     let mut both = Both::start(LARGE);
     both.set_marked(marked);
     let port = &mut both.port;
+    let mut ours = || {
+        let time = timed(PAGES, |i| port.handle_page_fault(black_box(page(i)), 6));
+        for i in 0..PAGES {
+            let line = port.unmap_page(page(i));
+            port.deallocate_frame(line.value);
+        }
+        time
+    };
+    let mut rust = || {
+        let time = timed(PAGES, |i| page_fault::handle_page_fault(black_box(page(i)), 6));
+        // SAFETY: making a mapper only reads the lent root.
+        let mut mapper = unsafe { PageMapper::new() };
+        for i in 0..PAGES {
+            let taken = mapper.unmap_page(VirtAddr::new(page(i)));
+            frame::deallocate_frame(taken.expect("a page that faulted"));
+        }
+        time
+    };
     table.time(
         ("fault: a page on demand", format!("8192 frames, {marked} marked"), 1.0, main),
-        &mut || {
-            let time = timed(PAGES, |i| port.handle_page_fault(black_box(page(i)), 6));
-            for i in 0..PAGES {
-                let line = port.unmap_page(page(i));
-                port.deallocate_frame(line.value);
-            }
-            time
-        },
-        &mut || {
-            let time = timed(PAGES, |i| page_fault::handle_page_fault(black_box(page(i)), 6));
-            // SAFETY: making a mapper only reads the lent root.
-            let mut mapper = unsafe { PageMapper::new() };
-            for i in 0..PAGES {
-                let taken = mapper.unmap_page(VirtAddr::new(page(i)));
-                frame::deallocate_frame(taken.expect("a page that faulted"));
-            }
-            time
-        },
+        &mut || mean_of(CYCLES, &mut ours),
+        &mut || mean_of(CYCLES, &mut rust),
         None,
     );
     both.check();
 }
 
-/// Each round copies all the pages, then marks them again. Others are marked beside them.
+/// The pages are copied, then marked again, outside the timed part. Others are marked beside them.
 fn copy(table: &mut Table, marked: u64, main: bool) {
     let mut both = Both::start(LARGE);
     for i in 0..PAGES {
         both.port.handle_page_fault(page(i), 4);
         page_fault::handle_page_fault(page(i), 4).expect("a page on demand");
     }
-    both.check();
-    let list: Vec<u64> = (0..marked).map(page).collect();
+    // The tables above the temporary page.
+    both.port.map_page(paper::TEMPORARY, 0, false, false);
+    both.port.unmap_page(paper::TEMPORARY);
     // SAFETY: as above.
     let mut mapper = unsafe { PageMapper::new() };
     let temporary = VirtAddr::new(paper::TEMPORARY);
-    // The tables above the temporary page.
     mapper.map_page(temporary, PhysAddr::new(0), false, false).expect("room for tables");
     mapper.unmap_page(temporary).expect("a mapped page");
-    both.port.map_page(paper::TEMPORARY, 0, false, false);
-    both.port.unmap_page(paper::TEMPORARY);
+    both.check();
+    let list: Vec<u64> = (0..marked).map(page).collect();
     let (port, rust) = (&mut both.port, &mut both.rust);
+    let mut ours = || {
+        Both::mark(port, &list);
+        timed(PAGES, |i| port.handle_page_fault(black_box(page(i)), 7))
+    };
+    let mut rust = || {
+        rust.set_marked(&list);
+        timed(PAGES, |i| page_fault::handle_page_fault(black_box(page(i)), 7))
+    };
     table.time(
         ("fault: a copy", format!("{marked} pages marked"), 1.0, main),
-        &mut || {
-            Both::mark(port, &list);
-            timed(PAGES, |i| port.handle_page_fault(black_box(page(i)), 7))
-        },
-        &mut || {
-            rust.set_marked(&list);
-            timed(PAGES, |i| page_fault::handle_page_fault(black_box(page(i)), 7))
-        },
+        &mut || mean_of(CYCLES, &mut ours),
+        &mut || mean_of(CYCLES, &mut rust),
         None,
     );
     both.check();

@@ -33,6 +33,11 @@ pub fn timed<T>(count: u64, mut call: impl FnMut(u64) -> T) -> f64 {
     begun.elapsed().as_nanos() as f64 / count as f64
 }
 
+/// The mean of several times that a step takes, for calls that come in small batches only.
+pub fn mean_of(times: u64, mut step: impl FnMut() -> f64) -> f64 {
+    (0..times).map(|_| step()).sum::<f64>() / times as f64
+}
+
 fn median(mut times: Vec<f64>) -> f64 {
     times.sort_by(f64::total_cmp);
     times[times.len() / 2]
@@ -67,7 +72,10 @@ impl Table {
     }
 
     pub fn print(&self) {
-        println!("Nanoseconds a call, medians of {} rounds. `same` is the call written in Rust", self.rounds);
+        println!(
+            "Nanoseconds a call, medians of {} rounds. `same` is the call written in Rust",
+            self.rounds
+        );
         println!("with the tests that the port makes; ratios above their goal are marked.\n");
         self.print_rows(true);
         println!("\nHow the times grow.\n");

@@ -2,7 +2,7 @@
 
 use crate::both::Both;
 use crate::same;
-use crate::table::{timed, Table};
+use crate::table::{mean_of, timed, Table};
 use crate::LARGE;
 use paper::PAGE;
 use rinux::frame;
@@ -108,10 +108,13 @@ fn translate(table: &mut Table, both: &Both, on: String, main: bool) {
     );
 }
 
-/// Each round maps all the pages and unmaps them, one of the two being timed.
+/// How often a round maps all the pages and unmaps them.
+const CYCLES: u64 = 20;
+
+/// Each round unmaps all the pages and maps them again, one of the two being timed.
 fn map_and_unmap(table: &mut Table, both: &mut Both, on: String, main: bool) {
     for (what, map_timed) in [("map_page", true), ("unmap_page", false)] {
-        let pick = |mapped: f64, unmapped: f64| if map_timed { mapped } else { unmapped };
+        let pick = |unmapped: f64, mapped: f64| if map_timed { mapped } else { unmapped };
         let mut own = gadulnos::Board {
             words: both.port.words.clone(),
             fields: both.port.fields.clone(),
@@ -120,36 +123,36 @@ fn map_and_unmap(table: &mut Table, both: &mut Both, on: String, main: bool) {
             ..gadulnos::Board::lend(0)
         };
         let port = &mut both.port;
+        let mut ours = || {
+            let unmapped = timed(PAGES, |i| port.unmap_page(black_box(page(i))));
+            let mapped = timed(PAGES, |i| {
+                port.map_page(black_box(page(i)), black_box((i + 1) << 21), true, true)
+            });
+            pick(unmapped, mapped)
+        };
+        let mut rust = || {
+            // SAFETY: as above.
+            let mut mapper = unsafe { PageMapper::new() };
+            let unmapped = timed(PAGES, |i| mapper.unmap_page(VirtAddr::new(black_box(page(i)))));
+            let mapped = timed(PAGES, |i| {
+                let phys = PhysAddr::new(black_box((i + 1) << 21));
+                mapper.map_page(VirtAddr::new(black_box(page(i))), phys, true, true)
+            });
+            pick(unmapped, mapped)
+        };
+        let mut same = || {
+            let own = black_box(&mut own);
+            let unmapped = timed(PAGES, |i| same::unmap_page(own, black_box(page(i))));
+            let mapped = timed(PAGES, |i| {
+                same::map_page(own, black_box(page(i)), black_box((i + 1) << 21), true, true)
+            });
+            pick(unmapped, mapped)
+        };
         table.time(
             (what, on.clone(), 1.3, main),
-            &mut || {
-                let unmapped = timed(PAGES, |i| port.unmap_page(black_box(page(i))));
-                let mapped = timed(PAGES, |i| {
-                    let phys = black_box((i + 1) << 21);
-                    port.map_page(black_box(page(i)), phys, true, true)
-                });
-                pick(mapped, unmapped)
-            },
-            &mut || {
-                // SAFETY: as above.
-                let mut mapper = unsafe { PageMapper::new() };
-                let unmapped =
-                    timed(PAGES, |i| mapper.unmap_page(VirtAddr::new(black_box(page(i)))));
-                let mapped = timed(PAGES, |i| {
-                    let (virt, phys) = (VirtAddr::new(black_box(page(i))), (i + 1) << 21);
-                    mapper.map_page(virt, PhysAddr::new(black_box(phys)), true, true)
-                });
-                pick(mapped, unmapped)
-            },
-            Some(&mut || {
-                let unmapped =
-                    timed(PAGES, |i| same::unmap_page(black_box(&mut own), black_box(page(i))));
-                let mapped = timed(PAGES, |i| {
-                    let phys = black_box((i + 1) << 21);
-                    same::map_page(black_box(&mut own), black_box(page(i)), phys, true, true)
-                });
-                pick(mapped, unmapped)
-            }),
+            &mut || mean_of(CYCLES, &mut ours),
+            &mut || mean_of(CYCLES, &mut rust),
+            Some(&mut || mean_of(CYCLES, &mut same)),
         );
     }
 }

@@ -57,17 +57,13 @@ impl Kind {
     }
 }
 
-fn frames(board: &Board) -> Frames {
-    board.frames()
-}
-
 /// A change that leaves every record sound.
 fn odd(random: &mut Random, board: &mut Board) {
     match random.below(9) {
         0..=2 => entries(random, board),
         3 => marks(random, board),
         4 => {
-            let Frames { start_frame, total, .. } = frames(board);
+            let Frames { start_frame, total, .. } = board.frames();
             board.root = start_frame + random.below(total);
         }
         5 => board.kernel = kernel(random, board).pack(),
@@ -82,7 +78,7 @@ fn odd(random: &mut Random, board: &mut Board) {
 
 /// A few entries, or one or all frames full of them.
 fn entries(random: &mut Random, board: &mut Board) {
-    let Frames { start_frame, total, .. } = frames(board);
+    let Frames { start_frame, total, .. } = board.frames();
     let lent = total as usize * 512;
     match random.below(8) {
         0 => {
@@ -129,7 +125,7 @@ fn any_word(random: &mut Random, one_in: u64, start: u64, total: u64) -> u64 {
 /// Other marks, also past the frames; the counter follows.
 fn marks(random: &mut Random, board: &mut Board) {
     let Some(mut bitmap) = gadulnos::unpack_bitmap(&board.bits) else { return };
-    let mut record = frames(board);
+    let mut record = board.frames();
     match random.below(4) {
         0 => bitmap.fill_with(|| random.word()),
         1 => bitmap.fill(random.one_of(&[0, u64::MAX])),
@@ -168,7 +164,7 @@ fn region(random: &mut Random, board: &Board) -> (u64, u64) {
 
 /// An address whose indices lead along present entries, as far as there are any.
 fn walked(random: &mut Random, board: &Board) -> u64 {
-    let Frames { start_frame, total, .. } = frames(board);
+    let Frames { start_frame, total, .. } = board.frames();
     let mut addr = random.one_of(&[0, 0, u64::MAX << 48]);
     let mut table = board.root;
     for shift in [39, 30, 21, 12] {
@@ -262,7 +258,7 @@ fn marked(random: &mut Random, board: &Board) -> Marked {
 /// Breaks a part, mostly: total above 8192, lent words too few, frames ending above 2^52, root
 /// outside, another counter, or a list.
 fn broken(random: &mut Random, board: &mut Board) {
-    let mut record = frames(board);
+    let mut record = board.frames();
     let Frames { start_frame, total, allocated } = record;
     match random.below(8) {
         0 => {

@@ -100,7 +100,9 @@ impl Model {
     /// The three counts: free, allocated, total.
     pub fn counts(&self) -> [Line; 3] {
         match self.frames {
-            Some(Frames { total, allocated, .. }) if !frames_are_broken(self.frames, self.bitmap) => {
+            Some(Frames { total, allocated, .. })
+                if !frames_are_broken(self.frames, self.bitmap) =>
+            {
                 [total - allocated, allocated, total].map(Line::met)
             }
             _ => [Line::refused(BROKEN); 3],
@@ -111,7 +113,8 @@ impl Model {
     pub fn user_may(&mut self, virt: u64) -> [Line; 2] {
         [memory::USER, memory::USER | memory::WRITABLE].map(|bits| {
             let may = self.on_walk(|memory| {
-                let leaf = memory.leaf(virt).map_or(0, |(leaf, level)| if level == 3 { leaf } else { 0 });
+                let leaf =
+                    memory.leaf(virt).map_or(0, |(leaf, level)| if level == 3 { leaf } else { 0 });
                 Ok((leaf & bits == bits).into())
             });
             may.map_or_else(Line::refused, Line::met)

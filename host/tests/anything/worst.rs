@@ -37,7 +37,8 @@ pub fn check(report: &mut Report) {
             let begun = Instant::now();
             let result = release(tables, start);
             let took = begun.elapsed().as_secs_f64();
-            report.check(&format!("worst: {name}, from {start:x} to the end ({took:.3} s)"), result);
+            report
+                .check(&format!("worst: {name}, from {start:x} to the end ({took:.3} s)"), result);
         }
     }
     let begun = Instant::now();
@@ -107,7 +108,10 @@ fn nothing_left(port: &port::Port, start: u64) -> Result<(), String> {
     let pages = [0, PAGE, 1 << 21, 1 << 30, 1 << 39, 0xFFFF_FFC0_0000_0000, LAST - PAGE];
     for virt in pages.into_iter().filter(|&virt| virt >= start || LAST - start >= 1 << 48) {
         let line = port.translate(virt);
-        holds(line.number == 14 || line.number == 19, &format!("no page at {virt:x}, not {line:x?}"))?;
+        holds(
+            line.number == 14 || line.number == 19,
+            &format!("no page at {virt:x}, not {line:x?}"),
+        )?;
     }
     holds(port.frames().allocated <= 1, "one frame marked at most")
 }

@@ -52,7 +52,7 @@ impl Progress {
 }
 
 fn main() {
-    let options = Options::read("beside", "sequences", 6000);
+    let options = Options::read("beside", "sequences", 8000);
     guard::watch();
     let mut report = Report::default();
     let now = Instant::now();
@@ -69,7 +69,13 @@ fn main() {
 }
 
 /// A kind's share of the sequences, at least one.
-fn run(options: &Options, stream: u64, kind: Kind, seen: &mut Seen, progress: &mut Progress) -> Checked {
+fn run(
+    options: &Options,
+    stream: u64,
+    kind: Kind,
+    seen: &mut Seen,
+    progress: &mut Progress,
+) -> Checked {
     let share = (options.amount * kind.share()).div_ceil(100);
     let mut played = 0;
     for i in options.from..options.from + share {

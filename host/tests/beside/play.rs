@@ -28,7 +28,8 @@ pub fn sequence(random: &mut Random, kind: Kind, seen: &mut Seen) -> Checked {
         let short = minimise::shortest(&calls, &mut differs);
         let (from, to) = setting.memory;
         print!("{} calls, from {}, on memory {from:#x} to {to:#x}", short.len(), calls.len());
-        let near = if setting.near.is_some() { " and a state near one that calls lead to" } else { "" };
+        let near =
+            if setting.near.is_some() { " and a state near one that calls lead to" } else { "" };
         print!("{near}:\n{}", minimise::describe(&short));
         let why_short = replay(&setting, &short).err();
         println!("the Rust and the port: {}", why_short.unwrap_or_default());
@@ -94,14 +95,22 @@ fn compare(board: &Board, port: &Port) -> Result<(), String> {
 }
 
 /// One call on both.
-fn play_one(board: &mut Board, port: &mut Port, call: &Call, seen: &mut Seen) -> Result<(), String> {
+fn play_one(
+    board: &mut Board,
+    port: &mut Port,
+    call: &Call,
+    seen: &mut Seen,
+) -> Result<(), String> {
     let rare = rare(&board.state(), call);
     let outcome = board.play(call);
     let line = port::play(port, call);
     let number = u32::try_from(line.number).unwrap_or(u32::MAX);
     let Line { number: ours, value } = line;
     let theirs = outcome.key_line(call.kind());
-    holds(outcome.agrees(number, line.value), &format!("`{theirs}`, got number {ours} value {value:x}"))?;
+    holds(
+        outcome.agrees(number, line.value),
+        &format!("`{theirs}`, got number {ours} value {value:x}"),
+    )?;
     for name in [call.shape().name].into_iter().chain(rare) {
         *seen.entry(format!("{name} {number}")).or_default() += 1;
     }

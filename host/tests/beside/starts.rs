@@ -15,7 +15,8 @@ pub fn check(options: &Options) -> Checked {
     let bytes = [0, 1, PAGE - 1, PAGE, PAGE + 1, 2 * PAGE - 1, 2 * PAGE, 64 * PAGE, 65 * PAGE + 7];
     let large = [8191 * PAGE, 8192 * PAGE, 8192 * PAGE + PAGE - 1, 8193 * PAGE, 9000 * PAGE + 5];
     for bytes in bytes.into_iter().chain(large) {
-        let offsets = if bytes > 1 << 20 { &[0, PAGE - 1][..] } else { &[0, 1, PAGE / 2, PAGE - 1] };
+        let offsets =
+            if bytes > 1 << 20 { &[0, PAGE - 1][..] } else { &[0, 1, PAGE / 2, PAGE - 1] };
         for offset in offsets {
             let (from, to) = (0x10_0000 + offset, 0x10_0000 + offset + bytes);
             let extra = random.one_of(&[0, 1, 511, 512]);

@@ -58,11 +58,8 @@ fn main() {
 /// What the program prints for a tape that is written to it in pieces of so many bytes.
 fn printed(tape: &[u8], piece: usize) -> Result<String, String> {
     let say = |why: std::io::Error| format!("{PROGRAM}: {why}");
-    let mut child = Command::new(PROGRAM)
-        .stdin(Stdio::piped())
-        .stdout(Stdio::piped())
-        .spawn()
-        .map_err(say)?;
+    let mut child =
+        Command::new(PROGRAM).stdin(Stdio::piped()).stdout(Stdio::piped()).spawn().map_err(say)?;
     let mut input = child.stdin.take().ok_or("no standard input")?;
     let tape = tape.to_vec();
     // A program that ends before the tape does closes the pipe, so that a write fails.
@@ -190,10 +187,8 @@ fn draw_inside(random: &mut Random, generator: &mut Generator) -> Result<Vec<Cal
     let mut calls = Vec::new();
     for _ in 0..5 + random.below(60) {
         let call = generator.next(&board.state());
-        let inside = matches!(
-            domain::read(&board.state(), &call).verdict,
-            Verdict::Inside | Verdict::Edge
-        );
+        let inside =
+            matches!(domain::read(&board.state(), &call).verdict, Verdict::Inside | Verdict::Edge);
         if call.kind() > KINDS || !inside {
             continue;
         }

@@ -52,8 +52,11 @@ fn parts(options: &Options) -> Checked {
             gadulnos::entry_huge(word),
         ];
         equal_at(word, (bits, gadulnos::entry_addr(word)), pure::entry_parts(word))?;
-        let second =
-            (gadulnos::handler_present(word), gadulnos::handler_addr(word), gadulnos::handler_flags(word));
+        let second = (
+            gadulnos::handler_present(word),
+            gadulnos::handler_addr(word),
+            gadulnos::handler_flags(word),
+        );
         equal_at(word, second, pure::second_entry_parts(word))?;
     }
     Ok(words.len() as u64)
@@ -113,7 +116,11 @@ fn second(options: &Options) -> Checked {
     for phys in words(&mut random, 10 * options.amount) {
         for flags in [0, 1, 7, 0x1FF, 1 << 63, u64::MAX, random.word()] {
             let at = (phys, flags);
-            equal_at(at, gadulnos::handler_entry(phys, flags), pure::second_entry_word(phys, flags))?;
+            equal_at(
+                at,
+                gadulnos::handler_entry(phys, flags),
+                pure::second_entry_word(phys, flags),
+            )?;
             cases += 1;
         }
     }

@@ -111,7 +111,8 @@ pub fn state(port: &Port) -> Result<State<'_>, String> {
     let past = |count: u64, blank: &dyn Fn(usize) -> bool| {
         count <= SLOTS as u64 && (count as usize..SLOTS).all(blank)
     };
-    let blank_slot = |i: usize| kernel.slots[i].start | kernel.slots[i].size == 0 && !kernel.slots[i].used;
+    let blank_slot =
+        |i: usize| kernel.slots[i].start | kernel.slots[i].size == 0 && !kernel.slots[i].used;
     let blank_region = |i: usize| {
         let gadulnos::Region { start, size, prot, flags } = user.slots[i];
         start | size == 0 && prot | flags == 0

@@ -52,7 +52,8 @@ impl Model {
     /// The first path.
     pub fn fault(&mut self, addr: u64, code: u64) -> Answer {
         let whole = self.is_whole();
-        let marked = self.sound_marked().and_then(|list| if whole { Ok(list) } else { Err(BROKEN) })?;
+        let marked =
+            self.sound_marked().and_then(|list| if whole { Ok(list) } else { Err(BROKEN) })?;
         let [present, write, user, reserved, fetch] = [1, 2, 4, 8, 16].map(|bit| code & bit != 0);
         let page = page_of(addr);
         if reserved {

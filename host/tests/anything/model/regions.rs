@@ -169,13 +169,7 @@ fn merge(list: &mut Vec<Slot>) {
 }
 
 /// Where a region goes: '2, 3 for the range, 15'.
-fn choose(
-    list: &[Region],
-    next_addr: u64,
-    wish: Option<u64>,
-    size: u64,
-    flags: i32,
-) -> Answer {
+fn choose(list: &[Region], next_addr: u64, wish: Option<u64>, size: u64, flags: i32) -> Answer {
     let Some(addr) = wish else { return search(list, next_addr, size) };
     let fixed = flags & MAP_FIXED != 0;
     if addr % PAGE != 0 {
