@@ -3,68 +3,70 @@ use Prim.Native.Nat.{ℕ}
 use mathlib.Core.Path.{_≡_, refl, _∙_, ap}
 use mathlib.Core.Bool.{true}
 use mathlib.Core.List.{List}
+use lib.Dec.{eqb}
 use lib.ListN.{length}
 use borrow.Author.Tests.{eqb-true}
 use Rattle.bits.specs.Bit.{both}
 use Rattle.bits.proofs.Choice.{both-true}
-use Rattle.answer.specs.Numbers.{answerLine}
+use Rattle.answer.specs.Numbers.{brokenRecord, noFreeFrame, answerLine}
 use Rattle.answer.specs.declared.Line.{Line}
 use Rattle.packed.specs.Words.{pack}
+use Rattle.paging.specs.declared.Walked.the-variants.{Stop}
 use Rattle.paging.specs.Calls.{asAnswer}
-use Rattle.board.specs.Board.{Board, Did, start}
+use Rattle.board.specs.Board.{Board, Did, did, start}
 use Rattle.board.proofs.Outcomes.{start-cases}
 use Rattle.layout.specs.Parts.{framesFit, fieldsOut}
-use Rattle.layout.specs.Lists.{vmFit, vmOut, mmapFit, mmapOut, markedFit, markedOut}
-use Rattle.layout.proofs.RoundTrip.{Bytes, fields-back, bits-back, vm-back, mmap-back, marked-back}
-use Rattle.desk.specs.Board.{boardIn, boardFit}
+use Rattle.layout.specs.Lists.{vmOut, mmapFit, mmapOut, markedFit, markedOut}
+use Rattle.layout.proofs.RoundTrip.{Bytes, fields-back, bits-back, mmap-back, marked-back}
+use Rattle.desk.specs.Board.{boardIn, boardFit, leftOf}
 
 module _ (fields bits kernel user marked : List ℕ) (fit : boardFit fields bits kernel user marked ≡ true) where
-  apart : (framesFit fields bits ≡ true) × (both (vmFit kernel) (both (mmapFit user) (markedFit marked)) ≡ true)
-  apart = both-true (framesFit fields bits) (both (vmFit kernel) (both (mmapFit user) (markedFit marked))) fit
+  apart : (framesFit fields bits ≡ true) × (both (eqb (length kernel) 6152) (both (mmapFit user) (markedFit marked)) ≡ true)
+  apart = both-true (framesFit fields bits) (both (eqb (length kernel) 6152) (both (mmapFit user) (markedFit marked))) fit
 
-  lists : (vmFit kernel ≡ true) × ((length user ≡ 6160) × (length marked ≡ 2056))
+  lists : (length kernel ≡ 6152) × ((length user ≡ 6160) × (length marked ≡ 2056))
   lists =
-      let h = both-true (vmFit kernel) (both (mmapFit user) (markedFit marked)) (apart .1) in
+      let h = both-true (eqb (length kernel) 6152) (both (mmapFit user) (markedFit marked)) (apart .1) in
       let k = both-true (mmapFit user) (markedFit marked) (h .1) in
-      (h .0, (eqb-true _ 6160 (k .0), eqb-true _ 2056 (k .1)))
+      (eqb-true _ 6152 (h .0), (eqb-true _ 6160 (k .0), eqb-true _ 2056 (k .1)))
 
   pub lengths-board : (length fields ≡ 24) × ((length bits ≡ 1024) × ((length kernel ≡ 6152) × ((length user ≡ 6160) × (length marked ≡ 2056))))
   lengths-board =
       let f = both-true _ _ (apart .0) in
-      (eqb-true _ 24 (f .0), (eqb-true _ 1024 (f .1), (eqb-true _ 6152 (both-true _ _ (lists .0) .0), lists .1)))
+      (eqb-true _ 24 (f .0), (eqb-true _ 1024 (f .1), lists))
 
-  module _ (f : Bytes fields) (b : Bytes bits) (k : Bytes kernel) (u : Bytes user) (m : Bytes marked) (words : List ℕ) (root from to : ℕ) where
+  module _ (f : Bytes fields) (b : Bytes bits) (u : Bytes user) (m : Bytes marked) (words : List ℕ) (root from to : ℕ) where
     abbrev lent : Board
     lent = boardIn words fields bits root kernel user marked
 
     -- a board packed into the same parts again
-    abbrev Kept : Board → Type 0
-    Kept s =
+    abbrev Kept : Did → Type 0
+    Kept d = let s = d .board in
         (s .mem .words ≡ words) × (fieldsOut (s .mem .frames .fa) ≡ fields) × (pack (s .mem .frames .bits) ≡ bits) × (s .root ≡ root)
-        × (vmOut (s .kernel) ≡ kernel) × (mmapOut (s .user) (s .next) ≡ user) × (markedOut (s .marked) ≡ marked)
+        × (leftOf (asAnswer (d .answer)) kernel (vmOut (s .kernel)) ≡ kernel) × (mmapOut (s .user) (s .next) ≡ user) × (markedOut (s .marked) ≡ marked)
 
-    as-before : Kept lent
-    as-before =
+    as-before : (n : ℕ) → Kept (did (Stop n) lent)
+    as-before n =
         let l = lengths-board in (
           refl,
           fields-back fields (l .0) f,
           bits-back bits (l .1 .0) b,
           refl,
-          vm-back kernel (lists .0) k,
+          refl,
           mmap-back user (lists .1 .0) u,
           marked-back marked (lists .1 .1) m,
         )
 
-    refused-keeps : (answerLine (asAnswer (start lent from to .answer)) .number ≡ 0 → ⊥) → Kept (start lent from to .board)
+    refused-keeps : (answerLine (asAnswer (start lent from to .answer)) .number ≡ 0 → ⊥) → Kept (start lent from to)
     refused-keeps =
-        start-cases lent from to (λ (d : Did). (answerLine (asAnswer (d .answer)) .number ≡ 0 → ⊥) → Kept (d .board)) (λ _ _ _ _ h. absurd (h refl)) (λ _. as-before)
-        (λ _. as-before)
+        start-cases lent from to (λ (d : Did). (answerLine (asAnswer (d .answer)) .number ≡ 0 → ⊥) → Kept d) (λ _ _ _ _ h. absurd (h refl)) (λ _. as-before brokenRecord)
+        (λ _. as-before noFreeFrame)
 
     -- .. so that all that a refused start leaves is what it was lent
     pub refused-start : {line : Line} {ws fs bs ks us ms : List ℕ} {r : ℕ} → let s = start lent from to .board in
         (line ≡ answerLine (asAnswer (start lent from to .answer)))
         × ((ws ≡ s .mem .words) × ((fs ≡ fieldsOut (s .mem .frames .fa)) × ((bs ≡ pack (s .mem .frames .bits)) × ((r ≡ s .root)
-        × ((ks ≡ vmOut (s .kernel)) × ((us ≡ mmapOut (s .user) (s .next)) × (ms ≡ markedOut (s .marked))))))))
+        × ((ks ≡ leftOf (asAnswer (start lent from to .answer)) kernel (vmOut (s .kernel))) × ((us ≡ mmapOut (s .user) (s .next)) × (ms ≡ markedOut (s .marked))))))))
         → (line .number ≡ 0 → ⊥) → (ws ≡ words) × (fs ≡ fields) × (bs ≡ bits) × (r ≡ root) × (ks ≡ kernel) × (us ≡ user) × (ms ≡ marked)
     refused-start (e, (w, (x, (y, (z, (v, (p, q))))))) h =
         let same = refused-keeps (λ o. h (ap (λ (l : Line). l .number) e ∙ o)) in

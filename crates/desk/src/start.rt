@@ -1,9 +1,11 @@
 // The start of a board: the frames are lent as words, the root as its number, and the other parts as packed bytes.
 use address::Frame;
+use answer::Answer;
 use answer::Line;
 use board::Records;
 use layout::lists;
 use layout::parts;
+use vmalloc::VMAllocator;
 ghost use mathlib.Core.Path.{_≡_};
 ghost use lib.ListN.{length};
 ghost use Rattle.bits.specs.Bit.{unless};
@@ -16,16 +18,16 @@ ghost use Rattle.mmap.specs.List.{slotsOf as mappedSlots};
 ghost use Rattle.board.specs.Board.{start as startOf};
 ghost use Rattle.layout.specs.Parts.{fieldsOut};
 ghost use Rattle.layout.specs.Lists.{vmOut, mmapOut, markedOut, markedSlots};
-ghost use Rattle.desk.specs.Board.{boardIn, recordsIn, boardFit};
+ghost use Rattle.desk.specs.Board.{boardIn, recordsIn, boardFit, leftOf};
 
-// Whether all five parts stand for records.
+// Whether all five parts have their lengths. What the lists hold does not matter to a start.
 fn fits(fields: &[u8], bits: &[u8], kernel: &[u8], user: &[u8], marked: &[u8]) -> bool
     ensures { λ r. ⌜ r ≡ boardFit (now (fields .entry)) (now (bits .entry)) (now (kernel .entry)) (now (user .entry)) (now (marked .entry)) ⌝ }
 {
     if !parts::frames_fit(fields, bits) {
         return false;
     }
-    if !lists::vm_fits(kernel) {
+    if kernel.len() != 6152 {
         return false;
     }
     if !lists::mmap_fits(user) {
@@ -54,23 +56,24 @@ fn get_records(fields: &[u8], root: u64, kernel: &[u8], user: &[u8], marked: &[u
     }
 }
 
-fn put_lists(
-    kernel: &mut [u8],
-    user: &mut [u8],
-    marked: &mut [u8],
-    pages: &[u64; 256],
-    left: Records,
-)
+// The lists that a start leaves. The old vmalloc list may stand for no record, so that only a met start writes it.
+fn put_kernel(kernel: &mut [u8], a: Answer, list: VMAllocator)
     requires { ⌜ length (now kernel) ≡ 6152 ⌝ }
+    ensures { λ _. ⌜ now (kernel .exit) ≡ leftOf a (now (kernel .entry)) (vmOut (slotsOf list)) ⌝ }
+{
+    match a {
+        Answer::Met => lists::put_vm(kernel, list),
+        Answer::Refused(_) => {}
+    }
+}
+
+fn put_lists(user: &mut [u8], marked: &mut [u8], pages: &[u64; 256], left: Records)
     requires { ⌜ length (now user) ≡ 6160 ⌝ }
     requires { ⌜ length (now marked) ≡ 2056 ⌝ }
-    ensures { λ _. ⌜ now (kernel .exit) ≡ vmOut (slotsOf (left .kernel)) ⌝ }
     ensures { λ _. ⌜ now (user .exit) ≡ mmapOut (mappedSlots (left .user)) (left .user .next) ⌝ }
     ensures { λ _. ⌜ now (marked .exit) ≡ markedOut (markedSlots (now (pages .entry)) (left .count)) ⌝ }
 {
-    let list = left.kernel;
     let mapped = left.user;
-    lists::put_vm(kernel, list);
     lists::put_mmap(user, mapped);
     lists::put_marked(marked, pages, left.count);
 }
@@ -96,7 +99,7 @@ fn start_in(
     ensures { λ _. ⌜ now (fields .exit) ≡ fieldsOut (startOf (boardIn (now (words .entry)) (now (fields .entry)) (now (bits .entry)) (now (root .entry)) (now (kernel .entry)) (now (user .entry)) (now (marked .entry))) from to .board .mem .frames .fa) ⌝ }
     ensures { λ _. ⌜ now (bits .exit) ≡ pack (startOf (boardIn (now (words .entry)) (now (fields .entry)) (now (bits .entry)) (now (root .entry)) (now (kernel .entry)) (now (user .entry)) (now (marked .entry))) from to .board .mem .frames .bits) ⌝ }
     ensures { λ _. ⌜ now (root .exit) ≡ startOf (boardIn (now (words .entry)) (now (fields .entry)) (now (bits .entry)) (now (root .entry)) (now (kernel .entry)) (now (user .entry)) (now (marked .entry))) from to .board .root ⌝ }
-    ensures { λ _. ⌜ now (kernel .exit) ≡ vmOut (startOf (boardIn (now (words .entry)) (now (fields .entry)) (now (bits .entry)) (now (root .entry)) (now (kernel .entry)) (now (user .entry)) (now (marked .entry))) from to .board .kernel) ⌝ }
+    ensures { λ _. ⌜ now (kernel .exit) ≡ leftOf (asAnswer (startOf (boardIn (now (words .entry)) (now (fields .entry)) (now (bits .entry)) (now (root .entry)) (now (kernel .entry)) (now (user .entry)) (now (marked .entry))) from to .answer)) (now (kernel .entry)) (vmOut (startOf (boardIn (now (words .entry)) (now (fields .entry)) (now (bits .entry)) (now (root .entry)) (now (kernel .entry)) (now (user .entry)) (now (marked .entry))) from to .board .kernel)) ⌝ }
     ensures { λ _. ⌜ now (user .exit) ≡ mmapOut (startOf (boardIn (now (words .entry)) (now (fields .entry)) (now (bits .entry)) (now (root .entry)) (now (kernel .entry)) (now (user .entry)) (now (marked .entry))) from to .board .user) (startOf (boardIn (now (words .entry)) (now (fields .entry)) (now (bits .entry)) (now (root .entry)) (now (kernel .entry)) (now (user .entry)) (now (marked .entry))) from to .board .next) ⌝ }
     ensures { λ _. ⌜ now (marked .exit) ≡ markedOut (startOf (boardIn (now (words .entry)) (now (fields .entry)) (now (bits .entry)) (now (root .entry)) (now (kernel .entry)) (now (user .entry)) (now (marked .entry))) from to .board .marked) ⌝ }
 {
@@ -111,7 +114,9 @@ fn start_in(
     parts::put_fields(fields, frames);
     parts::put_bits(bits, &bitmap);
     *root = first.0;
-    put_lists(kernel, user, marked, &pages, left);
+    let list = left.kernel;
+    put_kernel(kernel, a, list);
+    put_lists(user, marked, &pages, left);
     answer::answer_line(a)
 }
 
@@ -133,7 +138,7 @@ pub extern "C" fn gadulnos_start(
     ensures { λ _. ⌜ now (fields .exit) ≡ unless (boardFit (now (fields .entry)) (now (bits .entry)) (now (kernel .entry)) (now (user .entry)) (now (marked .entry))) (now (fields .entry)) (fieldsOut (startOf (boardIn (now (words .entry)) (now (fields .entry)) (now (bits .entry)) (now (root .entry)) (now (kernel .entry)) (now (user .entry)) (now (marked .entry))) from to .board .mem .frames .fa)) ⌝ }
     ensures { λ _. ⌜ now (bits .exit) ≡ unless (boardFit (now (fields .entry)) (now (bits .entry)) (now (kernel .entry)) (now (user .entry)) (now (marked .entry))) (now (bits .entry)) (pack (startOf (boardIn (now (words .entry)) (now (fields .entry)) (now (bits .entry)) (now (root .entry)) (now (kernel .entry)) (now (user .entry)) (now (marked .entry))) from to .board .mem .frames .bits)) ⌝ }
     ensures { λ _. ⌜ now (root .exit) ≡ unless (boardFit (now (fields .entry)) (now (bits .entry)) (now (kernel .entry)) (now (user .entry)) (now (marked .entry))) (now (root .entry)) (startOf (boardIn (now (words .entry)) (now (fields .entry)) (now (bits .entry)) (now (root .entry)) (now (kernel .entry)) (now (user .entry)) (now (marked .entry))) from to .board .root) ⌝ }
-    ensures { λ _. ⌜ now (kernel .exit) ≡ unless (boardFit (now (fields .entry)) (now (bits .entry)) (now (kernel .entry)) (now (user .entry)) (now (marked .entry))) (now (kernel .entry)) (vmOut (startOf (boardIn (now (words .entry)) (now (fields .entry)) (now (bits .entry)) (now (root .entry)) (now (kernel .entry)) (now (user .entry)) (now (marked .entry))) from to .board .kernel)) ⌝ }
+    ensures { λ _. ⌜ now (kernel .exit) ≡ unless (boardFit (now (fields .entry)) (now (bits .entry)) (now (kernel .entry)) (now (user .entry)) (now (marked .entry))) (now (kernel .entry)) (leftOf (asAnswer (startOf (boardIn (now (words .entry)) (now (fields .entry)) (now (bits .entry)) (now (root .entry)) (now (kernel .entry)) (now (user .entry)) (now (marked .entry))) from to .answer)) (now (kernel .entry)) (vmOut (startOf (boardIn (now (words .entry)) (now (fields .entry)) (now (bits .entry)) (now (root .entry)) (now (kernel .entry)) (now (user .entry)) (now (marked .entry))) from to .board .kernel))) ⌝ }
     ensures { λ _. ⌜ now (user .exit) ≡ unless (boardFit (now (fields .entry)) (now (bits .entry)) (now (kernel .entry)) (now (user .entry)) (now (marked .entry))) (now (user .entry)) (mmapOut (startOf (boardIn (now (words .entry)) (now (fields .entry)) (now (bits .entry)) (now (root .entry)) (now (kernel .entry)) (now (user .entry)) (now (marked .entry))) from to .board .user) (startOf (boardIn (now (words .entry)) (now (fields .entry)) (now (bits .entry)) (now (root .entry)) (now (kernel .entry)) (now (user .entry)) (now (marked .entry))) from to .board .next)) ⌝ }
     ensures { λ _. ⌜ now (marked .exit) ≡ unless (boardFit (now (fields .entry)) (now (bits .entry)) (now (kernel .entry)) (now (user .entry)) (now (marked .entry))) (now (marked .entry)) (markedOut (startOf (boardIn (now (words .entry)) (now (fields .entry)) (now (bits .entry)) (now (root .entry)) (now (kernel .entry)) (now (user .entry)) (now (marked .entry))) from to .board .marked)) ⌝ }
 {

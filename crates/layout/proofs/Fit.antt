@@ -1,14 +1,14 @@
 -- Parts that fit their layout, by the tests that code makes.
 use Prim.Native.Nat.{ℕ}
-use mathlib.Core.Path.{_≡_, refl, sym, _∙_, ap}
+use mathlib.Core.Path.{_≡_, refl}
 use mathlib.Core.Bool.{Bool, true, false, not}
 use mathlib.Core.List.{List}
 use lib.Dec.{eqb}
 use lib.ListN.{length, drop}
-use borrow.Author.Tests.{eqb-true, eq-eqb, ne-eqb}
-use Rattle.bits.specs.Bit.{both, unless}
+use borrow.Author.Tests.{eqb-true}
+use Rattle.bits.specs.Bit.{both}
 use Rattle.bits.proofs.Choice.{both-true}
-use Rattle.frame.proofs.Laws.{passed, failed}
+use Rattle.frame.proofs.Laws.{passed}
 use Rattle.layout.specs.Parts.{framesFit}
 use Rattle.layout.specs.Lists.{usedIsFlag, vmFit, mmapFit, markedFit}
 

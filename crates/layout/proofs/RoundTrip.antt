@@ -1,29 +1,30 @@
 -- Each part of the state comes back: bytes that are unpacked and packed again, and records that are packed and unpacked again.
-use Prim.Native.Nat.{ℕ, zero, suc, _+_, _*_, _%_, _/_, _^_, _<_, _≤_}
+use Prim.Native.Nat.{ℕ, zero, suc, _+_, _*_, _/_, _^_, _<_, _≤_}
 use mathlib.Core.Path.{_≡_, refl, sym, _∙_, ap, subst}
 use mathlib.Core.Bool.{Bool, true, false}
-use mathlib.Core.List.{List, [], _∷_, _++_, append-assoc, append-nil}
+use mathlib.Core.List.{List, [], _∷_, _++_, append-assoc}
 use native.Mathlib.Omega.{arith}
 use lib.Dec.{eqb, leb}
 use lib.ListN.{length, drop, getD, length-append, length-drop}
 use lib.Seq.{drop-at, getD-drop}
-use borrow.Author.Tests.{eqb-true, leb-true}
-use mir.Facts.{toZ-ofZ, ofZ-toZ, fits-of-lt, fits-lt-pow, fits-ofZ}
+use borrow.Author.Tests.{eq-eqb, eqb-true, le-leb, leb-true}
+use mir.Facts.{toZ-ofZ, ofZ-toZ, fits-of-lt, fits-ofZ}
 use mir.Val.{Fits, SFits, ofZ, toZ}
 use mir.Syntax.{w32}
-use Rattle.bits.specs.Bit.{both, one}
+use Rattle.bits.specs.Bit.{one}
 use Rattle.bits.proofs.Choice.{both-true}
 use Rattle.packed.specs.Words.{number, bytes, pack, unpack}
 use Rattle.packed.specs.Records.{records, packed}
-use Rattle.packed.proofs.Words.{length-bytes, number-four, number-eight, unpack-pack, pack-unpack}
+use Rattle.packed.proofs.Records.{length-packed}
+use Rattle.packed.proofs.Words.{length-bytes, length-pack, number-four, number-eight, unpack-pack, pack-unpack}
 use Rattle.slots.specs.Slots.{Slots}
 use Rattle.frame.specs.declared.FrameAllocator.{FrameAllocator}
 use Rattle.vmalloc.specs.declared.VMRegion.{VMRegion}
 use Rattle.vmalloc.specs.Regions.{noSlot}
 use Rattle.mmap.specs.declared.MappedRegion.{MappedRegion}
 use Rattle.mmap.specs.Regions.{noSlot as noMapped}
-use Rattle.layout.specs.Parts.{fieldsIn, fieldsOut}
-use Rattle.layout.specs.Lists.{vmRegionIn, vmRegionOut, usedIsFlag, vmIn, vmOut, vmFit, mappedIn, mappedOut, mmapIn, nextIn, mmapOut, markedIn, markedOut}
+use Rattle.layout.specs.Parts.{fieldsIn, fieldsOut, framesFit}
+use Rattle.layout.specs.Lists.{vmRegionIn, vmRegionOut, usedIsFlag, vmIn, vmOut, vmFit, mappedIn, mappedOut, mmapIn, nextIn, mmapOut, mmapFit, markedIn, markedOut, markedFit}
 use Rattle.layout.proofs.Slots.{further, length-vm, length-mapped}
 
 -- bytes, and numbers of 64 bits
@@ -104,7 +105,7 @@ number-kept x bs h =
     let n = length-bytes 8 x in
     front 8 (bytes 8 x) bs (omega arith) ∙ sym (front 8 (bytes 8 x) [] (omega arith)) ∙ alone-kept x h
 
-module _ (x y z : ℕ) (bs : List ℕ) (h : x < 2 ^ 64) (k : y < 2 ^ 64) where
+module _ (x y z : ℕ) (bs : List ℕ) where
   abbrev text : List ℕ
   text = triple x y z ++ bs
 
@@ -117,11 +118,11 @@ module _ (x y z : ℕ) (bs : List ℕ) (h : x < 2 ^ 64) (k : y < 2 ^ 64) where
   behind-two : drop 16 text ≡ bytes 8 z ++ bs
   behind-two = further 8 8 16 text refl ∙ ap (drop 8) behind-one ∙ drop-at (bytes 8 y) (bytes 8 z ++ bs) 8 (length-bytes 8 y)
 
-  first-kept : number 8 text ≡ x
-  first-kept = ap (number 8) apart ∙ number-kept x (bytes 8 y ++ (bytes 8 z ++ bs)) h
+  first-kept : x < 2 ^ 64 → number 8 text ≡ x
+  first-kept h = ap (number 8) apart ∙ number-kept x (bytes 8 y ++ (bytes 8 z ++ bs)) h
 
-  second-kept : number 8 (drop 8 text) ≡ y
-  second-kept = ap (number 8) behind-one ∙ number-kept y (bytes 8 z ++ bs) k
+  second-kept : y < 2 ^ 64 → number 8 (drop 8 text) ≡ y
+  second-kept h = ap (number 8) behind-one ∙ number-kept y (bytes 8 z ++ bs) h
 
 -- ---- slots of three numbers each
 
@@ -176,19 +177,19 @@ vm-back bs fit b =
 abbrev pub VmFits : VMRegion → Type 0
 VmFits r = (r .start < 2 ^ 64) × (r .size < 2 ^ 64)
 
-vm-region-kept : (r : VMRegion) (bs : List ℕ) → VmFits r → vmRegionIn (vmRegionOut r ++ bs) ≡ r
-vm-region-kept r bs (h, k) =
-    let z = one (r .used) in
-    let third : number 8 (drop 16 (vmRegionOut r ++ bs)) ≡ z = ap (number 8) (behind-two (r .start) (r .size) z bs h k) ∙ number-kept z bs (small (r .used)) in
-    λ j. record {
-      start = first-kept (r .start) (r .size) z bs h k j;
-      size = second-kept (r .start) (r .size) z bs h k j;
-      used = (ap (λ (n : ℕ). eqb n 1) third ∙ flag-kept (r .used)) j;
-    }
+flag-of : (r : VMRegion) (bs : List ℕ) → number 8 (drop 16 (vmRegionOut r ++ bs)) ≡ one (r .used)
+flag-of r bs = ap (number 8) (behind-two (r .start) (r .size) (one (r .used)) bs) ∙ number-kept (one (r .used)) bs (small (r .used))
   where
     small : (b : Bool) → one b < 2 ^ 64
     small true = omega arith
     small false = omega arith
+
+vm-region-kept : (r : VMRegion) (bs : List ℕ) → VmFits r → vmRegionIn (vmRegionOut r ++ bs) ≡ r
+vm-region-kept r bs (h, k) = λ j. record {
+  start = first-kept (r .start) (r .size) (one (r .used)) bs h j;
+  size = second-kept (r .start) (r .size) (one (r .used)) bs k j;
+  used = (ap (λ (n : ℕ). eqb n 1) (flag-of r bs) ∙ flag-kept (r .used)) j;
+}
 
 pub vm-kept : (s : Slots VMRegion) → s .count < 2 ^ 64 → length (s .slots) ≡ 256 → ((i : ℕ) → VmFits (getD (s .slots) i noSlot)) → vmIn (vmOut s) ≡ s
 vm-kept s h n fits =
@@ -259,11 +260,11 @@ two-kept p q bs h k =
 mapped-kept : (r : MappedRegion) (bs : List ℕ) → MappedFits r → mappedIn (mappedOut r ++ bs) ≡ r
 mapped-kept r bs (h, (k, (p, f))) =
     let z = ofZ w32 (r .prot) + ofZ w32 (r .flags) * 2 ^ 32 in
-    let back : drop 16 (mappedOut r ++ bs) ≡ bytes 8 z ++ bs = behind-two (r .start) (r .size) z bs h k in
+    let back : drop 16 (mappedOut r ++ bs) ≡ bytes 8 z ++ bs = behind-two (r .start) (r .size) z bs in
     let two = two-kept (ofZ w32 (r .prot)) (ofZ w32 (r .flags)) bs (fits-ofZ p .fits) (fits-ofZ f .fits) in
     λ j. record {
-      start = first-kept (r .start) (r .size) z bs h k j;
-      size = second-kept (r .start) (r .size) z bs h k j;
+      start = first-kept (r .start) (r .size) z bs h j;
+      size = second-kept (r .start) (r .size) z bs k j;
       prot = (ap (λ (l : List ℕ). toZ w32 (number 4 l)) back ∙ ap (toZ w32) (two .0) ∙ toZ-ofZ p) j;
       flags = (ap (λ (l : List ℕ). toZ w32 (number 4 l)) (further 4 16 20 (mappedOut r ++ bs) refl ∙ ap (drop 4) back) ∙ ap (toZ w32) (two .1) ∙ toZ-ofZ f) j;
     }
@@ -300,3 +301,49 @@ marked-kept s h n fits = λ j. record {
       ∙ unpack-pack (s .slots) fits) j;
   count = number-kept (s .count) (pack (s .slots)) h j;
 }
+
+-- ---- what one call packs, the next call takes
+
+pub frames-fit-out : (fa : FrameAllocator) (ws : List ℕ) → length ws ≡ 128 → framesFit (fieldsOut fa) (pack ws) ≡ true
+frames-fit-out fa ws n =
+    rw (eq-eqb _ 24 (length-pack (fa .start ∷ fa .total ∷ fa .allocated ∷ [])), eq-eqb (length (pack ws)) 1024 (omega (arith, length-pack ws))) refl
+
+flags-out : (l : List VMRegion) → usedIsFlag (length l) (packed vmRegionOut l) ≡ true
+unfolding usedIsFlag packed
+flags-out [] = refl
+flags-out (r ∷ l) =
+    rw (flag-of r (packed vmRegionOut l), drop-at (vmRegionOut r) (packed vmRegionOut l) 24 (length-vm r), le-leb (one (r .used)) 1 (low (r .used)), flags-out l) refl
+  where
+    low : (b : Bool) → one b ≤ 1
+    low true = omega arith
+    low false = omega arith
+
+pub vm-fit-out : (s : Slots VMRegion) → length (s .slots) ≡ 256 → vmFit (vmOut s) ≡ true
+vm-fit-out s n =
+    let head = bytes 8 (s .count) in
+    let rest = packed vmRegionOut (s .slots) in
+    let long : length (head ++ rest) ≡ 6152 = omega (arith, length-append head rest, length-bytes 8 (s .count), length-packed vmRegionOut length-vm (s .slots)) in
+    let flags : usedIsFlag 256 (drop 8 (head ++ rest)) ≡ true =
+    ap (usedIsFlag 256) (drop-at head rest 8 (length-bytes 8 (s .count))) ∙ ap (λ (k : ℕ). usedIsFlag k rest) (sym n) ∙ flags-out (s .slots)
+    in
+    rw (eq-eqb (length (head ++ rest)) 6152 long, flags) refl
+
+pub mmap-fit-out : (s : Slots MappedRegion) (next : ℕ) → length (s .slots) ≡ 256 → mmapFit (mmapOut s next) ≡ true
+mmap-fit-out s next n =
+    let one = bytes 8 (s .count) in
+    let two = bytes 8 next in
+    let rest = packed mappedOut (s .slots) in
+    eq-eqb (length ((one ++ two) ++ rest)) 6160 (
+    omega (
+      arith,
+      length-append (one ++ two) rest,
+      length-append one two,
+      length-bytes 8 (s .count),
+      length-bytes 8 next,
+      length-packed mappedOut length-mapped (s .slots),
+    )
+    )
+
+pub marked-fit-out : (s : Slots ℕ) → length (s .slots) ≡ 256 → markedFit (markedOut s) ≡ true
+marked-fit-out s n =
+    eq-eqb (length (markedOut s)) 2056 (omega (arith, length-append (bytes 8 (s .count)) (pack (s .slots)), length-bytes 8 (s .count), length-pack (s .slots)))

@@ -4,14 +4,13 @@ use mathlib.Core.Path.{_≡_, refl, sym, _∙_, ap}
 use mathlib.Core.Bool.{Bool, true, false}
 use mathlib.Core.List.{List, [], _++_, append-nil}
 use native.Mathlib.Omega.{arith}
-use lib.Dec.{leb}
 use lib.ListN.{length, take, drop, length-append, length-drop, drop-of-length-le}
 use lib.Seq.{drop-drop, take-all, sets}
 use borrow.Rule.Slice.PartMut.{midOf, postOf, putMid}
 use borrow.Author.Tests.{le-leb, lt-leb}
 use mir.Val.{boolByte, ofZ}
 use mir.Syntax.{w32}
-use Rattle.bits.specs.Bit.{both, one}
+use Rattle.bits.specs.Bit.{one}
 use Rattle.packed.specs.Words.{number, bytes}
 use Rattle.packed.proofs.Words.{length-bytes}
 use Rattle.packed.proofs.Records.{sets-append}

@@ -226,5 +226,6 @@ fn frames_are_broken(frames: Option<Frames>, bitmap: Option<Bitmap>) -> bool {
 /// Whether a recorded region 'is unaligned, .. is empty or ends above 2^64-4096'.
 fn is_misplaced(start: u64, size: u64) -> bool {
     let end = u128::from(start) + u128::from(size);
-    start % PAGE != 0 || size % PAGE != 0 || size == 0 || end > u128::from(LAST)
+    let aligned = start.is_multiple_of(PAGE) && size.is_multiple_of(PAGE);
+    !aligned || size == 0 || end > u128::from(LAST)
 }

@@ -111,7 +111,7 @@ impl Memory<'_> {
 
     pub fn map_huge(&mut self, virt: u64, phys: u64, gigabyte: bool, entry: u64) -> Answer {
         let (size, depth): (u64, u32) = if gigabyte { (1 << 30, 2) } else { (1 << 21, 3) };
-        if virt % size != 0 || phys % size != 0 {
+        if !virt.is_multiple_of(size) || !phys.is_multiple_of(size) {
             return Err(4);
         }
         self.map(virt, depth, entry)

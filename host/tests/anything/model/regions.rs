@@ -114,7 +114,7 @@ impl Model {
 
     pub fn munmap(&mut self, addr: u64, size: u64) -> Answer {
         let (mut list, next_addr) = self.sound_user()?;
-        if size != 0 && addr % PAGE != 0 {
+        if size != 0 && !addr.is_multiple_of(PAGE) {
             return Err(2);
         }
         let size = rounded(size)?;

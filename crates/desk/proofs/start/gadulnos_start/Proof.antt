@@ -69,9 +69,9 @@ returns-2 c =
     -- the bytes of each part are below 256
     let k = d .before .before .before .before .before .before in
     let refused =
-        refused-start (a .fields .now) (a .bits .now) (a .kernel .now) (a .user .now) (a .marked .now) fit (λ i. k .before .before .before .before .slice-known2 .given i .fits)
-        (λ i. k .before .before .before .slice-known3 .given i .fits) (λ i. k .before .before .slice-known4 .given i .fits) (λ i. k .before .slice-known5 .given i .fits)
-        (λ i. k .slice-known6 .given i .fits) (a .words .now) (a .root .now) (a .from) (a .to) e
+    refused-start (a .fields .now) (a .bits .now) (a .kernel .now) (a .user .now) (a .marked .now) fit (λ i. k .before .before .before .before .slice-known2 .given i .fits)
+    (λ i. k .before .before .before .slice-known3 .given i .fits) (λ i. k .before .slice-known5 .given i .fits)
+    (λ i. k .slice-known6 .given i .fits) (a .words .now) (a .root .now) (a .from) (a .to) e
     in
     rw fit (refused, e)
 
