@@ -15,8 +15,12 @@ use tape::MunmapCall;
 use tape::Next;
 use vmalloc::VMAllocator;
 ghost use mathlib.Core.Path.{_≡_};
-ghost use Prim.Native.Nat.{_+_, _≤_};
+ghost use mathlib.Core.List.{List};
+ghost use Prim.Native.Nat.{ℕ, _+_, _≤_};
 ghost use lib.ListN.{length};
+ghost use Rattle.board.specs.Board.{boardOf};
+ghost use Rattle.tape.specs.declared.Call.{Call};
+ghost use Rattle.player.specs.Play.{turn, wishOf, play as playOf};
 
 // Board: 16 frames from 0x100000.
 const FIRST: u64 = 0x10_0000;
@@ -41,7 +45,9 @@ pub struct Played {
     pub records: Records,
 }
 
-fn play_vmalloc(words: &mut [u64], bitmap: &mut [u64; 128], records: Records, size: u64) -> Played {
+fn play_vmalloc(words: &mut [u64], bitmap: &mut [u64; 128], records: Records, size: u64) -> Played
+    ensures { λ r. ⌜ ((m : List ℕ) → turn (r .kind) (r .line) (boardOf (now (words .exit)) (now (bitmap .exit)) m (r .records)) ≡ playOf (boardOf (now (words .entry)) (now (bitmap .entry)) m records) (Call.Vmalloc size)) ⌝ }
+{
     let frames = records.frames;
     let root = records.root;
     let list = records.kernel;
@@ -63,7 +69,9 @@ fn play_vmalloc(words: &mut [u64], bitmap: &mut [u64; 128], records: Records, si
     }
 }
 
-fn play_vfree(words: &mut [u64], bitmap: &mut [u64; 128], records: Records, addr: u64) -> Played {
+fn play_vfree(words: &mut [u64], bitmap: &mut [u64; 128], records: Records, addr: u64) -> Played
+    ensures { λ r. ⌜ ((m : List ℕ) → turn (r .kind) (r .line) (boardOf (now (words .exit)) (now (bitmap .exit)) m (r .records)) ≡ playOf (boardOf (now (words .entry)) (now (bitmap .entry)) m records) (Call.Vfree addr)) ⌝ }
+{
     let frames = records.frames;
     let root = records.root;
     let list = records.kernel;
@@ -85,14 +93,18 @@ fn play_vfree(words: &mut [u64], bitmap: &mut [u64; 128], records: Records, addr
     }
 }
 
-fn wish_of(given: bool, addr: u64) -> Wish {
+fn wish_of(given: bool, addr: u64) -> Wish
+    ensures { λ r. ⌜ r ≡ wishOf given addr ⌝ }
+{
     if given {
         return Wish::Wished(addr);
     }
     Wish::Anywhere
 }
 
-fn play_mmap(words: &mut [u64], bitmap: &mut [u64; 128], records: Records, c: MmapCall) -> Played {
+fn play_mmap(words: &mut [u64], bitmap: &mut [u64; 128], records: Records, c: MmapCall) -> Played
+    ensures { λ r. ⌜ ((m : List ℕ) → turn (r .kind) (r .line) (boardOf (now (words .exit)) (now (bitmap .exit)) m (r .records)) ≡ playOf (boardOf (now (words .entry)) (now (bitmap .entry)) m records) (Call.Mmap c)) ⌝ }
+{
     let frames = records.frames;
     let root = records.root;
     let list = records.user;
@@ -130,7 +142,9 @@ fn play_munmap(
     bitmap: &mut [u64; 128],
     records: Records,
     c: MunmapCall,
-) -> Played {
+) -> Played
+    ensures { λ r. ⌜ ((m : List ℕ) → turn (r .kind) (r .line) (boardOf (now (words .exit)) (now (bitmap .exit)) m (r .records)) ≡ playOf (boardOf (now (words .entry)) (now (bitmap .entry)) m records) (Call.Munmap c)) ⌝ }
+{
     let frames = records.frames;
     let root = records.root;
     let list = records.user;
@@ -158,7 +172,9 @@ fn play_fault(
     marked: &mut [u64; 256],
     records: Records,
     c: FaultCall,
-) -> Played {
+) -> Played
+    ensures { λ r. ⌜ turn (r .kind) (r .line) (boardOf (now (words .exit)) (now (bitmap .exit)) (now (marked .exit)) (r .records)) ≡ playOf (boardOf (now (words .entry)) (now (bitmap .entry)) (now (marked .entry)) records) (Call.Fault c) ⌝ }
+{
     let frames = records.frames;
     let root = records.root;
     let did = fault::handle_page_fault(
@@ -188,7 +204,9 @@ fn play_fault(
     }
 }
 
-fn play_translate(words: &[u64], records: Records, addr: u64) -> Played {
+fn play_translate(words: &[u64], records: Records, addr: u64) -> Played
+    ensures { λ r. ⌜ ((b m : List ℕ) → turn (r .kind) (r .line) (boardOf (now (words .entry)) b m (r .records)) ≡ playOf (boardOf (now (words .entry)) b m records) (Call.Translate addr)) ⌝ }
+{
     let frames = records.frames;
     let root = records.root;
     let a = mapper::translate(words, frames.start, frames.total, root, VirtAddr(addr));
@@ -199,13 +217,16 @@ fn play_translate(words: &[u64], records: Records, addr: u64) -> Played {
     }
 }
 
-fn play(
+// One call, with the line that the key prints of it.
+pub fn play(
     words: &mut [u64],
     bitmap: &mut [u64; 128],
     marked: &mut [u64; 256],
     records: Records,
     call: Call,
-) -> Played {
+) -> Played
+    ensures { λ r. ⌜ turn (r .kind) (r .line) (boardOf (now (words .exit)) (now (bitmap .exit)) (now (marked .exit)) (r .records)) ≡ playOf (boardOf (now (words .entry)) (now (bitmap .entry)) (now (marked .entry)) records) call ⌝ }
+{
     match call {
         Call::Vmalloc(size) => play_vmalloc(words, bitmap, records, size),
         Call::Vfree(addr) => play_vfree(words, bitmap, records, addr),
