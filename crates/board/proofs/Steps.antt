@@ -25,8 +25,8 @@ use Rattle.paging.specs.declared.Walked.the-variants.{At, Stop}
 use Rattle.paging.specs.Walk.{place, Lent}
 use Rattle.paging.specs.Map.{clear}
 use Rattle.paging.proofs.Map.{taken-inside}
-use Rattle.vmalloc.specs.declared.VMAllocator.{VMAllocator}
-use Rattle.vmalloc.specs.List.{listOf, oneRegion}
+use Rattle.regions.specs.declared.VMAllocator.{VMAllocator}
+use Rattle.regions.specs.List.{listOf, oneRegion}
 use Rattle.mmap.specs.declared.MemoryMapper.{MemoryMapper}
 use Rattle.mmap.specs.Regions.{userStart}
 use Rattle.mmap.specs.List.{mapper, emptySlots}

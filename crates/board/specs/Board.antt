@@ -15,10 +15,10 @@ use Rattle.paging.specs.declared.Walked.the-variants.{At, Stop}
 use Rattle.paging.specs.Calls.{asAnswer}
 use Rattle.paging.specs.Map.{Memory, memory, zeroFrame}
 use Rattle.slots.specs.Slots.{Slots}
-use Rattle.vmalloc.specs.Regions.{window}
-use Rattle.vmalloc.specs.Regions.{noSlot as noVmSlot}
-use Rattle.vmalloc.specs.List.{slotsOf as kernelSlots, listOf}
-use Rattle.vmalloc.specs.declared.VMRegion.{VMRegion}
+use Rattle.regions.specs.Regions.{window}
+use Rattle.regions.specs.Regions.{noSlot as noVmSlot}
+use Rattle.regions.specs.List.{slotsOf as kernelSlots, listOf}
+use Rattle.regions.specs.declared.VMRegion.{VMRegion}
 use Rattle.mmap.specs.Regions.{userStart}
 use Rattle.mmap.specs.Regions.{noSlot as noMmapSlot}
 use Rattle.mmap.specs.List.{slotsOf as userSlots, mapper}

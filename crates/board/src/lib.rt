@@ -4,7 +4,7 @@ use address::FrameAnswer;
 use answer::Answer;
 use frame::FrameAllocator;
 use mmap::MemoryMapper;
-use vmalloc::VMAllocator;
+use regions::VMAllocator;
 ghost use mathlib.Core.Path.{_≡_};
 ghost use lib.ListN.{length, replicate};
 ghost use Prim.Native.Nat.{_≤_};

@@ -14,7 +14,7 @@ use Rattle.frame.specs.Frames.{init, isAllocated}
 use Rattle.frame.proofs.Laws.{inside-low, inside-high, reads-outside}
 use Rattle.answer.specs.declared.FlagAnswer.the-variants.{Flag}
 use Rattle.slots.specs.Slots.{listed, every}
-use Rattle.vmalloc.specs.Regions.{firstFit}
+use Rattle.regions.specs.Regions.{firstFit}
 use Rattle.vmalloc.specs.Calls.{vmalloc}
 use Rattle.mmap.specs.declared.MappedRegion.{MappedRegion}
 use Rattle.mmap.specs.Regions.{inTheWay, searchFrom, risingFrom, wellPlacedRegion, soundMappings, holds}

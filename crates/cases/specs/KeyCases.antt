@@ -13,7 +13,7 @@ use Rattle.entry.specs.Entry.{indices, entryOf, hugeEntryOf}
 use Rattle.frame.specs.Frames.{Frames, init, sound, isAllocated}
 use Rattle.paging.specs.declared.Walked.the-variants.{At, Stop}
 use Rattle.slots.specs.Slots.{listed}
-use Rattle.vmalloc.specs.Regions.{window}
+use Rattle.regions.specs.Regions.{window}
 use Rattle.vmalloc.specs.Calls.{Kernel, soundKernel, vmalloc}
 use Rattle.vmalloc.specs.Calls.{did as didKernel}
 use Rattle.mmap.specs.Regions.{userStart, findFree, holds}

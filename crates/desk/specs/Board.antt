@@ -8,7 +8,7 @@ use Rattle.bits.specs.Bit.{both}
 use Rattle.answer.specs.declared.Answer.{Answer}
 use Rattle.answer.specs.declared.Answer.the-variants.{Met, Refused}
 use Rattle.paging.specs.Map.{memory}
-use Rattle.vmalloc.specs.List.{listOf}
+use Rattle.regions.specs.List.{listOf}
 use Rattle.mmap.specs.List.{mapper}
 use Rattle.board.specs.declared.Records.{Records}
 use Rattle.board.specs.Board.{Board}

@@ -1,6 +1,7 @@
 // The frame allocator's calls: the record and the bitmap are packed bytes.
 use address::Frame;
 use answer::Line;
+use frame::held;
 use layout::parts;
 ghost use mathlib.Core.Path.{_≡_};
 ghost use lib.ListN.{length};
@@ -23,7 +24,7 @@ fn init_in(fields: &mut [u8], bits: &mut [u8], from: u64, to: u64) -> Line
     ensures { λ _. ⌜ now (bits .exit) ≡ pack (initOf (framesIn (now (fields .entry)) (now (bits .entry))) from to .frames .bits) ⌝ }
 {
     let mut bitmap = parts::get_bits(bits);
-    let did = parts::get_fields(fields).init(&mut bitmap, from, to);
+    let did = held::init(parts::get_fields(fields), &mut bitmap, from, to);
     let left = did.frames;
     let a = did.answer;
     parts::put_fields(fields, left);
@@ -49,7 +50,7 @@ fn is_allocated_in(fields: &[u8], bits: &[u8], number: u64) -> Line
     ensures { λ r. ⌜ r ≡ flagLine (isAllocated (framesIn (now (fields .entry)) (now (bits .entry))) number) ⌝ }
 {
     let bitmap = parts::get_bits(bits);
-    answer::flag_line(parts::get_fields(fields).is_allocated(&bitmap, number))
+    answer::flag_line(held::is_allocated(parts::get_fields(fields), &bitmap, number))
 }
 
 #[no_mangle]
@@ -70,7 +71,7 @@ fn mark_allocated_in(fields: &mut [u8], bits: &mut [u8], number: u64) -> Line
     ensures { λ _. ⌜ now (bits .exit) ≡ pack (markAllocated (framesIn (now (fields .entry)) (now (bits .entry))) number .frames .bits) ⌝ }
 {
     let mut bitmap = parts::get_bits(bits);
-    let did = parts::get_fields(fields).mark_allocated(&mut bitmap, number);
+    let did = held::mark_allocated(parts::get_fields(fields), &mut bitmap, number);
     let left = did.frames;
     let a = did.answer;
     parts::put_fields(fields, left);
@@ -98,7 +99,7 @@ fn allocate_frame_in(fields: &mut [u8], bits: &mut [u8]) -> Line
     ensures { λ _. ⌜ now (bits .exit) ≡ pack (allocate (framesIn (now (fields .entry)) (now (bits .entry))) .frames .bits) ⌝ }
 {
     let mut bitmap = parts::get_bits(bits);
-    let did = parts::get_fields(fields).allocate_frame(&mut bitmap);
+    let did = held::allocate_frame(parts::get_fields(fields), &mut bitmap);
     let left = did.frames;
     let a = did.answer;
     parts::put_fields(fields, left);
@@ -126,7 +127,7 @@ fn deallocate_frame_in(fields: &mut [u8], bits: &mut [u8], number: u64) -> Line
     ensures { λ _. ⌜ now (bits .exit) ≡ pack (deallocate (framesIn (now (fields .entry)) (now (bits .entry))) number .frames .bits) ⌝ }
 {
     let mut bitmap = parts::get_bits(bits);
-    let did = parts::get_fields(fields).deallocate_frame(&mut bitmap, Frame(number));
+    let did = held::deallocate_frame(parts::get_fields(fields), &mut bitmap, Frame(number));
     let left = did.frames;
     let a = did.answer;
     parts::put_fields(fields, left);
@@ -152,7 +153,7 @@ fn free_frames_in(fields: &[u8], bits: &[u8]) -> Line
     ensures { λ r. ⌜ r ≡ countLine (freeFrames (framesIn (now (fields .entry)) (now (bits .entry)))) ⌝ }
 {
     let bitmap = parts::get_bits(bits);
-    answer::count_line(parts::get_fields(fields).free_frames(&bitmap))
+    answer::count_line(held::free_frames(parts::get_fields(fields), &bitmap))
 }
 
 #[no_mangle]
@@ -171,7 +172,7 @@ fn allocated_frames_in(fields: &[u8], bits: &[u8]) -> Line
     ensures { λ r. ⌜ r ≡ countLine (allocatedFrames (framesIn (now (fields .entry)) (now (bits .entry)))) ⌝ }
 {
     let bitmap = parts::get_bits(bits);
-    answer::count_line(parts::get_fields(fields).allocated_frames(&bitmap))
+    answer::count_line(held::allocated_frames(parts::get_fields(fields), &bitmap))
 }
 
 #[no_mangle]
@@ -190,7 +191,7 @@ fn total_frames_in(fields: &[u8], bits: &[u8]) -> Line
     ensures { λ r. ⌜ r ≡ countLine (totalFrames (framesIn (now (fields .entry)) (now (bits .entry)))) ⌝ }
 {
     let bitmap = parts::get_bits(bits);
-    answer::count_line(parts::get_fields(fields).total_frames(&bitmap))
+    answer::count_line(held::total_frames(parts::get_fields(fields), &bitmap))
 }
 
 #[no_mangle]

@@ -13,9 +13,10 @@ use Rattle.answer.specs.Numbers.{brokenRecord, listFull}
 use Rattle.answer.specs.declared.Answer.the-variants.{Met, Refused}
 use Rattle.answer.specs.declared.FlagAnswer.the-variants.{Flag, NoFlag}
 use Rattle.slots.specs.Slots.{Slots, listed}
-use Rattle.fault.specs.Marked.{slotsOf, pageOf, pagesRise, soundMarked, isListed, withPage, withoutPage, placeOf, putIn, takenOut, storePages, DidMark, didMark, marking, markCow, unmarkCow, isCow}
+use Rattle.slots.specs.Shifts.{putIn, takenOut}
+use Rattle.fault.specs.Marked.{slotsOf, pageOf, pagesRise, soundMarked, isListed, withPage, withoutPage, placeOf, storePages, DidMark, didMark, marking, markCow, unmarkCow, isCow}
 use Rattle.fault.proofs.Place.{place-le, place-under, with-there, with-new, without-none, without-there}
-use Rattle.fault.proofs.Shift.{store-same, count-in, count-out}
+use Rattle.slots.proofs.Stored.{store-count, stored-again, in-long, out-long}
 
 two : (a b : Bool) → a ≡ true → b ≡ true → both a b ≡ true
 two a b h k = rw (h, k)
@@ -61,7 +62,7 @@ module _ (s : Slots ℕ) (a : ℕ) where
   module _ (h : soundMarked s ≡ true) where
     pub mark-there : s .count ≤ length (s .slots) → isListed (pageOf a) (listed s) ≡ true → markCow s a ≡ didMark Met s
     unfolding markCow
-    mark-there l e = rw (h, e, with-there (pageOf a) 0 (listed s) (sound-rise s h) e) (ap (didMark Met) (store-same 0 (s .slots) (s .count) l))
+    mark-there l e = rw (h, e, with-there (pageOf a) 0 (listed s) (sound-rise s h) e) (ap (didMark Met) (stored-again 0 (s .slots) (s .count) l))
 
     module _ (e : isListed (pageOf a) (listed s) ≡ false) where
       pub mark-full : 256 ≤ length (listed s) → markCow s a ≡ didMark (Refused listFull) s
@@ -83,7 +84,7 @@ module _ (s : Slots ℕ) (a : ℕ) where
 -- the list without a page, where it is not listed, and where it is
 module _ (s : Slots ℕ) (v : ℕ) where
   pub stored-none : s .count ≤ length (s .slots) → isListed v (listed s) ≡ false → storePages (withoutPage v (listed s)) s ≡ s
-  stored-none l e = rw (without-none v (listed s) e) (store-same 0 (s .slots) (s .count) l)
+  stored-none l e = rw (without-none v (listed s) e) (stored-again 0 (s .slots) (s .count) l)
 
   pub stored-out : soundMarked s ≡ true → isListed v (listed s) ≡ true
       → storePages (withoutPage v (listed s)) s ≡ storePages (takenOut (placeOf v (listed s)) (listed s)) s
@@ -97,7 +98,7 @@ module _ (l : List ℕ) (n : ℕ) (room : n ≤ length l) (v k : ℕ) (at : k �
   put-told a h p e f q =
       let new = mark-new (slotsOf l n) a h (rw (← p) e) (omega (arith, length-take n l)) in
       let long : k ≤ n = omega (arith, place-le v (take n l), length-take n l) in
-      let c = count-in 0 l n k v long room in
+      let c = store-count 0 (putIn k v (take n l)) (slotsOf l n) ∙ in-long 0 l n room k v long in
       rw (new, ← p, ← at) (λ j. record { answer = Met; count = sym c j }, q)
 
   pub out-told : soundMarked (slotsOf l n) ≡ true → isListed v (take n l) ≡ true → x ≡ storePages (takenOut k (take n l)) (slotsOf l n) .slots
@@ -105,7 +106,7 @@ module _ (l : List ℕ) (n : ℕ) (room : n ≤ length l) (v k : ℕ) (at : k �
   out-told h e q =
       let out = stored-out (slotsOf l n) v h e ∙ ap (λ (j : ℕ). storePages (takenOut j (take n l)) (slotsOf l n)) (sym at) in
       let under : k < n = omega (arith, place-under v (take n l) e, length-take n l) in
-      let c = count-out 0 l n k under room in
+      let c = store-count 0 (takenOut k (take n l)) (slotsOf l n) ∙ out-long 0 l n room k under in
       rw out (sym c, q)
 
 -- after `unmark`, with the page that the code has

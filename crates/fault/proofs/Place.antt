@@ -9,7 +9,8 @@ use lib.Dec.{eqb, leb, ltb}
 use lib.ListN.{length, getD, take, drop}
 use borrow.Author.Tests.{lt-ltb, le-ltb, le-leb, lt-leb, leb-true, eqb-true, eqb-false, eq-eqb, ne-eqb}
 use Rattle.bits.proofs.Choice.{pick-cases, both-true}
-use Rattle.fault.specs.Marked.{pagesRise, isListed, withPage, withoutPage, placeOf, putIn, takenOut}
+use Rattle.slots.specs.Shifts.{putIn, takenOut}
+use Rattle.fault.specs.Marked.{pagesRise, isListed, withPage, withoutPage, placeOf}
 
 -- ---- the test that pages rise, by neighbours
 

@@ -1,9 +1,9 @@
 -- The pages marked copy-on-write, document 01's '256 copy-on-write pages', sorted; and the three calls on them.
 use Prim.Native.Nat.{ℕ, suc, _*_, _/_}
 use mathlib.Core.Bool.{Bool, true, false}
-use mathlib.Core.List.{List, [], _∷_, _++_}
+use mathlib.Core.List.{List, [], _∷_}
 use lib.Dec.{eqb, leb, ltb}
-use lib.ListN.{length, take, drop}
+use lib.ListN.{length}
 use Rattle.bits.specs.Bit.{pick, unless, both}
 use Rattle.answer.specs.Numbers.{brokenRecord, listFull}
 use Rattle.answer.specs.declared.Answer.{Answer}
@@ -48,13 +48,6 @@ withoutPage v (w ∷ l) = pick (eqb w v) l (w ∷ withoutPage v l)
 unfoldable pub placeOf : ℕ → List ℕ → ℕ
 placeOf v [] = 0
 placeOf v (w ∷ l) = pick (ltb w v) (suc (placeOf v l)) 0
-
--- a page put in at a place, and the one at a place taken out
-abbrev pub putIn : {A : Type 0} → ℕ → A → List A → List A
-putIn k a l = take k l ++ a ∷ drop k l
-
-abbrev pub takenOut : {A : Type 0} → ℕ → List A → List A
-takenOut k l = take k l ++ drop (suc k) l
 
 -- ---- the calls
 

@@ -3,7 +3,8 @@ ghost use mathlib.Core.Path.{_≡_};
 ghost use mathlib.Core.Bool.{true};
 ghost use Prim.Native.Nat.{_<_, _≤_};
 ghost use lib.ListN.{length, take};
-ghost use Rattle.fault.specs.Marked.{slotsOf, pagesRise, soundMarked, isListed, placeOf, putIn, takenOut, withoutPage, storePages};
+ghost use Rattle.slots.specs.Shifts.{putIn, takenOut};
+ghost use Rattle.fault.specs.Marked.{slotsOf, pagesRise, soundMarked, isListed, placeOf, withoutPage, storePages};
 
 fn slice_len(words: &[u64]) -> usize
     ensures { λ r. ⌜ r ≡ length (now (words .entry)) ⌝ }

@@ -1,2 +1,7 @@
 pub mod Laws
 pub mod Steps
+mod Passed
+mod Thin
+mod Reading
+mod Lending
+mod Showing

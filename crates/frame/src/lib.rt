@@ -1,5 +1,7 @@
 // The frame allocator of frame.rs: a small record beside the bitmap words lent to it. Each call tests the record first and answers 10 if it is broken.
+pub mod held;
 pub mod inner;
+pub mod lent;
 
 use address::Frame;
 use address::FrameAnswer;

@@ -19,8 +19,8 @@ use Rattle.packed.proofs.Records.{length-packed}
 use Rattle.packed.proofs.Words.{length-bytes, length-pack, number-four, number-eight, unpack-pack, pack-unpack}
 use Rattle.slots.specs.Slots.{Slots}
 use Rattle.frame.specs.declared.FrameAllocator.{FrameAllocator}
-use Rattle.vmalloc.specs.declared.VMRegion.{VMRegion}
-use Rattle.vmalloc.specs.Regions.{noSlot}
+use Rattle.regions.specs.declared.VMRegion.{VMRegion}
+use Rattle.regions.specs.Regions.{noSlot}
 use Rattle.mmap.specs.declared.MappedRegion.{MappedRegion}
 use Rattle.mmap.specs.Regions.{noSlot as noMapped}
 use Rattle.layout.specs.Parts.{fieldsIn, fieldsOut, framesFit}

@@ -14,7 +14,7 @@ use Rattle.bits.specs.Bit.{one}
 use Rattle.packed.specs.Words.{number, bytes}
 use Rattle.packed.proofs.Words.{length-bytes}
 use Rattle.packed.proofs.Records.{sets-append}
-use Rattle.vmalloc.specs.declared.VMRegion.{VMRegion}
+use Rattle.regions.specs.declared.VMRegion.{VMRegion}
 use Rattle.mmap.specs.declared.MappedRegion.{MappedRegion}
 use Rattle.layout.specs.Lists.{vmRegionOut, usedIsFlag, mappedOut}
 

@@ -10,8 +10,8 @@ use mir.Syntax.{w32}
 use Rattle.packed.specs.Words.{number, bytes, pack, unpack}
 use Rattle.packed.specs.Records.{records, packed}
 use Rattle.slots.specs.Slots.{Slots}
-use Rattle.vmalloc.specs.Regions.{region}
-use Rattle.vmalloc.specs.declared.VMRegion.{VMRegion}
+use Rattle.regions.specs.Regions.{region}
+use Rattle.regions.specs.declared.VMRegion.{VMRegion}
 use Rattle.mmap.specs.Regions.{region as mapped}
 use Rattle.mmap.specs.declared.MappedRegion.{MappedRegion}
 

@@ -1,15 +1,15 @@
 // The lists, taken out of packed bytes and put back.
 use mmap::MappedRegion;
 use mmap::MemoryMapper;
-use vmalloc::VMAllocator;
-use vmalloc::VMRegion;
+use regions::VMAllocator;
+use regions::VMRegion;
 ghost use mathlib.Core.Path.{_≡_};
 ghost use mathlib.Core.List.{_++_};
 ghost use Prim.Native.Nat.{_+_, _≤_};
 ghost use lib.ListN.{length, take, drop};
 ghost use lib.Seq.{sets};
 ghost use Rattle.packed.specs.Records.{records, packed as packedOf};
-ghost use Rattle.vmalloc.specs.List.{slotsOf, listOf};
+ghost use Rattle.regions.specs.List.{slotsOf, listOf};
 ghost use Rattle.mmap.specs.List.{slotsOf as mappedSlots, mapper as mapperOf};
 ghost use Rattle.layout.specs.Lists.{vmRegionIn, vmRegionOut, usedIsFlag, vmIn, vmOut, vmFit, mappedIn, mappedOut, mmapIn, nextIn, mmapOut, mmapFit, markedIn, markedOut, markedFit, markedSlots};
 

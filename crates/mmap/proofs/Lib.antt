@@ -3,7 +3,6 @@ pub mod Sound
 pub mod Search
 pub mod Scan
 pub mod Placing
-pub mod Stored
 pub mod Signs
 pub mod Calls
 pub mod Steps

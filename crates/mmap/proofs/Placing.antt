@@ -12,7 +12,8 @@ use Rattle.mmap.specs.declared.MappedRegion.{MappedRegion}
 use Rattle.mmap.specs.declared.Place.{Place}
 use Rattle.mmap.specs.declared.Place.the-variants.{Here, Before}
 use Rattle.mmap.specs.Regions.{noSlot, starts, insert, holds, remove}
-use Rattle.mmap.specs.List.{placeFrom, putIn, takenOut}
+use Rattle.slots.specs.Shifts.{putIn, takenOut}
+use Rattle.mmap.specs.List.{placeFrom}
 use Rattle.mmap.proofs.Rising.{Rising, starts-none}
 
 module _ (a : ℕ) where

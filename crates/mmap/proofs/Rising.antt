@@ -12,7 +12,7 @@ use Rattle.bits.specs.Bit.{pick}
 use Rattle.bits.proofs.Choice.{pick-cases}
 use Rattle.mmap.specs.declared.MappedRegion.{MappedRegion}
 use Rattle.slots.specs.Slots.{every}
-use Rattle.vmalloc.proofs.Placed.{Placed, placed-back}
+use Rattle.regions.proofs.Placed.{Placed, placed-back}
 use Rattle.mmap.specs.Regions.{risingFrom, wellPlacedRegion, starts, insert, holds, remove}
 
 -- well placed regions whose starts rise strictly, from lo on

@@ -11,7 +11,7 @@ use borrow.Author.Tests.{le-leb, lt-leb, eq-eqb, ne-eqb, leb-true, eqb-true}
 use Rattle.bits.specs.Bit.{both}
 use Rattle.bits.proofs.Choice.{both-true, both-false}
 use Rattle.slots.specs.Slots.{Slots, listed, every}
-use Rattle.vmalloc.proofs.Placed.{Placed, placed}
+use Rattle.regions.proofs.Placed.{Placed, placed}
 use Rattle.mmap.specs.declared.MappedRegion.{MappedRegion}
 use Rattle.mmap.specs.Regions.{risingFrom, wellPlacedRegion, soundMappings}
 use Rattle.mmap.proofs.Rising.{Rising}

@@ -1,8 +1,8 @@
--- The list as code holds it, where a region stands in it, and regions put in and taken out by their slot.
+-- The list as code holds it, and where a region stands in it.
 use Prim.Native.Nat.{ℕ, suc}
-use mathlib.Core.List.{List, [], _∷_, _++_}
+use mathlib.Core.List.{List, [], _∷_}
 use lib.Dec.{eqb, ltb}
-use lib.ListN.{take, drop, replicate}
+use lib.ListN.{replicate}
 use Rattle.bits.specs.Bit.{pick}
 use Rattle.slots.specs.Slots.{Slots}
 use Rattle.mmap.specs.declared.MappedRegion.{MappedRegion}
@@ -28,10 +28,3 @@ placeFrom k a (r ∷ l) = pick (ltb (r .start) a) (placeFrom (suc k) a l) (pick 
 
 abbrev pub place : ℕ → List MappedRegion → Place
 place a l = placeFrom 0 a l
-
--- one put in at index k, and the one at index k taken out
-abbrev pub putIn : {A : Type 0} → ℕ → A → List A → List A
-putIn k a l = take k l ++ a ∷ drop k l
-
-abbrev pub takenOut : {A : Type 0} → ℕ → List A → List A
-takenOut k l = take k l ++ drop (suc k) l

@@ -12,7 +12,7 @@ use Rattle.answer.specs.Numbers.{noRegion}
 use Rattle.paging.specs.declared.Walked.{Walked}
 use Rattle.paging.specs.declared.Walked.the-variants.{At, Stop}
 use Rattle.slots.specs.Slots.{Slots, listed, every}
-use Rattle.vmalloc.specs.Regions.{wellPlaced}
+use Rattle.regions.specs.Regions.{wellPlaced}
 use Rattle.mmap.specs.declared.MappedRegion.{MappedRegion}
 use Rattle.mmap.specs.declared.InTheWay.{InTheWay}
 use Rattle.mmap.specs.declared.InTheWay.the-variants.{Nothing, Until}

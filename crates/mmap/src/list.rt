@@ -11,9 +11,9 @@ ghost use lib.ListN.{length};
 ghost use Prim.Native.Nat.{_+_, _≤_, _<_};
 ghost use Rattle.slots.specs.Slots.{listed, store};
 ghost use Rattle.allocator.specs.Round.{lastPage};
-ghost use Rattle.vmalloc.specs.List.{shiftedUp};
+ghost use Rattle.slots.specs.Shifts.{shiftedUp, takenOut};
 ghost use Rattle.mmap.specs.Regions.{userStart, noSlot, soundMappings, overlaps, inTheWay, findFree, starts, insert as inserted};
-ghost use Rattle.mmap.specs.List.{slotsOf, mapper, emptySlots, place, takenOut};
+ghost use Rattle.mmap.specs.List.{slotsOf, mapper, emptySlots, place};
 
 // A zero slot.
 fn no_region() -> MappedRegion
@@ -69,7 +69,7 @@ impl MemoryMapper {
             if r.start < from {
                 return false;
             }
-            if !vmalloc::is_well_placed(r.start, r.size) {
+            if !regions::is_well_placed(r.start, r.size) {
                 return false;
             }
             from = r.start + 1;

@@ -10,11 +10,11 @@ use borrow.Author.Tests.{eq-eqb, ne-eqb, eqb-true}
 use Rattle.bits.specs.Bit.{pick, both}
 use Rattle.bits.proofs.Choice.{both-true}
 use Rattle.paging.specs.declared.Walked.the-variants.{At}
-use Rattle.vmalloc.specs.declared.VMRegion.{VMRegion}
-use Rattle.vmalloc.specs.Regions.{region, fits, firstFit, behind, takeFirst, freeFirst, joins, mergeFrom, merge}
-use Rattle.vmalloc.proofs.Merge.{join, left-of, right-of}
-use Rattle.vmalloc.proofs.Rows.{Rows, fit-from}
-use Rattle.vmalloc.proofs.Tiles.{larger}
+use Rattle.regions.specs.declared.VMRegion.{VMRegion}
+use Rattle.regions.specs.Regions.{region, fits, firstFit, behind, takeFirst, freeFirst, joins, mergeFrom, merge}
+use Rattle.regions.proofs.Merge.{join, left-of, right-of}
+use Rattle.regions.proofs.Rows.{Rows, fit-from}
+use Rattle.regions.proofs.Tiles.{larger}
 use Rattle.release.specs.Demand3.{takePart, freePart, joinOnto, joinParts, exceeds}
 
 -- a region that does not fit, before one that does, does not start where that one does

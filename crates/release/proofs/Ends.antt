@@ -12,14 +12,14 @@ use Rattle.paging.specs.Map.{Memory}
 use Rattle.paging.specs.Pages.{freePages}
 use Rattle.slots.specs.Slots.{listed, store}
 use Rattle.slots.proofs.Filled.{filled}
-use Rattle.vmalloc.specs.declared.VMRegion.{VMRegion}
-use Rattle.vmalloc.specs.Regions.{windowStart, windowEnd, usedSize, freeFirst, merge}
-use Rattle.vmalloc.specs.Regions.{noSlot as noKernelSlot}
+use Rattle.regions.specs.declared.VMRegion.{VMRegion}
+use Rattle.regions.specs.Regions.{windowStart, windowEnd, usedSize, freeFirst, merge}
+use Rattle.regions.specs.Regions.{noSlot as noKernelSlot}
 use Rattle.vmalloc.specs.Calls.{kernel}
 use Rattle.vmalloc.specs.Calls.{Did as KernelDid}
-use Rattle.vmalloc.proofs.Merge.{freedAll}
-use Rattle.vmalloc.proofs.Rows.{freed-first, length-freed, length-merge}
-use Rattle.vmalloc.proofs.Used.{used-inside}
+use Rattle.regions.proofs.Merge.{freedAll}
+use Rattle.regions.proofs.Rows.{freed-first, length-freed, length-merge}
+use Rattle.regions.proofs.Used.{used-inside}
 use Rattle.vmalloc.proofs.Calls.{vfree-met}
 use Rattle.mmap.specs.declared.MappedRegion.{MappedRegion}
 use Rattle.mmap.specs.Regions.{holds, remove}

@@ -19,8 +19,8 @@ use Rattle.tree.proofs.Books.{Takes, none, more, takes-plain, takes-accounted, 
 use Rattle.tree.proofs.Taking.{take-met, take-number}
 use Rattle.tree.proofs.Runs.{run, map-pages-on, map-pages-stop, map-pages-met, free-all-plain, free-all-accounted, free-all-live, free-all-tabled, free-pages}
 use Rattle.slots.proofs.Filled.{filled}
-use Rattle.vmalloc.specs.declared.VMRegion.{VMRegion}
-use Rattle.vmalloc.specs.Regions.{noSlot as noKernelSlot}
+use Rattle.regions.specs.declared.VMRegion.{VMRegion}
+use Rattle.regions.specs.Regions.{noSlot as noKernelSlot}
 use Rattle.mmap.specs.declared.MappedRegion.{MappedRegion}
 use Rattle.mmap.specs.Regions.{noSlot as noUserSlot}
 use Rattle.board.specs.Board.{Board}

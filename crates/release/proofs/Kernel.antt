@@ -12,12 +12,12 @@ use Rattle.paging.specs.declared.Walked.the-variants.{At, Stop}
 use Rattle.paging.specs.Pages.{freePages}
 use Rattle.slots.specs.Slots.{listed, store}
 use Rattle.slots.proofs.Filled.{filled, listed-filled, store-filled}
-use Rattle.vmalloc.specs.declared.VMRegion.{VMRegion}
-use Rattle.vmalloc.specs.Regions.{windowStart, windowEnd, firstFit, taken, usedSize, freeFirst, merge}
-use Rattle.vmalloc.specs.Regions.{noSlot as noKernelSlot}
-use Rattle.vmalloc.specs.Calls.{Kernel, kernel, Did, takenSlots, kernelPages, mapped, vmalloc, vfree}
-use Rattle.vmalloc.proofs.Rows.{freed-first, taken-few}
-use Rattle.vmalloc.proofs.Used.{taken-was-free}
+use Rattle.regions.specs.declared.VMRegion.{VMRegion}
+use Rattle.regions.specs.Regions.{windowStart, windowEnd, firstFit, taken, usedSize, freeFirst, merge}
+use Rattle.regions.specs.Regions.{noSlot as noKernelSlot}
+use Rattle.vmalloc.specs.Calls.{Kernel, kernel, Did, kernelPages, mapped, vmalloc, vfree}
+use Rattle.regions.proofs.Rows.{freed-first, taken-few}
+use Rattle.regions.proofs.Used.{taken-was-free}
 use Rattle.vmalloc.proofs.Calls.{vmalloc-cases, vfree-cases}
 use Rattle.mmap.specs.declared.MappedRegion.{MappedRegion}
 use Rattle.board.specs.Board.{Board}

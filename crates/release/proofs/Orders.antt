@@ -9,10 +9,10 @@ use Rattle.tree.proofs.Orders.{one-end}
 use Rattle.tree.proofs.Freeing.{freeAll, pages-end}
 use Rattle.tree.proofs.Runs.{free-pages}
 use Rattle.slots.specs.Slots.{every}
-use Rattle.vmalloc.specs.declared.VMRegion.{VMRegion}
-use Rattle.vmalloc.specs.Regions.{merge}
-use Rattle.vmalloc.proofs.Merge.{freedAll, free-then, freed-comm}
-use Rattle.vmalloc.proofs.Tiles.{Apart, apart-merged}
+use Rattle.regions.specs.declared.VMRegion.{VMRegion}
+use Rattle.regions.specs.Regions.{merge}
+use Rattle.regions.proofs.Merge.{freedAll, free-then, freed-comm}
+use Rattle.regions.proofs.Tiles.{Apart, apart-merged}
 use Rattle.mmap.specs.declared.MappedRegion.{MappedRegion}
 use Rattle.mmap.specs.Regions.{holds}
 use Rattle.mmap.proofs.Rising.{holds-nothing}

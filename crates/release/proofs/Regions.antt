@@ -14,15 +14,15 @@ use Rattle.bits.specs.Bit.{pick}
 use Rattle.answer.specs.Numbers.{regionNotFound}
 use Rattle.paging.specs.declared.Walked.{Walked}
 use Rattle.paging.specs.declared.Walked.the-variants.{At, Stop}
-use Rattle.vmalloc.specs.declared.VMRegion.{VMRegion}
-use Rattle.vmalloc.specs.Regions.{windowStart, windowEnd, firstFit, takeFirst, usedSize, merge}
-use Rattle.vmalloc.proofs.Merge.{freedAll}
-use Rattle.vmalloc.proofs.Rows.{Rows, rows-taken, length-taken, rows-freed, length-freed, rows-merge, length-merge}
-use Rattle.vmalloc.proofs.Used.{used-merge, used-freed, used-gone, taken-used, taken-was-free, taken-others}
-use Rattle.vmalloc.proofs.Tiles.{Apart, apart-taken, apart-merge}
+use Rattle.regions.specs.declared.VMRegion.{VMRegion}
+use Rattle.regions.specs.Regions.{windowStart, windowEnd, firstFit, takeFirst, usedSize, merge}
+use Rattle.regions.proofs.Merge.{freedAll}
+use Rattle.regions.proofs.Rows.{Rows, rows-taken, length-taken, rows-freed, length-freed, rows-merge, length-merge}
+use Rattle.regions.proofs.Used.{used-merge, used-freed, used-gone, taken-used, taken-was-free, taken-others}
+use Rattle.regions.proofs.Tiles.{Apart, apart-taken, apart-merge}
 use Rattle.mmap.specs.declared.MappedRegion.{MappedRegion}
 use Rattle.mmap.specs.Regions.{region, starts, holds, insert, remove}
-use Rattle.vmalloc.proofs.Placed.{Placed}
+use Rattle.regions.proofs.Placed.{Placed}
 use Rattle.mmap.proofs.Rising.{Rising, rising-insert, length-insert, holds-inserted, holds-others, holds-none, holds-one, rising-remove, length-remove, holds-removed, holds-kept}
 use Rattle.release.specs.Demand3.{Region, kernels, users, dropKernel, dropUser}
 use Rattle.release.proofs.Lists.{Once}

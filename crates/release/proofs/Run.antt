@@ -19,8 +19,8 @@ use Rattle.paging.specs.declared.Walked.the-variants.{At, Stop}
 use Rattle.tree.proofs.Books.{bare-live, bare-tabled}
 use Rattle.tree.proofs.Start.{unused, fresh-accounted, fresh-plain, fresh-only}
 use Rattle.slots.specs.Slots.{every}
-use Rattle.vmalloc.specs.declared.VMRegion.{VMRegion}
-use Rattle.vmalloc.specs.Regions.{windowStart, windowEnd, window, usedSize}
+use Rattle.regions.specs.declared.VMRegion.{VMRegion}
+use Rattle.regions.specs.Regions.{windowStart, windowEnd, window, usedSize}
 use Rattle.mmap.specs.declared.MappedRegion.{MappedRegion}
 use Rattle.mmap.specs.Regions.{holds}
 use Rattle.board.specs.Board.{Board, Did, did, begun, start}

@@ -8,11 +8,11 @@ use lib.ListN.{length}
 use borrow.Author.Tests.{le-leb, eq-eqb}
 use Rattle.tree.proofs.Ordered.{ordered-whole}
 use Rattle.slots.proofs.Filled.{filled, listed-filled, drop-filled, every-zero}
-use Rattle.vmalloc.specs.declared.VMRegion.{VMRegion}
-use Rattle.vmalloc.specs.Regions.{windowStart, windowEnd, isNoSlot, soundRegions}
-use Rattle.vmalloc.specs.Regions.{noSlot as noKernelSlot}
+use Rattle.regions.specs.declared.VMRegion.{VMRegion}
+use Rattle.regions.specs.Regions.{windowStart, windowEnd, isNoSlot, soundRegions}
+use Rattle.regions.specs.Regions.{noSlot as noKernelSlot}
 use Rattle.vmalloc.specs.Calls.{kernel, soundKernel}
-use Rattle.vmalloc.proofs.Rows.{rows-placed}
+use Rattle.regions.proofs.Rows.{rows-placed}
 use Rattle.mmap.specs.declared.MappedRegion.{MappedRegion}
 use Rattle.mmap.specs.Regions.{soundMappings}
 use Rattle.mmap.specs.Regions.{noSlot as noUserSlot}

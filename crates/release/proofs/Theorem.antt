@@ -24,8 +24,8 @@ use Rattle.tree.proofs.Books.{Live, silent, tables-only}
 use Rattle.tree.proofs.Counts.{counter-paths}
 use Rattle.slots.proofs.Filled.{filled, listed-filled}
 use Rattle.slots.specs.Slots.{listed}
-use Rattle.vmalloc.specs.declared.VMRegion.{VMRegion}
-use Rattle.vmalloc.specs.Regions.{window, noSlot as noKernelSlot}
+use Rattle.regions.specs.declared.VMRegion.{VMRegion}
+use Rattle.regions.specs.Regions.{window, noSlot as noKernelSlot}
 use Rattle.mmap.specs.declared.MappedRegion.{MappedRegion}
 use Rattle.board.specs.Board.{Board}
 use Rattle.release.specs.Demand3.{Call, vmallocs, vfrees, mmaps, munmaps, after, Event, events, bornBy, everLive, pagesFrom, pagesOf, runsOf, concat, leadingRuns, different, PageTable, book, neverCut, Ended, BookHolds, Demand3}

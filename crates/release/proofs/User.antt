@@ -22,11 +22,11 @@ use Rattle.tree.proofs.Books.{Takes, none, more}
 use Rattle.tree.proofs.Runs.{run, map-pages-met}
 use Rattle.slots.specs.Slots.{listed, store}
 use Rattle.slots.proofs.Filled.{filled, listed-filled, store-filled}
-use Rattle.vmalloc.specs.declared.VMRegion.{VMRegion}
+use Rattle.regions.specs.declared.VMRegion.{VMRegion}
 use Rattle.mmap.specs.declared.MappedRegion.{MappedRegion}
 use Rattle.mmap.specs.Regions.{writable, region, starts, insert, holds, remove}
 use Rattle.mmap.specs.Regions.{noSlot as noUserSlot}
-use Rattle.vmalloc.proofs.Placed.{Placed}
+use Rattle.regions.proofs.Placed.{Placed}
 use Rattle.mmap.specs.declared.Wish.{Wish}
 use Rattle.mmap.specs.Calls.{User, user, Did, full, userPages, mapped, mmap, munmap}
 use Rattle.mmap.proofs.Rising.{holds-placed, holds-one, holds-none}

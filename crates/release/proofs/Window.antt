@@ -14,13 +14,13 @@ use Rattle.answer.specs.Numbers.{regionNotFound}
 use Rattle.paging.specs.declared.Walked.{Walked}
 use Rattle.paging.specs.declared.Walked.the-variants.{At, Stop}
 use Rattle.slots.specs.Slots.{every}
-use Rattle.vmalloc.specs.declared.VMRegion.{VMRegion}
-use Rattle.vmalloc.specs.Regions.{windowStart, windowEnd, window, firstFit, takeFirst, usedSize, freeFirst, merge}
+use Rattle.regions.specs.declared.VMRegion.{VMRegion}
+use Rattle.regions.specs.Regions.{windowStart, windowEnd, window, firstFit, takeFirst, usedSize, freeFirst, merge}
 use Rattle.vmalloc.specs.Calls.{Did, kernel, kernelPages, mapped, vmalloc}
-use Rattle.vmalloc.proofs.Merge.{freedAll}
-use Rattle.vmalloc.proofs.Rows.{freed-first}
-use Rattle.vmalloc.proofs.Used.{all-free}
-use Rattle.vmalloc.proofs.Tiles.{apart-merged, Tiled, tiled-freed, tiled-merge, tiled-taken, taken-exact, one-region}
+use Rattle.regions.proofs.Merge.{freedAll}
+use Rattle.regions.proofs.Rows.{freed-first}
+use Rattle.regions.proofs.Used.{all-free}
+use Rattle.regions.proofs.Tiles.{apart-merged, Tiled, tiled-freed, tiled-merge, tiled-taken, taken-exact, one-region}
 use Rattle.vmalloc.proofs.Calls.{vmalloc-cases, walked-cases}
 use Rattle.mmap.specs.declared.MappedRegion.{MappedRegion}
 use Rattle.board.specs.Board.{Board}

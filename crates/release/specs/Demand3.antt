@@ -20,8 +20,8 @@ use Rattle.paging.specs.Walk.{reach}
 use Rattle.paging.specs.Map.{startOf, totalOf}
 use Rattle.paging.specs.Calls.{translate}
 use Rattle.slots.specs.Slots.{listed, every}
-use Rattle.vmalloc.specs.declared.VMRegion.{VMRegion}
-use Rattle.vmalloc.specs.Regions.{window, noSlot, region, joins}
+use Rattle.regions.specs.declared.VMRegion.{VMRegion}
+use Rattle.regions.specs.Regions.{window, noSlot, region, joins}
 use Rattle.vmalloc.specs.Calls.{kernel, vmalloc, vfree}
 use Rattle.mmap.specs.Regions.{fixed}
 use Rattle.mmap.specs.declared.Wish.{Wish}

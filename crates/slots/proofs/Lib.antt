@@ -1,1 +1,3 @@
 pub mod Filled
+pub mod Slices
+pub mod Stored

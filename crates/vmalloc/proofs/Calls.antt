@@ -14,11 +14,11 @@ use Rattle.answer.specs.declared.CountAnswer.the-variants.{Count, NoCount}
 use Rattle.paging.specs.declared.Walked.{Walked}
 use Rattle.paging.specs.declared.Walked.the-variants.{At, Stop}
 use Rattle.paging.specs.Map.{Memory}
-use Rattle.vmalloc.specs.declared.VMRegion.{VMRegion}
+use Rattle.regions.specs.declared.VMRegion.{VMRegion}
 use Rattle.paging.specs.Pages.{Ran, ran, freePages}
 use Rattle.slots.specs.Slots.{listed, store}
-use Rattle.vmalloc.specs.Regions.{noSlot, firstFit, usedSize, freeFirst, merge}
-use Rattle.vmalloc.specs.Calls.{Kernel, kernel, Did, did, soundKernel, takenSlots, mapped, kernelPages, placed, sized, released, vmalloc, vfree}
+use Rattle.regions.specs.Regions.{noSlot, firstFit, takenSlots, usedSize, freeFirst, merge}
+use Rattle.vmalloc.specs.Calls.{Kernel, kernel, Did, did, soundKernel, mapped, kernelPages, placed, sized, released, vmalloc, vfree}
 
 pub positive : (n : ℕ) → (n ≡ 0 → ⊥) → 0 < n
 positive n d = omega (arith, d)

@@ -1,11 +1,2 @@
-pub mod Merge
-pub mod Rows
-pub mod Used
-pub mod Tiles
 pub mod Calls
-pub mod Slices
-pub mod Placed
-pub mod Firsts
-pub mod Stored
-pub mod Merging
 pub mod Told

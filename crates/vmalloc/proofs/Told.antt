@@ -8,12 +8,12 @@ use lib.ListN.{length}
 use Rattle.bits.proofs.Choice.{both-true}
 use Rattle.paging.specs.Calls.{whole}
 use Rattle.slots.specs.Slots.{listed, every}
-use Rattle.vmalloc.specs.declared.VMAllocator.{VMAllocator}
-use Rattle.vmalloc.specs.Regions.{wellPlacedRegion, soundRegions}
-use Rattle.vmalloc.specs.List.{listOf}
+use Rattle.regions.specs.declared.VMAllocator.{VMAllocator}
+use Rattle.regions.specs.Regions.{wellPlacedRegion, soundRegions}
+use Rattle.regions.specs.List.{listOf}
 use Rattle.vmalloc.specs.Calls.{Kernel, Did, soundKernel}
 use Rattle.vmalloc.specs.Results.{vmalloced, vfreed}
-use Rattle.vmalloc.proofs.Placed.{sound-few, sound-placed}
+use Rattle.regions.proofs.Placed.{sound-few, sound-placed}
 
 abbrev pub Told : {R : Type 0} → (Did → R) → Did → R → List ℕ → List ℕ → Type 0
 Told f d r ws bits = (r ≡ f d) × ((ws ≡ d .kernel .mem .words) × (bits ≡ d .kernel .mem .frames .bits))

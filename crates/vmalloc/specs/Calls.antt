@@ -12,8 +12,8 @@ use Rattle.paging.specs.declared.Walked.the-variants.{At, Stop}
 use Rattle.paging.specs.Map.{Memory}
 use Rattle.paging.specs.Calls.{whole}
 use Rattle.slots.specs.Slots.{Slots, listed, store}
-use Rattle.vmalloc.specs.declared.VMRegion.{VMRegion}
-use Rattle.vmalloc.specs.Regions.{windowStart, windowEnd, noSlot, soundRegions, firstFit, taken, usedSize, freeFirst, merge}
+use Rattle.regions.specs.declared.VMRegion.{VMRegion}
+use Rattle.regions.specs.Regions.{windowStart, windowEnd, noSlot, soundRegions, firstFit, takenSlots, usedSize, freeFirst, merge}
 use Rattle.paging.specs.Pages.{Ran, mapPages, freePages}
 
 -- what vmalloc and vfree are lent: words and frames, the root beside them, and the list
@@ -33,10 +33,6 @@ did a k = record { answer = a; kernel = k }
 
 abbrev pub soundKernel : Kernel → ℕ → Bool
 soundKernel k root = both (whole (k .mem) root) (soundRegions (k .regions))
-
--- the list with n bytes taken of the first region large enough
-abbrev pub takenSlots : Bool → ℕ → Slots VMRegion → Slots VMRegion
-takenSlots used n s = store noSlot (taken used n (listed s)) s
 
 -- 'Each page: take a frame, zero it, map it writable and not user'
 abbrev pub kernelPages : ℕ → Memory → ℕ → ℕ → ℕ → Ran

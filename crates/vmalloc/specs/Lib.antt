@@ -1,4 +1,2 @@
-pub mod Regions
-pub mod List
 pub mod Calls
 pub mod Results

@@ -6,7 +6,7 @@ use Rattle.paging.specs.declared.Walked.the-variants.{At, Stop}
 use Rattle.paging.specs.Calls.{asAnswer}
 use Rattle.vmalloc.specs.declared.Vmalloced.{Vmalloced}
 use Rattle.vmalloc.specs.declared.Vfreed.{Vfreed}
-use Rattle.vmalloc.specs.List.{listOf}
+use Rattle.regions.specs.List.{listOf}
 use Rattle.vmalloc.specs.Calls.{Did}
 
 -- where a call came, as the answer of a call that hands back an address

@@ -1,5 +1,4 @@
 // The calls on records that were tested.
-use crate::VMAllocator;
 use crate::Vfreed;
 use crate::Vmalloced;
 use address::Frame;
@@ -8,13 +7,14 @@ use address::VirtAnswer;
 use answer::Answer;
 use frame::FrameAllocator;
 use paging::Walked;
+use regions::VMAllocator;
 ghost use mathlib.Core.Path.{_≡_};
 ghost use mathlib.Core.Bool.{true};
 ghost use Rattle.frame.specs.Frames.{frames as framesOf};
 ghost use Rattle.paging.specs.Map.{memory};
 ghost use Rattle.slots.specs.Slots.{listed};
-ghost use Rattle.vmalloc.specs.Regions.{firstFit, usedSize};
-ghost use Rattle.vmalloc.specs.List.{slotsOf};
+ghost use Rattle.regions.specs.Regions.{firstFit, usedSize};
+ghost use Rattle.regions.specs.List.{slotsOf};
 ghost use Rattle.vmalloc.specs.Calls.{kernel, soundKernel, placed, released};
 ghost use Rattle.vmalloc.specs.Results.{vmalloced, vfreed};
 
@@ -32,7 +32,7 @@ pub fn allocate(
     ensures { λ r. ⌜ now (words .exit) ≡ placed 3 (kernel (memory (now (words .entry)) (framesOf (now (bitmap .entry)) frames)) (slotsOf list)) (root .0) size (firstFit size (listed (slotsOf list))) .kernel .mem .words ⌝ }
     ensures { λ r. ⌜ now (bitmap .exit) ≡ placed 3 (kernel (memory (now (words .entry)) (framesOf (now (bitmap .entry)) frames)) (slotsOf list)) (root .0) size (firstFit size (listed (slotsOf list))) .kernel .mem .frames .bits ⌝ }
 {
-    let i = crate::list::first_fit(list, size);
+    let i = regions::list::first_fit(list, size);
     if i == list.count {
         return Vmalloced {
             answer: VirtAnswer::NoVirt(answer::NO_REGION),
@@ -48,12 +48,12 @@ pub fn allocate(
         Walked::Stop(n) => Vmalloced {
             answer: VirtAnswer::NoVirt(n),
             frames: left,
-            list: crate::list::take_region(list, i, size, false),
+            list: regions::list::take_region(list, i, size, false),
         },
         Walked::At(_) => Vmalloced {
             answer: VirtAnswer::AtVirt(start),
             frames: left,
-            list: crate::list::take_region(list, i, size, true),
+            list: regions::list::take_region(list, i, size, true),
         },
     }
 }
@@ -72,7 +72,7 @@ pub fn free(
     ensures { λ r. ⌜ now (words .exit) ≡ released 3 (kernel (memory (now (words .entry)) (framesOf (now (bitmap .entry)) frames)) (slotsOf list)) (root .0) (addr .0) (usedSize (addr .0) (listed (slotsOf list))) .kernel .mem .words ⌝ }
     ensures { λ r. ⌜ now (bitmap .exit) ≡ released 3 (kernel (memory (now (words .entry)) (framesOf (now (bitmap .entry)) frames)) (slotsOf list)) (root .0) (addr .0) (usedSize (addr .0) (listed (slotsOf list))) .kernel .mem .frames .bits ⌝ }
 {
-    let i = crate::list::find_used(list, addr.0);
+    let i = regions::list::find_used(list, addr.0);
     if i == list.count {
         return Vfreed {
             answer: Answer::Refused(answer::REGION_NOT_FOUND),
@@ -85,6 +85,6 @@ pub fn free(
     Vfreed {
         answer: Answer::Met,
         frames: left,
-        list: crate::list::free_region(list, i),
+        list: regions::list::free_region(list, i),
     }
 }

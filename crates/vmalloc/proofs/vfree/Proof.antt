@@ -4,7 +4,7 @@ use mathlib.Core.Bool.{true}
 use Rattle.frame.proofs.Laws.{passed, failed}
 use Rattle.frame.specs.Frames.{frames}
 use Rattle.paging.specs.Map.{memory}
-use Rattle.vmalloc.specs.List.{slotsOf}
+use Rattle.regions.specs.List.{slotsOf}
 use Rattle.vmalloc.specs.Calls.{kernel, soundKernel}
 use Rattle.vmalloc.specs.Results.{vfreed}
 use Rattle.vmalloc.proofs.Calls.{vfree-broken, vfree-null, vfree-is}

@@ -1,7 +1,7 @@
 -- `put_kernel`: written where the start is met.
 use mathlib.Core.Path.{sym, _∙_, ap}
 use Rattle.answer.specs.declared.Answer.{Answer}
-use Rattle.vmalloc.specs.List.{slotsOf}
+use Rattle.regions.specs.List.{slotsOf}
 use Rattle.layout.specs.Lists.{vmOut}
 use Rattle.desk.specs.Board.{leftOf}
 use borrow.Author.Needs.{needs}

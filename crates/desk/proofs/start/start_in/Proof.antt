@@ -2,7 +2,7 @@
 use mathlib.Core.Path.{_∙_, ap}
 use Rattle.answer.specs.Numbers.{answerLine}
 use Rattle.packed.specs.Words.{pack}
-use Rattle.vmalloc.specs.List.{slotsOf}
+use Rattle.regions.specs.List.{slotsOf}
 use Rattle.mmap.specs.List.{slotsOf as mappedSlots}
 use Rattle.board.specs.Board.{Did, started}
 use Rattle.board.specs.declared.Started.{Started}

@@ -1,20 +1,23 @@
 -- `put_in`: the pages above the place move up, the last one first. The invariant: those above i have moved.
-use Prim.Native.Nat.{_-_, _≤_}
-use mathlib.Core.Path.{_≡_, sym}
+use Prim.Native.Nat.{ℕ, _-_, _≤_}
+use mathlib.Core.Path.{_≡_, _∙_, ap}
 use native.Mathlib.Omega.{arith}
-use Rattle.fault.proofs.Shift.{raised, raised-none, raised-more, put-done}
+use Rattle.slots.specs.Slots.{Slots}
+use Rattle.slots.specs.Shifts.{shiftedUp}
+use Rattle.slots.proofs.Slices.{up-start, up-on}
+use Rattle.slots.proofs.Stored.{stored-in}
 use borrow.Author.Needs.{needs}
 use Rattle.fault.proofs.cow.put_in.Statement.{statement}
 use Rattle.fault.proofs.cow.put_in.Tie as tie
 
 abbrev Inv-loop : tie.InvT-loop
-Inv-loop marked₀ n at page i₀ marked i = (at ≤ i) × (i ≤ n) × (marked ≡ raised 0 marked₀ n i)
+Inv-loop marked₀ n at page i₀ marked i = (at ≤ i) × (i ≤ n) × (marked ≡ shiftedUp marked₀ i n)
 
 abbrev μ-loop : tie.MeasureT-loop
 μ-loop marked₀ n at page i₀ marked i = i - at
 
 loop-holds : tie.Need-loop-holds Inv-loop μ-loop
-loop-holds c = (search needs, search needs, sym (raised-none 0 (c .args .marked .now) (c .args .n)))
+loop-holds c = (search needs, search needs, up-start 0 (c .args .marked .now) (c .args .n))
 
 sub-marked : tie.Need-sub-marked Inv-loop μ-loop
 sub-marked c = search needs
@@ -41,9 +44,7 @@ loop-again : tie.Need-loop-again Inv-loop μ-loop
 loop-again c =
     let l = c .before .before in
     let s = l .before in
-    let n = s .args .n in
-    let e = l .loop .inv .2 in
-    (search needs, search needs, rw e (raised-more 0 (s .args .marked .now) n (l .loop .i) (l .loop .i - 1) (omega arith) (omega arith) (omega arith)))
+    (search needs, search needs, up-on 0 (s .args .marked .now) (l .loop .i) (s .args .n) (omega arith) (omega arith) (omega arith) (l .loop .inv .2))
 
 mul-marked-3 : tie.Need-mul-marked-3 Inv-loop μ-loop
 mul-marked-3 c = search needs
@@ -55,7 +56,9 @@ returns : tie.Need-returns Inv-loop μ-loop
 returns c =
     let l = c .before in
     let s = l .before in
-    put-done 0 (s .args .marked .now) (s .args .n) (l .loop .i) (s .args .at) (s .args .page) (l .loop .inv .2) (omega arith) (omega arith) (omega arith)
+    let here : l .loop .i ≡ s .args .at = omega arith in
+    let moved = l .loop .inv .2 ∙ ap (λ (i : ℕ). shiftedUp (s .args .marked .now) i (s .args .n)) here in
+    ap (λ (t : Slots ℕ). t .slots) (stored-in 0 (s .args .marked .now) (s .args .n) (s .args .at) (s .args .page) (omega arith) (omega arith) moved)
 
 pub put-in-spec : {M : Type 1} → statement M
 put-in-spec =

@@ -1,14 +1,16 @@
 -- `take_out`: the pages above the place move down. The invariant: those up to i have moved.
-use Prim.Native.Nat.{_-_, _≤_}
-use mathlib.Core.Path.{_≡_, sym}
+use Prim.Native.Nat.{ℕ, _-_, _≤_}
+use mathlib.Core.Path.{_≡_, _∙_, ap}
 use native.Mathlib.Omega.{arith}
-use Rattle.fault.proofs.Shift.{lowered, lowered-none, lowered-more, take-done}
+use Rattle.slots.specs.Slots.{Slots}
+use Rattle.slots.proofs.Slices.{downTo, down-start, down-on}
+use Rattle.slots.proofs.Stored.{stored-out}
 use borrow.Author.Needs.{needs}
 use Rattle.fault.proofs.cow.take_out.Statement.{statement}
 use Rattle.fault.proofs.cow.take_out.Tie as tie
 
 abbrev Inv-loop : tie.InvT-loop
-Inv-loop marked₀ n at last i₀ marked i = (at ≤ i) × (i ≤ last) × (marked ≡ lowered 0 marked₀ at i)
+Inv-loop marked₀ n at last i₀ marked i = (at ≤ i) × (i ≤ last) × (marked ≡ downTo 0 marked₀ at i)
 
 abbrev μ-loop : tie.MeasureT-loop
 μ-loop marked₀ n at last i₀ marked i = last - i
@@ -17,7 +19,7 @@ sub-last : tie.Need-sub-last Inv-loop μ-loop
 sub-last c = search needs
 
 loop-holds : tie.Need-loop-holds Inv-loop μ-loop
-loop-holds c = (search needs, search needs, sym (lowered-none 0 (c .args .marked .now) (c .args .at)))
+loop-holds c = (search needs, search needs, down-start 0 (c .args .marked .now) (c .args .at))
 
 add-marked : tie.Need-add-marked Inv-loop μ-loop
 add-marked c = search needs
@@ -44,8 +46,7 @@ loop-again : tie.Need-loop-again Inv-loop μ-loop
 loop-again c =
     let l = c .before .before in
     let s = l .before in
-    let e = l .loop .inv .2 in
-    (search needs, search needs, rw e (lowered-more 0 (s .args .marked .now) (s .args .at) (l .loop .i) (omega arith) (omega arith) (omega arith)))
+    (search needs, search needs, down-on 0 (s .args .marked .now) (s .args .at) (l .loop .i) (omega arith) (omega arith) (omega arith) (l .loop .inv .2))
 
 mul-marked-3 : tie.Need-mul-marked-3 Inv-loop μ-loop
 mul-marked-3 c = search needs
@@ -57,8 +58,9 @@ returns : tie.Need-returns Inv-loop μ-loop
 returns c =
     let l = c .before in
     let s = l .before in
-    let e : l .loop .i ≡ s .args .n - 1 = omega arith in
-    rw (← e) (take-done 0 (s .args .marked .now) (s .args .n) (l .loop .i) (s .args .at) (l .loop .inv .2) (omega arith) (omega arith) (omega arith))
+    let last : l .loop .i ≡ s .args .n - 1 = omega arith in
+    let moved = l .loop .inv .2 ∙ ap (λ (i : ℕ). downTo 0 (s .args .marked .now) (s .args .at) i) last in
+    ap (λ (t : Slots ℕ). t .slots) (stored-out 0 (s .args .marked .now) (s .args .n) (s .args .at) (omega arith) (omega arith) moved)
 
 pub take-out-spec : {M : Type 1} → statement M
 take-out-spec =

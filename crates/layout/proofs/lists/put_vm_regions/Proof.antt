@@ -8,7 +8,7 @@ use lib.Seq.{sets}
 use borrow.Author.Needs.{needs}
 use Rattle.packed.specs.Records.{packed}
 use Rattle.packed.proofs.Records.{write-none, write-next, write-all}
-use Rattle.vmalloc.specs.Regions.{noSlot}
+use Rattle.regions.specs.Regions.{noSlot}
 use Rattle.layout.specs.Lists.{vmRegionOut}
 use Rattle.layout.proofs.Slots.{length-vm}
 use Rattle.layout.proofs.lists.put_vm_regions.Statement.{statement}

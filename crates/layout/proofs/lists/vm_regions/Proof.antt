@@ -7,7 +7,7 @@ use lib.ListN.{drop, replicate}
 use borrow.Author.Needs.{needs}
 use Rattle.packed.specs.Records.{records}
 use Rattle.packed.proofs.Records.{read-none, read-next, read-all}
-use Rattle.vmalloc.specs.Regions.{noSlot}
+use Rattle.regions.specs.Regions.{noSlot}
 use Rattle.layout.specs.Lists.{vmRegionIn}
 use Rattle.layout.proofs.Slots.{further}
 use Rattle.layout.proofs.lists.vm_regions.Statement.{statement}

@@ -8,8 +8,8 @@ use borrow.Author.Needs.{needs}
 use lib.ListN.{length, getD}
 use lib.Seq.{slice}
 use Rattle.slots.specs.Slots.{listed}
-use Rattle.vmalloc.proofs.Placed.{Placed}
-use Rattle.vmalloc.proofs.Slices.{length-fields}
+use Rattle.regions.proofs.Placed.{Placed}
+use Rattle.slots.proofs.Slices.{length-fields}
 use Rattle.mmap.specs.declared.MemoryMapper.{MemoryMapper}
 use Rattle.mmap.specs.declared.InTheWay.the-variants.{Until}
 use Rattle.mmap.specs.Regions.{noSlot, userEnd, inTheWay, findFree}

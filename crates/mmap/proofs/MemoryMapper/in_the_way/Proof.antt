@@ -10,8 +10,8 @@ use Rattle.slots.specs.Slots.{listed}
 use Rattle.mmap.specs.declared.MemoryMapper.{MemoryMapper}
 use Rattle.mmap.specs.Regions.{noSlot, inTheWay}
 use Rattle.mmap.specs.List.{slotsOf}
-use Rattle.vmalloc.proofs.Placed.{Placed}
-use Rattle.vmalloc.proofs.Slices.{length-fields}
+use Rattle.regions.proofs.Placed.{Placed}
+use Rattle.slots.proofs.Slices.{length-fields}
 use Rattle.mmap.proofs.Scan.{next, none, way-end, way-here, way-on}
 use Rattle.mmap.proofs.Sound.{sound-few, sound-rising, placed-at}
 use Rattle.mmap.proofs.MemoryMapper.in_the_way.Statement.{statement}

@@ -8,14 +8,14 @@ use native.Mathlib.Omega.{arith}
 use borrow.Author.Needs.{needs}
 use lib.ListN.{length, length-take}
 use Rattle.slots.specs.Slots.{Slots, listed, store}
-use Rattle.vmalloc.proofs.Slices.{length-fields}
+use Rattle.slots.proofs.Slices.{length-fields}
 use Rattle.mmap.specs.declared.MappedRegion.{MappedRegion}
 use Rattle.mmap.specs.declared.MemoryMapper.{MemoryMapper}
 use Rattle.mmap.specs.Regions.{noSlot, insert}
 use Rattle.mmap.specs.List.{slotsOf}
 use Rattle.mmap.proofs.Placing.{Found, Absent, is-here, is-before}
 use Rattle.mmap.proofs.Sound.{sound-few, sound-rising}
-use Rattle.mmap.proofs.Stored.{stored-in, stored-over}
+use Rattle.slots.proofs.Stored.{stored-in, stored-over}
 use Rattle.mmap.proofs.MemoryMapper.insert.Statement.{statement}
 use Rattle.mmap.proofs.MemoryMapper.insert.Tie as tie
 

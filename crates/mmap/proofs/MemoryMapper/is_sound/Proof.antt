@@ -7,8 +7,8 @@ use borrow.Author.Needs.{needs}
 use lib.ListN.{length, getD}
 use lib.Seq.{slice}
 use Rattle.frame.proofs.Laws.{passed, failed}
-use Rattle.vmalloc.proofs.Placed.{Placed, placed}
-use Rattle.vmalloc.proofs.Slices.{length-fields}
+use Rattle.regions.proofs.Placed.{Placed, placed}
+use Rattle.slots.proofs.Slices.{length-fields}
 use Rattle.mmap.specs.Regions.{noSlot, soundMappings}
 use Rattle.mmap.specs.List.{slotsOf}
 use Rattle.mmap.proofs.Scan.{next, none}

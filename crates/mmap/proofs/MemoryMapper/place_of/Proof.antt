@@ -7,7 +7,7 @@ use borrow.Author.Needs.{needs}
 use lib.ListN.{length, getD}
 use lib.Seq.{slice}
 use Rattle.slots.specs.Slots.{listed}
-use Rattle.vmalloc.proofs.Slices.{length-fields}
+use Rattle.slots.proofs.Slices.{length-fields}
 use Rattle.mmap.specs.declared.Place.the-variants.{Before}
 use Rattle.mmap.specs.Regions.{noSlot}
 use Rattle.mmap.specs.List.{slotsOf, placeFrom, place}

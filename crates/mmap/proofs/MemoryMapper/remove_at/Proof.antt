@@ -5,10 +5,10 @@ use native.Mathlib.Omega.{arith}
 use borrow.Author.Needs.{needs}
 use lib.ListN.{length, set}
 use Rattle.slots.specs.Slots.{Slots}
-use Rattle.vmalloc.proofs.Slices.{length-fields, downTo, down-start, down-on}
+use Rattle.slots.proofs.Slices.{length-fields, downTo, down-start, down-on}
 use Rattle.mmap.specs.declared.MappedRegion.{MappedRegion}
 use Rattle.mmap.specs.Regions.{noSlot}
-use Rattle.mmap.proofs.Stored.{stored-out}
+use Rattle.slots.proofs.Stored.{stored-out}
 use Rattle.mmap.proofs.MemoryMapper.remove_at.Statement.{statement}
 use Rattle.mmap.proofs.MemoryMapper.remove_at.Tie as tie
 

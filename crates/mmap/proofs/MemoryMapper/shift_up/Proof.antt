@@ -4,8 +4,8 @@ use mathlib.Core.Path.{_≡_, refl, _∙_, ap}
 use native.Mathlib.Omega.{arith}
 use borrow.Author.Needs.{needs}
 use lib.ListN.{length}
-use Rattle.vmalloc.specs.List.{shiftedUp}
-use Rattle.vmalloc.proofs.Slices.{length-fields, up-start, up-on}
+use Rattle.slots.specs.Shifts.{shiftedUp}
+use Rattle.slots.proofs.Slices.{length-fields, up-start, up-on}
 use Rattle.mmap.specs.Regions.{noSlot}
 use Rattle.mmap.proofs.MemoryMapper.shift_up.Statement.{statement}
 use Rattle.mmap.proofs.MemoryMapper.shift_up.Tie as tie

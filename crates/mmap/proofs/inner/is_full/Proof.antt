@@ -4,7 +4,7 @@ use native.Mathlib.Omega.{arith}
 use borrow.Author.Needs.{needs}
 use lib.ListN.{length, length-take}
 use Rattle.slots.specs.Slots.{listed}
-use Rattle.vmalloc.proofs.Slices.{length-fields}
+use Rattle.slots.proofs.Slices.{length-fields}
 use Rattle.mmap.specs.List.{slotsOf}
 use Rattle.mmap.specs.Calls.{user}
 use Rattle.mmap.proofs.Placing.{is-here, is-before}

@@ -9,15 +9,15 @@ use lib.ListN.{length, getD}
 use Rattle.frame.specs.Frames.{frames}
 use Rattle.paging.specs.Map.{memory}
 use Rattle.paging.proofs.Calls.{whole-roomy}
-use Rattle.slots.specs.Slots.{listed, every}
+use Rattle.slots.specs.Slots.{listed, every, firstAt}
 use Rattle.paging.specs.declared.Walked.the-variants.{At}
-use Rattle.vmalloc.specs.Regions.{noSlot, wellPlacedRegion, fits, firstFit}
-use Rattle.vmalloc.specs.List.{slotsOf, firstAt}
+use Rattle.regions.specs.Regions.{noSlot, wellPlacedRegion, fits, firstFit}
+use Rattle.regions.specs.List.{slotsOf}
 use Rattle.vmalloc.specs.Calls.{Kernel, kernel, placed}
 use Rattle.vmalloc.specs.Results.{vmalloced}
-use Rattle.vmalloc.proofs.Slices.{length-fields}
-use Rattle.vmalloc.proofs.Placed.{Placed, placed-at}
-use Rattle.vmalloc.proofs.Firsts.{first-below, fit-none-of, fit-of}
+use Rattle.slots.proofs.Slices.{length-fields}
+use Rattle.regions.proofs.Placed.{Placed, placed-at}
+use Rattle.regions.proofs.Firsts.{first-below, fit-none-of, fit-of}
 use Rattle.vmalloc.proofs.Calls.{placed-met, placed-stop}
 use Rattle.vmalloc.proofs.Told.{told, vmalloc-told, kernel-whole, kernel-few, kernel-placed, kernel-enough}
 use borrow.Author.Needs.{needs}

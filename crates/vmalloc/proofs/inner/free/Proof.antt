@@ -9,13 +9,13 @@ use Rattle.paging.specs.declared.Walked.the-variants.{At}
 use Rattle.paging.specs.Map.{memory}
 use Rattle.paging.proofs.Calls.{whole-roomy}
 use Rattle.slots.specs.Slots.{listed, every}
-use Rattle.vmalloc.specs.Regions.{noSlot, wellPlacedRegion, usedSize}
-use Rattle.vmalloc.specs.List.{slotsOf, usedAt}
+use Rattle.regions.specs.Regions.{noSlot, wellPlacedRegion, usedSize}
+use Rattle.regions.specs.List.{slotsOf, usedAt}
 use Rattle.vmalloc.specs.Calls.{Kernel, kernel, released}
 use Rattle.vmalloc.specs.Results.{vfreed}
-use Rattle.vmalloc.proofs.Slices.{length-fields}
-use Rattle.vmalloc.proofs.Placed.{Placed, placed-at}
-use Rattle.vmalloc.proofs.Firsts.{first-below, used-none-of, used-of, free-of}
+use Rattle.slots.proofs.Slices.{length-fields}
+use Rattle.regions.proofs.Placed.{Placed, placed-at}
+use Rattle.regions.proofs.Firsts.{first-below, used-none-of, used-of, free-of}
 use Rattle.vmalloc.proofs.Calls.{released-met}
 use Rattle.vmalloc.proofs.Told.{told, vfree-told, kernel-whole, kernel-few, kernel-placed, kernel-enough}
 use borrow.Author.Needs.{needs}

@@ -1,0 +1,160 @@
+-- The test for a broken list, one comparison after the other, and what it says of a region of a sound list.
+use Prim.Native.Nat.{ℕ, zero, suc, _+_, _-_, _%_, _<_, _≤_}
+use mathlib.Core.Path.{_≡_, refl, sym, _∙_, subst}
+use mathlib.Core.Bool.{Bool, true, false, not}
+use mathlib.Core.List.{List, [], _∷_, _++_}
+use native.Mathlib.Omega.{arith}
+use native.Mathlib.Decide.{decLe}
+use native.Mathlib.Numerals.{add-one}
+use lib.Dec.{eqb, leb, ltb}
+use lib.Bits.{bitOr, or-add-and, and-le-r, or-zero-l}
+use lib.ListN.{length, getD, set, drop, drop-of-length-le}
+use lib.Seq.{drop-cons, getD-take, length-take-le}
+use mir.Val.{boolByte}
+use borrow.Author.Tests.{le-leb, lt-leb, leb-true, ltb-true, eqb-true, eqb-false, eq-eqb, ne-eqb, lt-ltb, le-ltb}
+use Rattle.bits.specs.Bit.{both}
+use Rattle.bits.proofs.Choice.{both-true}
+use Rattle.allocator.specs.Round.{lastPage}
+use Rattle.slots.specs.Slots.{Slots, listed, every}
+use Rattle.regions.specs.declared.VMRegion.{VMRegion}
+use Rattle.regions.specs.Regions.{noSlot, wellPlaced, wellPlacedRegion, isNoSlot, soundRegions}
+
+-- ---- one region
+
+-- an end that fits, tested without the sum
+pub ends : (a n e : ℕ) → a ≤ e → leb n (e - a) ≡ leb (a + n) e
+ends a n e h = by (decLe n (e - a))
+  where
+    by : Dec (n ≤ e - a) → leb n (e - a) ≡ leb (a + n) e
+    by (yes l) = le-leb _ _ l ∙ sym (le-leb (a + n) e (omega arith))
+    by (no l) = lt-leb n (e - a) (omega arith) ∙ sym (lt-leb (a + n) e (omega arith))
+
+module _ (a n : ℕ) where
+  pub placed-start : (a % 4096 ≡ 0 → ⊥) → wellPlaced a n ≡ false
+  placed-start h = rw (ne-eqb _ _ h)
+
+  module _ (s : a % 4096 ≡ 0) where
+    pub placed-size : (n % 4096 ≡ 0 → ⊥) → wellPlaced a n ≡ false
+    placed-size h = rw (eq-eqb _ _ s, ne-eqb _ _ h)
+
+    module _ (z : n % 4096 ≡ 0) where
+      pub placed-empty : n ≡ 0 → wellPlaced a n ≡ false
+      placed-empty h = rw (eq-eqb _ _ s, eq-eqb _ _ z, le-ltb 0 n (omega arith))
+
+      pub placed-high : (n ≡ 0 → ⊥) → lastPage < a → wellPlaced a n ≡ false
+      placed-high p h = rw (eq-eqb _ _ s, eq-eqb _ _ z, lt-ltb 0 n (omega (arith, p)), lt-leb (a + n) lastPage (omega arith))
+
+      pub placed-end : (n ≡ 0 → ⊥) → a ≤ lastPage → wellPlaced a n ≡ leb n (lastPage - a)
+      placed-end p h = rw (eq-eqb _ _ s, eq-eqb _ _ z, lt-ltb 0 n (omega (arith, p))) (sym (ends a n lastPage h))
+
+-- what it says that a region is well placed
+pub record Placed (a n : ℕ) : Type 0 where
+  pub even : a % 4096 ≡ 0
+  pub whole : n % 4096 ≡ 0
+  pub some : 0 < n
+  pub end : a + n ≤ lastPage
+
+pub placed : (a n : ℕ) → wellPlaced a n ≡ true → Placed a n
+placed a n h =
+    let p = both-true (eqb (a % 4096) 0) _ h in
+    let q = both-true (eqb (n % 4096) 0) _ (p .1) in
+    let r = both-true (ltb 0 n) _ (q .1) in
+    record { even = eqb-true _ _ (p .0); whole = eqb-true _ _ (q .0); some = ltb-true _ _ (r .0); end = leb-true _ _ (r .1) }
+
+pub placed-back : (a n : ℕ) → Placed a n → wellPlaced a n ≡ true
+placed-back a n p = rw (eq-eqb _ _ (p .even), eq-eqb _ _ (p .whole), lt-ltb _ _ (p .some), le-leb _ _ (p .end))
+
+-- ---- each of a list
+
+module _ {A : Type 0} (test : A → Bool) where
+  pub every-at : (l : List A) → every test l ≡ true → (d : A) (i : ℕ) → i < length l → test (getD l i d) ≡ true
+  unfolding every
+  every-at [] h d i k = absurd (omega arith)
+  every-at (a ∷ l) h d zero k = both-true (test a) (every test l) h .0
+  every-at (a ∷ l) h d (suc i) k = every-at l (both-true (test a) (every test l) h .1) d i (omega arith)
+
+  pub every-append : (l m : List A) → every test (l ++ m) ≡ both (every test l) (every test m)
+  unfolding every
+  every-append [] m = refl
+  every-append (a ∷ l) m = rw (every-append l m) (three (test a) (every test l) (every test m))
+    where
+      three : (x y z : Bool) → both x (both y z) ≡ both (both x y) z
+      three true y z = refl
+      three false y z = refl
+
+  pub every-set : (l : List A) → every test l ≡ true → (i : ℕ) (a : A) → test a ≡ true → every test (set l i a) ≡ true
+  unfolding every
+  every-set [] h i a t = refl
+  every-set (b ∷ l) h zero a t = rw (t, both-true (test b) (every test l) h .1)
+  every-set (b ∷ l) h (suc i) a t =
+      let p = both-true (test b) (every test l) h in
+      rw (p .0, every-set l (p .1) i a t)
+
+-- ---- slots past the count, joined into one flag
+
+or-none : (a b : ℕ) → eqb (bitOr a b) 0 ≡ both (eqb a 0) (eqb b 0)
+or-none a b = by (eqb a 0) refl
+  where
+    by : (x : Bool) → eqb a 0 ≡ x → eqb (bitOr a b) 0 ≡ both x (eqb b 0)
+    by true e = rw (eqb-true a 0 e, or-zero-l b)
+    by false e = ne-eqb (bitOr a b) 0 (λ z. eqb-false a 0 e (omega (arith, or-add-and a b, and-le-r a b)))
+
+byte-none : (t : Bool) → eqb (boolByte t) 0 ≡ not t
+byte-none true = refl
+byte-none false = refl
+
+pub blank-on : (l : List VMRegion) (any i : ℕ) → i < length l
+    → both (eqb (bitOr any (bitOr (bitOr (getD l i noSlot .start) (getD l i noSlot .size)) (boolByte (getD l i noSlot .used)))) 0) (every isNoSlot (drop (i + 1) l))
+    ≡ both (eqb any 0) (every isNoSlot (drop i l))
+unfolding every
+blank-on l any i h =
+    let r = getD l i noSlot in
+    let sum = bitOr (r .start) (r .size) in
+    let mark = boolByte (r .used) in
+    rw (drop-cons l i noSlot h, add-one i, or-none any (bitOr sum mark), or-none sum mark, or-none (r .start) (r .size), byte-none (r .used))
+    (five (eqb any 0) (eqb (r .start) 0) (eqb (r .size) 0) (not (r .used)) (every isNoSlot (drop (suc i) l)))
+  where
+    five : (a b c e f : Bool) → both (both a (both (both b c) e)) f ≡ both a (both (both b (both c e)) f)
+    five true true c e f = refl
+    five true false c e f = refl
+    five false b c e f = refl
+
+pub blank-end : (l : List VMRegion) (any i : ℕ) → length l ≤ i → both (eqb any 0) (every isNoSlot (drop i l)) ≡ eqb any 0
+unfolding every
+blank-end l any i h = rw (drop-of-length-le l {i = i} h) (by (eqb any 0))
+  where
+    by : (x : Bool) → both x true ≡ x
+    by true = refl
+    by false = refl
+
+-- ---- the whole list
+
+module _ (s : Slots VMRegion) where
+  pub sound-many : 256 < s .count → soundRegions s ≡ false
+  unfolding soundRegions
+  sound-many h = rw (lt-leb _ _ h)
+
+  pub sound-misplaced : s .count ≤ 256 → every wellPlacedRegion (listed s) ≡ false → soundRegions s ≡ false
+  unfolding soundRegions
+  sound-misplaced h e = rw (le-leb _ _ h, e)
+
+  pub sound-rest : s .count ≤ 256 → every wellPlacedRegion (listed s) ≡ true → soundRegions s ≡ every isNoSlot (drop (s .count) (s .slots))
+  unfolding soundRegions
+  sound-rest h e = rw (le-leb _ _ h, e)
+
+  -- what a sound list says
+  pub sound-few : soundRegions s ≡ true → s .count ≤ 256
+  unfolding soundRegions
+  sound-few h = leb-true _ _ (both-true (leb (s .count) 256) _ h .0)
+
+  pub sound-placed : soundRegions s ≡ true → every wellPlacedRegion (listed s) ≡ true
+  unfolding soundRegions
+  sound-placed h = both-true (every wellPlacedRegion (listed s)) _ (both-true (leb (s .count) 256) _ h .1) .0
+
+-- .. and of each of its regions
+pub placed-at : (s : Slots VMRegion) → every wellPlacedRegion (listed s) ≡ true → s .count ≤ length (s .slots) → (i : ℕ) → i < s .count
+    → Placed (getD (s .slots) i noSlot .start) (getD (s .slots) i noSlot .size)
+placed-at s h enough i k =
+    placed _ _
+    (subst (λ (r : VMRegion). wellPlacedRegion r ≡ true) (getD-take (s .count) (s .slots) i noSlot k)
+    (every-at wellPlacedRegion (listed s) h noSlot i (omega (arith, length-take-le (s .count) (s .slots) enough))))
