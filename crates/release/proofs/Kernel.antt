@@ -13,7 +13,7 @@ use Rattle.paging.specs.Pages.{freePages}
 use Rattle.slots.specs.Slots.{listed, store}
 use Rattle.slots.proofs.Filled.{filled, listed-filled, store-filled}
 use Rattle.regions.specs.declared.VMRegion.{VMRegion}
-use Rattle.regions.specs.Regions.{windowStart, windowEnd, firstFit, taken, usedSize, freeFirst, merge}
+use Rattle.regions.specs.Regions.{windowStart, windowEnd, firstFit, taken, takenSlots, usedSize, freeFirst, merge}
 use Rattle.regions.specs.Regions.{noSlot as noKernelSlot}
 use Rattle.vmalloc.specs.Calls.{Kernel, kernel, Did, kernelPages, mapped, vmalloc, vfree}
 use Rattle.regions.proofs.Rows.{freed-first, taken-few}
