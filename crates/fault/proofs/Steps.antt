@@ -22,6 +22,7 @@ use Rattle.frame.specs.declared.Changed.{Changed}
 use Rattle.frame.specs.Frames.{frames, Did, inside, withMark, takeFrame}
 use Rattle.frame.specs.Results.{allocated}
 use Rattle.frame.proofs.Laws.{inside-yes, inside-from, inside-under, take-cases}
+use Rattle.mapper.proofs.Laws.{stepped}
 use Rattle.paging.specs.declared.Walked.{Walked}
 use Rattle.paging.specs.declared.Walked.the-variants.{At, Stop}
 use Rattle.paging.specs.Walk.{place}
@@ -248,11 +249,14 @@ copied-on-roomy up m root v f e n r = subst (λ (x : Memory). Roomy x n) (sym (a
 -- ---- copy on write
 
 module _ (up : ℕ) (m : Memory) (root v f : ℕ) (user : Bool) where
-  pub copy-to-stop : (n : ℕ) (m′ : Memory) → copyPage up m root v f ≡ out (Stop n) m′ → copyTo up m root v f user ≡ out (Stop n) m′
-  copy-to-stop n m′ e = rw e
+  -- after `copy_page`
+  pub copy-to-stop : {w : Walked} {m′ : Memory} → out w m′ ≡ copyPage up m root v f → {n : ℕ} → w ≡ Stop n → out (Stop n) m′ ≡ copyTo up m root v f user
+  copy-to-stop e h = ap (λ (r : Out). goOn r (λ _ n. mapFrame up (freePage up n root v) root v f true user)) (sym (stepped e h))
 
-  pub copy-to-on : (x : ℕ) (m′ : Memory) → copyPage up m root v f ≡ out (At x) m′ → copyTo up m root v f user ≡ mapFrame up (freePage up m′ root v) root v f true user
-  copy-to-on x m′ e = rw e
+  -- after `copy_page` and `remap_page`
+  pub copy-to-on : {w : Walked} {m′ : Memory} → out w m′ ≡ copyPage up m root v f → {x : ℕ} → w ≡ At x
+      → {o : Out} → o ≡ mapFrame up (freePage up m′ root v) root v f true user → o ≡ copyTo up m root v f user
+  copy-to-on e h q = q ∙ ap (λ (r : Out). goOn r (λ _ n. mapFrame up (freePage up n root v) root v f true user)) (sym (stepped e h))
 
 module _ (up : ℕ) (m : Memory) (root v : ℕ) (user : Bool) (m′ : Memory) where
   pub cow-none : (n : ℕ) → rawFrame m ≡ out (Stop n) m′ → copyOnWrite up m root v user ≡ out (Stop n) m′
@@ -283,18 +287,23 @@ module _ (m : Memory) (t i e f : ℕ) where
   unfolding overwrite
   put-over-in h {to = to} a b = let z : to ≡ (f - startOf m) * 512 = omega arith in rw (h, a, z)
 
-module _ (up : ℕ) (m : Memory) (root v f : ℕ) (w u : Bool) {is : List ℕ} (g : is ≡ indices (suc up) v) (m′ : Memory) where
-  pub map-over-stop : (n : ℕ) → make u m root (take up is) ≡ out (Stop n) m′ → mapOver up m root v f w u ≡ out (Stop n) m′
+-- after `make_tables`
+module _ (up : ℕ) (m : Memory) (root v f : ℕ) (w u : Bool) {is : List ℕ} (g : is ≡ indices (suc up) v) {x : Walked} {m′ : Memory}
+    (h : out x m′ ≡ make u m root (take up is)) where
+  pub map-over-stop : {n : ℕ} → x ≡ Stop n → out (Stop n) m′ ≡ mapOver up m root v f w u
   unfolding mapOver
-  map-over-stop n e = rw (subst (λ (l : List ℕ). make u m root (take up l) ≡ out (Stop n) m′) g e)
+  map-over-stop q =
+      (λ j. goOn (sym (stepped h q) j) (λ t n. putOver n t (getD is up 0) (entryOf (f * 2 ^ 12) w u) f))
+      ∙ ap (λ (l : List ℕ). goOn (make u m root (take up l)) (λ t n. putOver n t (getD l up 0) (entryOf (f * 2 ^ 12) w u) f)) g
 
-  -- after `start_address` and `set`
-  pub map-over-put : (t : ℕ) → make u m root (take up is) ≡ out (At t) m′ → f < 2 ^ 40 → {a e : ℕ} → a ≡ f * 2 ^ 12 % 2 ^ 64 → e ≡ entryOf a w u
-      → mapOver up m root v f w u ≡ putOver m′ t (getD is up 0) e f
+  -- .. `start_address`, `set` and `put_over`
+  pub map-over-put : {t : ℕ} → x ≡ At t → f < 2 ^ 40 → {a e : ℕ} → a ≡ f * 2 ^ 12 % 2 ^ 64 → e ≡ entryOf a w u
+      → {o : Out} → o ≡ putOver m′ t (getD is up 0) e f → o ≡ mapOver up m root v f w u
   unfolding mapOver
-  map-over-put t h low {e = e} p q =
+  map-over-put k low {e = e} p q r =
       let word : e ≡ entryOf (f * 2 ^ 12) w u = q ∙ ap (λ (n : ℕ). entryOf n w u) (p ∙ mod-eq-of-lt (omega arith)) in
-      rw (g, word, subst (λ (l : List ℕ). make u m root (take up l) ≡ out (At t) m′) g h)
+      r ∙ (λ j. goOn (sym (stepped h k) j) (λ t n. putOver n t (getD is up 0) (word j) f))
+      ∙ ap (λ (l : List ℕ). goOn (make u m root (take up l)) (λ t n. putOver n t (getD l up 0) (entryOf (f * 2 ^ 12) w u) f)) g
 
 module _ (up : ℕ) (m : Memory) (root v : ℕ) (w u : Bool) (m′ : Memory) where
   pub map-new-none : (n : ℕ) → rawFrame m ≡ out (Stop n) m′ → mapNew up m root v w u ≡ out (Stop n) m′

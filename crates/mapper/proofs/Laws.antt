@@ -1,15 +1,22 @@
 -- What the functions' proofs share: definitions by what code has in its hands.
-use Prim.Native.Nat.{ℕ, suc, _+_, _*_, _-_, _%_, _^_, _<_, _≤_}
+-- Large arguments (memories, tables, counters) are explicit and the proofs write them down: to fill them in takes antt up to ten times as long.
+use Prim.Native.Nat.{ℕ, suc, _+_, _*_, _-_, _/_, _%_, _^_, _<_, _≤_}
 use mathlib.Core.Path.{_≡_, sym, _∙_, ap, subst}
-use mathlib.Core.Bool.{Bool, true}
-use mathlib.Core.List.{List}
+use mathlib.Core.Bool.{Bool, true, false}
+use mathlib.Core.List.{List, _∷_}
 use native.Mathlib.Nat.{mod-eq-of-lt}
 use native.Mathlib.Omega.{arith}
-use lib.ListN.{length, getD, set, take}
+use lib.ListN.{length, getD, set, take, length-take}
+use mir.Syntax.{w64}
+use mir.Val.{Fits}
+use Rattle.answer.specs.Numbers.{alreadyMapped, notMapped}
 use Rattle.answer.specs.declared.Answer.{Answer}
+use Rattle.address.specs.Address.{aligned}
 use Rattle.address.specs.declared.Frame.{Frame}
 use Rattle.address.specs.declared.FrameAnswer.the-variants.{AtFrame, NoFrame}
-use Rattle.entry.specs.Entry.{entryOf, indices}
+use Rattle.bits.specs.Bit.{flag}
+use Rattle.entry.specs.Entry.{entryOf, hugeEntryOf, addrOf, frameOf, indices}
+use Rattle.entry.proofs.Entry.{frame-of-addr}
 use Rattle.frame.specs.declared.Allocated.{Allocated}
 use Rattle.frame.specs.declared.Changed.{Changed}
 use Rattle.frame.specs.Frames.{Frames, frames, inside, takeFrame}
@@ -17,15 +24,65 @@ use Rattle.frame.specs.Results.{allocated}
 use Rattle.frame.proofs.Laws.{inside-from, inside-under, inside-bit}
 use Rattle.paging.specs.declared.Walked.{Walked}
 use Rattle.paging.specs.declared.Walked.the-variants.{At, Stop}
-use Rattle.paging.specs.Walk.{place}
-use Rattle.paging.specs.Map.{Memory, memory, startOf, totalOf, Out, out, clear, create, enter, make, Left, putEntry, withWords, Roomy}
-use Rattle.paging.specs.Calls.{asAnswer, changed, mapAt}
-use Rattle.paging.proofs.Map.{taken-inside, create-new, create-full, enter-roomy, make-roomy, map-entry-stop, map-entry-put}
-use Rattle.paging.proofs.Calls.{told}
+use Rattle.paging.specs.declared.HugePageSize.{HugePageSize}
+use Rattle.paging.specs.Walk.{place, reach, leaf}
+use Rattle.paging.specs.Map.{Memory, memory, startOf, totalOf, Out, out, clear, create, enter, make, Left, putEntry, takeLeaf, withWords, Roomy}
+use Rattle.paging.specs.Calls.{asAnswer, changed, whole, sizeOf, tablesAbove, mapAt, mapPage, mapHuge}
+use Rattle.paging.proofs.Map.{roomy-less, taken-inside, create-new, create-full, enter-there, enter-absent, enter-roomy, make-stop, make-on, make-roomy, map-entry-stop, map-entry-put, put-full, put-free, take-leaf-none, take-leaf-there}
+use Rattle.paging.proofs.Calls.{told, told-left, map-is, huge-is}
+
+-- a loop's counter below n: the next one, what is left, and the place in bytes of its index
+module _ (i n : ℕ) (h : i < n) where
+  pub onward : i + 1 ≤ n
+  onward = omega arith
+
+  pub fewer : n - (i + 1) < n - i
+  fewer = omega arith
+
+  pub next-fits : n ≤ 4 → Fits w64 (i + 1)
+  next-fits k = record { fits = omega arith }
+
+  pub slot-fits : n ≤ 4 → Fits w64 (i * 8)
+  slot-fits k = record { fits = omega arith }
 
 -- what `entry_place` asks of an entry of a lent table
 pub place-asks : (start total t i : ℕ) → total ≤ 8192 → inside start total t ≡ true → i < 512 → (start ≤ t) × ((t - start < 8192) × (i < 512))
 place-asks start total t i few h k = (inside-from start total t h, (inside-bit start total t few h, k))
+
+-- what a call says of an outcome, part by part
+abbrev Told : Changed → List ℕ → List ℕ → Out → Type 0
+Told r ws bm o = (r ≡ changed o) × ((ws ≡ o .mem .words) × (bm ≡ o .mem .frames .bits))
+
+-- the frame that an entry names, from its address
+pub shifted : (e : ℕ) {a : ℕ} → a ≡ addrOf e → a / 4096 ≡ frameOf e
+shifted e h = ap (λ (x : ℕ). x / 4096) h ∙ frame-of-addr e
+
+module _ (ws : List ℕ) (start total e : ℕ) {a : ℕ} (h : a ≡ addrOf e) (is : List ℕ) where
+  pub reach-shifted : reach ws start total (frameOf e) is ≡ reach ws start total (a / 4096) is
+  reach-shifted = ap (λ (f : ℕ). reach ws start total f is) (sym (shifted e h))
+
+  pub leaf-shifted : leaf ws start total (frameOf e) is ≡ leaf ws start total (a / 4096) is
+  leaf-shifted = ap (λ (f : ℕ). leaf ws start total f is) (sym (shifted e h))
+
+-- an entry of a lent table, at word p
+module _ (start t i : ℕ) {p : ℕ} (q : p ≡ place start t i) (ws : List ℕ) (total : ℕ) (h : inside start total t ≡ true) where
+  word : {b : Bool} → flag 0 (getD ws p 0) ≡ b → flag 0 (getD ws (place start t i) 0) ≡ b
+  word {b} k = subst (λ (x : ℕ). flag 0 (getD ws x 0) ≡ b) q k
+
+  pub put-there : (e : ℕ) → flag 0 (getD ws p 0) ≡ true → let l = putEntry ws start total t i e in (Stop alreadyMapped ≡ l .walked) × (ws ≡ l .words)
+  put-there e k = told-left (put-full ws start total t i e h (word k))
+
+  pub put-new : (e : ℕ) → flag 0 (getD ws p 0) ≡ false → let l = putEntry ws start total t i e in (At 0 ≡ l .walked) × (set ws p e ≡ l .words)
+  put-new e k = let l = told-left (put-free ws start total t i e h (word k)) in (l .0, ap (λ (x : ℕ). set ws x e) q ∙ l .1)
+
+  pub take-none : flag 0 (getD ws p 0) ≡ false → let l = takeLeaf ws start total t i in (Stop notMapped ≡ l .walked) × (ws ≡ l .words)
+  take-none k = told-left (take-leaf-none ws start total t i h (word k))
+
+  pub take-there : {a : ℕ} → a ≡ addrOf (getD ws p 0) → flag 0 (getD ws p 0) ≡ true
+      → let l = takeLeaf ws start total t i in (At (a / 4096) ≡ l .walked) × (set ws p 0 ≡ l .words)
+  take-there g k =
+      let l = told-left (take-leaf-there ws start total t i h (word k)) in
+      (ap At (shifted (getD ws p 0) g ∙ ap (λ (x : ℕ). frameOf (getD ws x 0)) q) ∙ l .0, ap (λ (x : ℕ). set ws x 0) q ∙ l .1)
 
 -- after `take_frame`
 module _ (fr : Frames) (r : Allocated) (e : r ≡ allocated (takeFrame fr)) where
@@ -50,6 +107,16 @@ module _ (u : Bool) (m : Memory) (p : ℕ) (r : Allocated) (bm : List ℕ) (e : 
   pub create-none : (n : ℕ) → r .answer ≡ NoFrame n → out (Stop n) (memory (m .words) (frames bm (r .frames))) ≡ create u m p
   create-none n q = rw left (sym (create-full u m p n (sym (ap (λ (x : Allocated). x .answer) e) ∙ q)))
 
+-- in `enter`: the table that is there, or a new one
+module _ (u : Bool) (m : Memory) (t i : ℕ) {p : ℕ} (q : p ≡ place (startOf m) t i) (h : inside (startOf m) (totalOf m) t ≡ true) where
+  pub entered-there : {a : ℕ} → a ≡ addrOf (getD (m .words) p 0) → flag 0 (getD (m .words) p 0) ≡ true → out (At (a / 4096)) m ≡ enter u m t i
+  entered-there g k =
+      ap (λ (x : ℕ). out (At x) m) (shifted (getD (m .words) p 0) g ∙ ap (λ (x : ℕ). frameOf (getD (m .words) x 0)) q)
+      ∙ sym (enter-there u m t i h (subst (λ (x : ℕ). flag 0 (getD (m .words) x 0) ≡ true) q k))
+
+  pub entered-new : flag 0 (getD (m .words) p 0) ≡ false → {o : Out} → o ≡ create u m p → o ≡ enter u m t i
+  entered-new k c = c ∙ ap (create u m) q ∙ sym (enter-absent u m t i h (subst (λ (x : ℕ). flag 0 (getD (m .words) x 0) ≡ false) q k))
+
 -- after `enter`: where it came, and the room that is left
 pub stepped : {w w′ : Walked} {m : Memory} {o : Out} → out w m ≡ o → w ≡ w′ → o ≡ out w′ m
 stepped {m = m} e h = sym e ∙ ap (λ (x : Walked). out x m) h
@@ -57,18 +124,23 @@ stepped {m = m} e h = sym e ∙ ap (λ (x : Walked). out x m) h
 pub entered-roomy : (u : Bool) (m : Memory) (t i : ℕ) {w : Walked} {m′ : Memory} → out w m′ ≡ enter u m t i → (n : ℕ) → Roomy m (n + 1) → Roomy m′ n
 entered-roomy u m t i e n r = subst (λ (x : Memory). Roomy x n) (sym (ap (λ (o : Out). o .mem) e)) (enter-roomy u m t i n r)
 
+-- the same in the loop over the indices i ∷ q that are left, of which l were passed
+module _ (u : Bool) (m : Memory) (t i : ℕ) (w : Walked) (m′ : Memory) (e : out w m′ ≡ enter u m t i) where
+  pub entered-left : (l k : ℕ) → l < k → k ≤ 3 → Roomy m (3 - l) → Roomy m′ (3 - (l + 1))
+  entered-left l k h s r = entered-roomy u m t i e (3 - (l + 1)) (roomy-less (3 - (l + 1) + 1) (omega arith) r)
+
+  pub made-stop : {o : Out} (p q : List ℕ) → o ≡ make u m t p → p ≡ i ∷ q → (n : ℕ) → w ≡ Stop n → out (Stop n) m′ ≡ o
+  made-stop p q a b n h = sym (a ∙ make-stop u m t b m′ n (stepped e h))
+
+  pub made-on : {o : Out} (p q : List ℕ) → o ≡ make u m t p → p ≡ i ∷ q → (f : ℕ) → w ≡ At f → o ≡ make u m′ f q
+  made-on p q a b f h = a ∙ make-on u m t b m′ f (stepped e h)
+
 -- after `make_tables`: the room that is left
 pub made-roomy : (u : Bool) (m : Memory) (t : ℕ) (p : List ℕ) {w : Walked} {m′ : Memory} → out w m′ ≡ make u m t p → (n : ℕ) → Roomy m (n + length p) → Roomy m′ n
 made-roomy u m t p e n r = subst (λ (x : Memory). Roomy x n) (sym (ap (λ (o : Out). o .mem) e)) (make-roomy u n p m t r)
 
--- after the tables are made, with the indices that `page_indices` gave
-module _ (up k : ℕ) (u : Bool) (m : Memory) (root v e : ℕ) {is : List ℕ} (g : is ≡ indices (suc up) v) (m′ : Memory) where
-  pub map-at-stop : (n : ℕ) → make u m root (take k is) ≡ out (Stop n) m′ → mapAt up k u m root v e ≡ out (Stop n) m′
-  map-at-stop n h = map-entry-stop u m root _ _ e n m′ (subst (λ (l : List ℕ). make u m root (take k l) ≡ out (Stop n) m′) g h)
-
-  pub map-at-put : (t : ℕ) → make u m root (take k is) ≡ out (At t) m′
-      → mapAt up k u m root v e ≡ withWords m′ (putEntry (m′ .words) (startOf m′) (totalOf m′) t (getD is k 0) e)
-  map-at-put t h = rw g (map-entry-put u m root _ _ e t m′ (subst (λ (l : List ℕ). make u m root (take k l) ≡ out (At t) m′) g h))
+pub made-left : (u : Bool) (m : Memory) (t : ℕ) (is : List ℕ) (k : ℕ) {w : Walked} {m′ : Memory} → out w m′ ≡ make u m t (take k is) → k ≤ 3 → Roomy m 3 → Roomy m′ 0
+made-left u m t is k e h r = made-roomy u m t (take k is) e 0 (roomy-less _ (omega (arith, length-take k is)) r)
 
 -- after `put_entry` and `as_answer`: the outcome part by part
 pub put-told : {o : Out} (m : Memory) (l : Left) → o ≡ withWords m l → {a : Answer} {w : Walked} {ws : List ℕ} → a ≡ asAnswer w → w ≡ l .walked → ws ≡ l .words
@@ -77,7 +149,30 @@ put-told m l e x y z =
     let t = told e in
     ((λ j. record { answer = (x ∙ ap asAnswer y) j; frames = m .frames .fa }) ∙ t .0, (z ∙ t .1 .0, t .1 .1))
 
+-- after the tables are made, with the indices that `page_indices` gave
+module _ (up k : ℕ) (u : Bool) (m : Memory) (root v e : ℕ) {is : List ℕ} (g : is ≡ indices (suc up) v) (m′ : Memory) {w : Walked} (d : out w m′ ≡ make u m root (take k is)) where
+  come : (w′ : Walked) → w ≡ w′ → make u m root (take k (indices (suc up) v)) ≡ out w′ m′
+  come w′ h = subst (λ (l : List ℕ). make u m root (take k l) ≡ out w′ m′) g (stepped d h)
+
+  pub map-at-stop : (n : ℕ) → w ≡ Stop n → mapAt up k u m root v e ≡ out (Stop n) m′
+  map-at-stop n h = map-entry-stop u m root _ _ e n m′ (come (Stop n) h)
+
+  pub map-at-put : (t : ℕ) → w ≡ At t → {a : Answer} {s : Walked} {ws : List ℕ} → a ≡ asAnswer s
+      → let l = putEntry (m′ .words) (startOf m′) (totalOf m′) t (getD is k 0) e in
+      (s ≡ l .walked) × (ws ≡ l .words) → Told (record { answer = a; frames = m′ .frames .fa }) ws (m′ .frames .bits) (mapAt up k u m root v e)
+  map-at-put t h x y =
+      put-told m′ (putEntry (m′ .words) (startOf m′) (totalOf m′) t (getD is k 0) e)
+      (map-entry-put u m root _ _ e t m′ (come (At t) h) ∙ λ j. withWords m′ (putEntry (m′ .words) (startOf m′) (totalOf m′) t (getD (sym g j) k 0) e)) x (y .0) (y .1)
+
 -- what `map_entry` gave is what the call gives
 pub passed-on : {o p : Out} {r : Changed} {ws bm : List ℕ} → (r ≡ changed o) × ((ws ≡ o .mem .words) × (bm ≡ o .mem .frames .bits)) → o ≡ p
     → (r ≡ changed p) × ((ws ≡ p .mem .words) × (bm ≡ p .mem .frames .bits))
-passed-on {r = r} {ws = ws} {bm = bm} h e = subst (λ (x : Out). (r ≡ changed x) × ((ws ≡ x .mem .words) × (bm ≡ x .mem .frames .bits))) e h
+passed-on {r = r} {ws = ws} {bm = bm} h e = subst (Told r ws bm) e h
+
+module _ (m : Memory) (root v p : ℕ) (w u : Bool) (h : whole m root ≡ true) {r : Changed} {ws bm : List ℕ} where
+  pub page-told : (e : ℕ) → e ≡ entryOf p w u → Told r ws bm (mapAt 3 3 u m root v e) → Told r ws bm (mapPage 3 m root v p w u)
+  page-told e g t = passed-on t (ap (mapAt 3 3 u m root v) g ∙ sym (map-is 3 m root v p w u h))
+
+  pub huge-told : (s : HugePageSize) → aligned v (sizeOf s) ≡ true → aligned p (sizeOf s) ≡ true → (k : ℕ) → k ≡ tablesAbove 3 s → (e : ℕ) → e ≡ hugeEntryOf p w u
+      → Told r ws bm (mapAt 3 k u m root v e) → Told r ws bm (mapHuge 3 m root v p s w u)
+  huge-told s a b k f e g t = passed-on t ((λ j. mapAt 3 (f j) u m root v (g j)) ∙ sym (huge-is 3 m root v p w u s h a b))

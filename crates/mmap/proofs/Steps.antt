@@ -32,14 +32,16 @@ use Rattle.mmap.specs.Calls.{User, user, Did, did, soundUser, fixedAt, h
 
 -- ---- what code says of a call: what it returns, words and bitmap
 
+abbrev pub Told : {B : Type 0} → (Did → B) → B → List ℕ → List ℕ → Did → Type 0
+Told f r ws bm d = (r ≡ f d) × ((ws ≡ d .user .mem .words) × (bm ≡ d .user .mem .frames .bits))
+
 module _ {B : Type 0} (f : Did → B) {r : B} where
-  pub told : {d e : Did} → d ≡ e → r ≡ f e → (r ≡ f d) × ((e .user .mem .words ≡ d .user .mem .words) × (e .user .mem .frames .bits ≡ d .user .mem .frames .bits))
+  pub told : {d e : Did} → d ≡ e → r ≡ f e → Told f r (e .user .mem .words) (e .user .mem .frames .bits) d
   told q p = (p ∙ ap f (sym q), (ap (λ (x : Did). x .user .mem .words) (sym q), ap (λ (x : Did). x .user .mem .frames .bits) (sym q)))
 
   -- what an inner function gave is what the call gives
-  pub passed-on : {d e : Did} {ws bm : List ℕ} → (r ≡ f e) × ((ws ≡ e .user .mem .words) × (bm ≡ e .user .mem .frames .bits)) → d ≡ e
-      → (r ≡ f d) × ((ws ≡ d .user .mem .words) × (bm ≡ d .user .mem .frames .bits))
-  passed-on {ws = ws} {bm = bm} h q = subst (λ (x : Did). (r ≡ f x) × ((ws ≡ x .user .mem .words) × (bm ≡ x .user .mem .frames .bits))) (sym q) h
+  pub passed-on : {d e : Did} {ws bm : List ℕ} → Told f r ws bm e → d ≡ e → Told f r ws bm d
+  passed-on {ws = ws} {bm = bm} h q = subst (Told f r ws bm) (sym q) h
 
 -- ---- what is lent
 

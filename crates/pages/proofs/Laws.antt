@@ -1,5 +1,6 @@
 -- What the functions' proofs share: the definitions by what code has in its hands.
-use Prim.Native.Nat.{ℕ, suc, _+_, _*_, _-_, _%_, _^_, _<_, _≤_}
+-- Large arguments (memories, tables, counters) are explicit and the proofs write them down: to fill them in takes antt up to ten times as long.
+use Prim.Native.Nat.{ℕ, suc, _+_, _*_, _-_, _/_, _%_, _^_, _<_, _≤_}
 use mathlib.Core.Path.{_≡_, refl, sym, _∙_, ap, subst}
 use mathlib.Core.Bool.{Bool}
 use mathlib.Core.List.{List}
@@ -7,9 +8,12 @@ use native.Mathlib.Nat.{mod-eq-of-lt}
 use native.Mathlib.Numerals.{add-one}
 use native.Mathlib.Omega.{arith}
 use lib.ListN.{length}
+use mir.Syntax.{w64}
+use mir.Val.{Fits}
 use Rattle.address.specs.declared.Frame.{Frame}
 use Rattle.address.specs.declared.FrameAnswer.the-variants.{AtFrame, NoFrame}
-use Rattle.entry.specs.Entry.{entryOf}
+use Rattle.entry.specs.Entry.{entryOf, addrOf, frameOf}
+use Rattle.entry.proofs.Entry.{frame-of-addr}
 use Rattle.frame.specs.declared.Allocated.{Allocated}
 use Rattle.frame.specs.declared.Changed.{Changed}
 use Rattle.frame.specs.declared.Given.{Given}
@@ -20,10 +24,32 @@ use Rattle.paging.specs.declared.Walked.the-variants.{At, Stop}
 use Rattle.paging.specs.Walk.{place, Lent}
 use Rattle.paging.specs.Map.{Memory, memory, startOf, totalOf, Out, out, clear, Left, left, Roomy}
 use Rattle.paging.specs.Calls.{changed, asAnswer, mapAt}
-use Rattle.paging.specs.Pages.{ran, freshFrame, orFailed, mapFresh, mapPages, clearPage, clearPages, freePages}
+use Rattle.paging.proofs.Map.{roomy-less}
+use Rattle.paging.specs.Pages.{Ran, ran, freshFrame, orFailed, mapFresh, mapPages, clearPage, clearPages, freePages}
 use Rattle.paging.proofs.Pages.{fresh-new, fresh-full, fresh-roomy, fresh-low, map-fresh-on, map-fresh-roomy, map-entry-at}
 use Rattle.paging.proofs.Pages.{map-pages-none, map-pages-on, map-pages-stop, clear-pages-none, clear-pages-more, free-pages-none}
+use Rattle.mapper.proofs.Laws.{stepped}
 use Rattle.pages.specs.Answers.{asWalked}
+
+-- ---- a loop's counter below n: the next one, what is left, and the place in bytes of an index
+
+module _ (i n : ℕ) (h : i < n) where
+  pub onward : i + 1 ≤ n
+  onward = omega arith
+
+  pub fewer : n - (i + 1) < n - i
+  fewer = omega arith
+
+  pub next-fits : Fits w64 n → Fits w64 (i + 1)
+  next-fits f = record { fits = omega (arith, f .fits) }
+
+  pub slot-fits : n ≤ 4 → Fits w64 (i * 8)
+  slot-fits k = record { fits = omega arith }
+
+-- ---- the frame that an entry names, from its address
+
+pub named : (e : ℕ) {a : ℕ} → a ≡ addrOf e → At (frameOf e) ≡ At (a / 4096)
+named e h = ap At (sym (ap (λ (x : ℕ). x / 4096) h ∙ frame-of-addr e))
 
 -- ---- a fresh frame, after `take_frame`
 
@@ -91,6 +117,17 @@ module _ (root v i n : ℕ) (lt : i < n) where
 
     pub run-stop : (a : ℕ) → mapFresh up w u m root (v + i * 4096) ≡ out (Stop a) m′ → mapPages up w u m root (v + i * 4096) i (n - i) ≡ ran (Stop a) i m′
     run-stop a e = rw one-less (map-pages-stop up w u m root _ i _ m′ a e)
+
+  module _ (w u : Bool) (m m′ : Memory) {x : Walked} (e : out x m′ ≡ mapFresh 3 w u m root (v + i * 4096)) where
+    pub turn-left : Roomy m ((n - i) * 4) → Roomy m′ ((n - (i + 1)) * 4)
+    turn-left r = map-fresh-left w u m root (v + i * 4096) e ((n - (i + 1)) * 4) (roomy-less ((n - (i + 1)) * 4 + 4) (omega arith) r)
+
+    module _ {o : Ran} (a : o ≡ mapPages 3 w u m root (v + i * 4096) i (n - i)) where
+      pub turn-on : (y : ℕ) → x ≡ At y → o ≡ mapPages 3 w u m′ root (v + (i + 1) * 4096) (i + 1) (n - (i + 1))
+      turn-on y h = a ∙ run-on 3 w u m m′ y (stepped e h)
+
+      pub turn-stop : (y : ℕ) → x ≡ Stop y → ran (Stop y) i m′ ≡ o
+      turn-stop y h = sym (a ∙ run-stop 3 w u m m′ y (stepped e h))
 
   pub clear-on : (up : ℕ) (m m′ : Memory) → m′ ≡ clearPage up m root (v + i * 4096)
       → clearPages up m root (v + i * 4096) (n - i) ≡ clearPages up m′ root (v + (i + 1) * 4096) (n - (i + 1))

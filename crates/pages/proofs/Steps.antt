@@ -4,6 +4,8 @@ use mathlib.Core.Path.{_≡_, sym, _∙_, ap, subst}
 use mathlib.Core.List.{List, _∷_}
 use mathlib.Core.Logic.{inl, inr, ⊎-elim}
 use native.Mathlib.Omega.{arith}
+use mir.Syntax.{w64}
+use mir.Val.{Fits}
 use lib.ListN.{length, getD, take, length-append}
 use lib.Seq.{getD-take, getD-append-seam, take-append-seam, take-take}
 use Rattle.entry.specs.Entry.{indices}
@@ -73,6 +75,20 @@ span-on root v n done r m m′ less fit e =
     let a : v + (done + r) * 4096 ≡ (v + done * 4096) + r * 4096 = omega arith in
     ap (freePages 3 m root (v + done * 4096)) s ∙ free-pages-add 3 root (n - (done + r)) r m (v + done * 4096)
     ∙ (λ j. freePages 3 (sym e j) root (sym a j) (n - (done + r)))
+
+pub span-some : (n done : ℕ) → done < n → 0 < n - done
+span-some n done h = omega arith
+
+-- .. which come to no more than n
+module _ (n done r : ℕ) (less : r ≤ n - done) where
+  pub span-within : done ≤ n → done + r ≤ n
+  span-within fit = omega arith
+
+  pub span-fits : {max : ℕ} → done ≤ n → n ≤ max → Fits w64 max → Fits w64 (done + r)
+  span-fits fit most f = record { fits = omega (arith, f .fits) }
+
+  pub span-less : 0 < r → n - (done + r) < n - done
+  span-less some = omega arith
 
 pub span-roomy : {m′ : Memory} (m : Memory) (root v r : ℕ) → m′ ≡ freePages 3 m root v r → Roomy m 0 → Roomy m′ 0
 span-roomy m root v r e w = subst (λ (x : Memory). Roomy x 0) (sym e) (free-pages-roomy 3 root r m v 0 w)

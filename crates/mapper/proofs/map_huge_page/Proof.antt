@@ -1,14 +1,15 @@
 -- `map_huge_page`: 10, then 4, or the entry below the tables that its size leaves.
 use Prim.Native.Nat.{ℕ, _≤_}
-use mathlib.Core.Path.{_≡_, sym, _∙_, ap, subst}
+use mathlib.Core.Path.{_≡_, refl, sym, _∙_, ap, subst}
+use lib.Dec.{lit≤}
 use mathlib.Core.Bool.{true}
 use Rattle.address.specs.Address.{aligned}
 use Rattle.frame.specs.Frames.{frames}
 use Rattle.frame.proofs.Laws.{passed, failed}
 use Rattle.paging.specs.Map.{memory}
-use Rattle.paging.specs.Calls.{whole, sizeOf, tablesAbove, mapAt}
-use Rattle.paging.proofs.Calls.{told, whole-roomy, tables-few, huge-broken, huge-virt, huge-phys, huge-is}
-use Rattle.mapper.proofs.Laws.{passed-on}
+use Rattle.paging.specs.Calls.{whole, sizeOf}
+use Rattle.paging.proofs.Calls.{told, whole-roomy, tables-few, huge-broken, huge-virt, huge-phys}
+use Rattle.mapper.proofs.Laws.{huge-told}
 use borrow.Author.Needs.{needs}
 use Rattle.mapper.proofs.map_huge_page.Statement.{statement}
 use Rattle.mapper.proofs.map_huge_page.Tie as tie
@@ -17,10 +18,13 @@ is-whole-requires : tie.Need-is-whole-requires
 is-whole-requires c κs = search needs
 
 same-length : tie.Need-same-length
-same-length c = search needs
+same-length c = refl
 
 returns : tie.Need-returns
-returns c = told (huge-broken _ _ _ _ _ _ _ _ (failed (c .before .is-whole .ensures) (c .if1 .taken)))
+returns c =
+    let a = c .before .before .before .before .before .args in
+    told (huge-broken 3 (memory (a .words .now) (frames (a .bitmap .now) (a .frames))) (a .root .0) (a .virt .0) (a .phys .0) (a .writable) (a .user) (a .size)
+    (failed (c .before .is-whole .ensures) (c .if1 .taken)))
 
 -- nothing is broken
 good : (c : tie.Else1) → let a = c .before .before .before .before .before .args in
@@ -45,23 +49,29 @@ phys-test c =
     c .is-aligned2 .ensures ∙ ap (aligned (a .phys .0)) (c .before .before .before .alignment .ensures)
 
 same-length-2 : tie.Need-same-length-2
-same-length-2 c = search needs
+same-length-2 c = refl
 
 returns-2 : tie.Need-returns-2
 returns-2 c =
-    told (huge-virt _ _ _ _ _ _ _ _ (good (c .before .before .before)) (failed (virt-test (c .before)) (c .if2 .taken)))
+    let g = c .before .before .before in
+    let a = g .before .before .before .before .before .args in
+    told (huge-virt 3 (memory (a .words .now) (frames (a .bitmap .now) (a .frames))) (a .root .0) (a .virt .0) (a .phys .0) (a .writable) (a .user) (a .size)
+    (good g) (failed (virt-test (c .before)) (c .if2 .taken)))
 
 is-aligned-requires-2 : tie.Need-is-aligned-requires-2
 is-aligned-requires-2 c κs = search needs
 
 same-length-3 : tie.Need-same-length-3
-same-length-3 c = search needs
+same-length-3 c = refl
 
 returns-3 : tie.Need-returns-3
 returns-3 c =
     let v = c .before .before in
+    let g = v .before .before .before in
+    let a = g .before .before .before .before .before .args in
     told
-    (huge-phys _ _ _ _ _ _ _ _ (good (v .before .before .before)) (passed (virt-test (v .before)) (v .if2 .left)) (failed (phys-test (c .before)) (c .if3 .taken)))
+    (huge-phys 3 (memory (a .words .now) (frames (a .bitmap .now) (a .frames))) (a .root .0) (a .virt .0) (a .phys .0) (a .writable) (a .user) (a .size) (good g)
+    (passed (virt-test (v .before)) (v .if2 .left)) (failed (phys-test (c .before)) (c .if3 .taken)))
 
 set-huge-requires : tie.Need-set-huge-requires
 set-huge-requires c κs = search needs
@@ -71,13 +81,14 @@ tables-above-requires c κs = search needs
 
 map-entry-requires : tie.Need-map-entry-requires
 map-entry-requires c κs =
-    let o = c .before .before .before .before .before .before .before .before .before in (
-      whole-roomy _ _ (good o) 3 (search needs),
-      subst (λ (n : ℕ). n ≤ 3) (sym (c .tables-above .ensures)) (tables-few 3 (o .before .before .before .before .before .args .size)),
+    let o = c .before .before .before .before .before .before .before .before .before in
+    let a = o .before .before .before .before .before .args in (
+      whole-roomy (memory (a .words .now) (frames (a .bitmap .now) (a .frames))) (a .root .0) (good o) 3 (lit≤ tt),
+      subst (λ (n : ℕ). n ≤ 3) (sym (c .tables-above .ensures)) (tables-few 3 (a .size)),
     )
 
 same-length-4 : tie.Need-same-length-4
-same-length-4 c = search needs
+same-length-4 c = c .before .before .map-entry .kept .0
 
 returns-4 : tie.Need-returns-4
 returns-4 c =
@@ -88,11 +99,9 @@ returns-4 c =
     let v = p .before .before in
     let o = v .before .before .before in
     let a = o .before .before .before .before .before .args in
-    let m = memory (a .words .now) (frames (a .bitmap .now) (a .frames)) in
-    passed-on (r .map-entry .ensures)
-    (ap (λ (k : ℕ). mapAt 3 k (a .user) m (a .root .0) (a .virt .0) (h .set-huge .result .0)) (t .tables-above .ensures)
-    ∙ ap (mapAt 3 (tablesAbove 3 (a .size)) _ _ _ _) (h .set-huge .ensures)
-    ∙ sym (huge-is _ _ _ _ _ _ _ _ (good o) (passed (virt-test (v .before)) (v .if2 .left)) (passed (phys-test (p .before)) (p .if3 .left))))
+    huge-told (memory (a .words .now) (frames (a .bitmap .now) (a .frames))) (a .root .0) (a .virt .0) (a .phys .0) (a .writable) (a .user) (good o)
+    (a .size) (passed (virt-test (v .before)) (v .if2 .left)) (passed (phys-test (p .before)) (p .if3 .left))
+    (t .tables-above .result) (t .tables-above .ensures) (h .set-huge .result .0) (h .set-huge .ensures) (r .map-entry .ensures)
 
 pub map-huge-page-spec : {M : Type 1} → statement M
 map-huge-page-spec =

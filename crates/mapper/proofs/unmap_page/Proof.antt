@@ -29,19 +29,19 @@ from c h =
     (ap asFrame (sym h ∙ c .unmap-leaf .ensures .0 ∙ e .0), c .unmap-leaf .ensures .1 ∙ e .1)
 
 enum-known-f : tie.Need-enum-known-f
-enum-known-f c = search needs
+enum-known-f c = c .match .keys1
 
 enum-known-n : tie.Need-enum-known-n
-enum-known-n c = search needs
+enum-known-n c = c .match .keys2
 
 same-length : tie.Need-same-length
-same-length c = search needs
+same-length c = c .before .before .before .before .before .unmap-leaf .kept .0
 
 returns-2 : tie.Need-returns-2
 returns-2 c = from (c .before .before .before .before .before) (c .before .f .given .1)
 
 same-length-2 : tie.Need-same-length-2
-same-length-2 c = search needs
+same-length-2 c = c .before .before .before .before .before .unmap-leaf .kept .0
 
 returns-3 : tie.Need-returns-3
 returns-3 c = from (c .before .before .before .before .before) (c .before .n .given .1)

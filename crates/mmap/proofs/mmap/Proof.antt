@@ -1,12 +1,19 @@
 -- `mmap`: 10, 1, 3 for the size, then the region.
-use mathlib.Core.Path.{_≡_, sym, _∙_}
+use mathlib.Core.Path.{_≡_, refl, sym, _∙_}
 use mathlib.Core.Bool.{true}
+use mathlib.Core.List.{List}
+use Prim.Native.Nat.{ℕ}
+use mir.Syntax.{w32}
+use mir.Val.{ofZ, toZ}
 use mir.Facts.{toZ-ofZ}
 use borrow.Author.Needs.{needs}
 use Rattle.frame.proofs.Laws.{passed, failed}
-use Rattle.mmap.specs.Calls.{User, soundUser}
+use Rattle.mmap.specs.Calls.{User, soundUser, chosenRegion, mmap}
+use Rattle.mmap.specs.declared.Mmapped.{Mmapped}
+use Rattle.allocator.specs.Round.{rounded}
+use Rattle.answer.specs.declared.CountAnswer.the-variants.{Count}
 use Rattle.mmap.specs.Results.{lentUser, mmapped}
-use Rattle.mmap.proofs.Steps.{told, passed-on, mmap-broken, mmap-empty, mmap-large, mmap-sized, wish-same, rounded-whole}
+use Rattle.mmap.proofs.Steps.{Told, told, passed-on, mmap-broken, mmap-empty, mmap-large, mmap-sized, wish-same, rounded-whole}
 use Rattle.mmap.proofs.mmap.Statement.{statement}
 use Rattle.mmap.proofs.mmap.Tie as tie
 
@@ -14,17 +21,17 @@ abbrev lent : tie.Start → User
 lent s = lentUser (s .args .words .now) (s .args .bitmap .now) (s .args .frames) (s .args .list)
 
 is-whole-requires : tie.Need-is-whole-requires
-is-whole-requires c κs = search needs
+is-whole-requires c κs = tt
 
 -- nothing that is lent is broken
 good : (c : tie.Else1) → let s = c .before .before .before .before .before in soundUser (lent s) (s .args .root .0) ≡ true
 good c = passed (c .before .is-whole .ensures) (c .if1 .left)
 
 no-mapping-requires : tie.Need-no-mapping-requires
-no-mapping-requires c κs = search needs
+no-mapping-requires c κs = tt
 
 same-length : tie.Need-same-length
-same-length c = search needs
+same-length c = refl
 
 returns : tie.Need-returns
 returns c =
@@ -34,10 +41,10 @@ returns c =
     (failed (w .is-whole .ensures) (c .before .if1 .taken))) (c .no-mapping .ensures)
 
 no-mapping-requires-2 : tie.Need-no-mapping-requires-2
-no-mapping-requires-2 c κs = search needs
+no-mapping-requires-2 c κs = tt
 
 same-length-2 : tie.Need-same-length-2
-same-length-2 c = search needs
+same-length-2 c = refl
 
 returns-2 : tie.Need-returns-2
 returns-2 c =
@@ -47,16 +54,16 @@ returns-2 c =
     (c .no-mapping2 .ensures)
 
 page-align-up-requires : tie.Need-page-align-up-requires
-page-align-up-requires c κs = search needs
+page-align-up-requires c κs = tt
 
 enum-known-e : tie.Need-enum-known-e
-enum-known-e c = search needs
+enum-known-e c = c .match .keys1
 
 no-mapping-requires-3 : tie.Need-no-mapping-requires-3
-no-mapping-requires-3 c κs = search needs
+no-mapping-requires-3 c κs = tt
 
 enum-known-n : tie.Need-enum-known-n
-enum-known-n c = search needs
+enum-known-n c = c .match .keys2
 
 map-chosen-requires : tie.Need-map-chosen-requires
 map-chosen-requires c κs =
@@ -66,7 +73,7 @@ map-chosen-requires c κs =
     (good (r .before .before), whole)
 
 same-length-3 : tie.Need-same-length-3
-same-length-3 c = search needs
+same-length-3 c = refl
 
 returns-3 : tie.Need-returns-3
 returns-3 c =
@@ -81,17 +88,23 @@ returns-3 c =
 same-length-4 : tie.Need-same-length-4
 same-length-4 c = search needs
 
+-- the region's answer, over the arguments alone; a signed number that is passed on is what its bits read back
+sized : (s : tie.Start) (n : ℕ) {r : Mmapped} {ws bm : List ℕ} → soundUser (lent s) (s .args .root .0) ≡ true → (s .args .size ≡ 0 → ⊥) → rounded (s .args .size) ≡ Count n
+    → Told mmapped r ws bm (chosenRegion 3 (lent s) (s .args .root .0) (s .args .wish) n (toZ w32 (ofZ w32 (s .args .prot))) (toZ w32 (ofZ w32 (s .args .flags))))
+    → Told mmapped r ws bm (mmap 3 (lent s) (s .args .root .0) (s .args .wish) (s .args .size) (s .args .prot) (s .args .flags))
+sized s n h k e t =
+    passed-on mmapped t
+    (mmap-sized 3 (lent s) (s .args .root .0) (s .args .wish) (s .args .size) (s .args .prot) (s .args .flags) h k n e
+    ∙ wish-same 3 (lent s) (s .args .root .0) (s .args .wish) n (sym (toZ-ofZ (s .fits .prot))) (sym (toZ-ofZ (s .fits .flags))))
+
 returns-4 : tie.Need-returns-4
 returns-4 c =
     let m = c .before .before in
     let n = m .before .before .before .before in
     let r = n .before .before in
     let t = r .before in
-    let s = t .before .before .before .before .before .before in
-    passed-on mmapped (m .map-chosen .ensures)
-    (mmap-sized 3 (lent s) (s .args .root .0) (s .args .wish) (s .args .size) (s .args .prot) (s .args .flags) (good (t .before)) (t .if2 .left) _
-    (sym (r .page-align-up .ensures) ∙ n .n .given .1)
-    ∙ wish-same 3 (lent s) (s .args .root .0) (s .args .wish) _ (sym (toZ-ofZ (s .fits .prot))) (sym (toZ-ofZ (s .fits .flags))))
+    sized (t .before .before .before .before .before .before) (n .n .given .0 .0) (good (t .before)) (t .if2 .left) (sym (r .page-align-up .ensures) ∙ n .n .given .1)
+    (m .map-chosen .ensures)
 
 pub mmap-spec : {M : Type 1} → statement M
 mmap-spec =

@@ -8,7 +8,7 @@ use borrow.Author.Needs.{needs}
 use Rattle.frame.specs.Frames.{frames as framesOf}
 use Rattle.paging.specs.Map.{memory}
 use Rattle.paging.specs.Pages.{clearPages}
-use Rattle.pages.proofs.Laws.{clear-on, clear-end, lent-still}
+use Rattle.pages.proofs.Laws.{onward, fewer, next-fits, clear-on, clear-end, lent-still}
 use Rattle.pages.proofs.clear_pages.Statement.{statement}
 use Rattle.pages.proofs.clear_pages.Tie as tie
 
@@ -34,23 +34,31 @@ clear-page-requires : tie.Need-clear-page-requires Inv-loop μ-loop
 clear-page-requires c κs = let l = c .before .before .before in lent-still (l .loop .inv .1) (l .before .before .pre .0)
 
 add-i : tie.Need-add-i Inv-loop μ-loop
-add-i c = search needs
+add-i c =
+    let t = c .before .before .before .before .before in
+    next-fits (t .before .loop .i) (t .before .before .before .args .n) (t .loop-test .taken) (t .before .before .before .fits .n)
 
 loop-less : tie.Need-loop-less Inv-loop μ-loop
-loop-less c = search needs
+loop-less c =
+    let t = c .before .before .before .before .before in
+    fewer (t .before .loop .i) (t .before .before .before .args .n) (t .loop-test .taken)
 
 loop-again : tie.Need-loop-again Inv-loop μ-loop
 loop-again c =
     let r = c .before .before in
     let t = r .before .before .before in
-    let l = t .before in (
-      search needs,
-      search needs,
-      λ b. l .loop .inv .2 b ∙ clear-on _ _ _ _ (t .loop-test .taken) _ _ _ (r .clear-page .ensures b),
+    let l = t .before in
+    let a = l .before .before .args in
+    let x = r .clear-page in (
+      onward (l .loop .i) (a .n) (t .loop-test .taken),
+      x .kept .0 ∙ l .loop .inv .1,
+      λ b. l .loop .inv .2 b
+          ∙ clear-on (a .root .0) (a .virt .0) (l .loop .i) (a .n) (t .loop-test .taken) 3 (memory (l .loop .words) (framesOf b (a .frames)))
+          (memory (x .last .0) (framesOf b (a .frames))) (x .ensures b),
     )
 
 same-length : tie.Need-same-length Inv-loop μ-loop
-same-length c = search needs
+same-length c = c .before .loop .inv .1
 
 returns : tie.Need-returns Inv-loop μ-loop
 returns c b = sym (c .before .loop .inv .2 b ∙ clear-end _ _ _ _ (c .loop-test .left) _ _)

@@ -1,6 +1,8 @@
 -- `free_page`: the leaf, if there is one, and then its frame.
 use mathlib.Core.Path.{sym, _∙_}
 use borrow.Author.Needs.{needs}
+use Rattle.frame.specs.Frames.{frames}
+use Rattle.paging.specs.Map.{memory}
 use Rattle.paging.proofs.Pages.{free-none, free-page}
 use Rattle.pages.proofs.Laws.{unmapped, given-back}
 use Rattle.pages.proofs.free_page.Statement.{statement}
@@ -10,32 +12,36 @@ unmap-leaf-requires : tie.Need-unmap-leaf-requires
 unmap-leaf-requires c κs = search needs
 
 enum-told : tie.Need-enum-told
-enum-told c = search needs
+enum-told c = c .match .keys1
 
 enum-known-f : tie.Need-enum-known-f
-enum-known-f c = search needs
+enum-known-f c = c .match .keys2
 
 give-frame-requires : tie.Need-give-frame-requires
-give-frame-requires c κs = search needs
+give-frame-requires c κs = c .before .before .before .before .before .before .before .before .before .pre .held
 
 same-length : tie.Need-same-length
-same-length c = search needs
+same-length c = c .before .before .before .before .unmap-leaf .kept .0
 
 returns : tie.Need-returns
 returns c =
     let u = c .before .before .before .before in
-    sym (free-none _ _ _ _ _ _ (unmapped (u .unmap-leaf .ensures .0) (u .unmap-leaf .ensures .1) (c .enum-told .given .1)))
+    let a = u .before .before .before .args in
+    sym (free-none 3 (memory (a .words .now) (frames (a .bitmap .now) (a .frames))) (a .root .0) (a .virt .0) _ (u .unmap-leaf .last .0)
+    (unmapped (u .unmap-leaf .ensures .0) (u .unmap-leaf .ensures .1) (c .enum-told .given .1)))
 
 same-length-2 : tie.Need-same-length-2
-same-length-2 c = search needs
+same-length-2 c = c .before .before .before .before .before .before .before .before .unmap-leaf .kept .0
 
 returns-2 : tie.Need-returns-2
 returns-2 c =
     let g = c .before in
     let f = g .before .before .before in
     let u = f .before .before .before .before in
-    given-back _ _ _ (g .give-frame .ensures .0) (g .give-frame .ensures .1)
-    ∙ sym (free-page _ _ _ _ _ _ (unmapped (u .unmap-leaf .ensures .0) (u .unmap-leaf .ensures .1) (f .f .given .1)))
+    let a = u .before .before .before .args in
+    given-back (u .unmap-leaf .last .0) (frames (a .bitmap .now) (a .frames)) _ (g .give-frame .ensures .0) (g .give-frame .ensures .1)
+    ∙ sym (free-page 3 (memory (a .words .now) (frames (a .bitmap .now) (a .frames))) (a .root .0) (a .virt .0) _ (u .unmap-leaf .last .0)
+    (unmapped (u .unmap-leaf .ensures .0) (u .unmap-leaf .ensures .1) (f .f .given .1)))
 
 pub free-page-spec : {M : Type 1} → statement M
 free-page-spec =

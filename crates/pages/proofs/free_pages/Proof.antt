@@ -9,7 +9,7 @@ use Rattle.paging.specs.Map.{memory, Roomy}
 use Rattle.paging.specs.Pages.{freePages}
 use Rattle.pages.specs.Spans.{Blank}
 use Rattle.pages.proofs.Laws.{free-end}
-use Rattle.pages.proofs.Steps.{span-start, span-on, span-roomy}
+use Rattle.pages.proofs.Steps.{span-start, span-on, span-some, span-within, span-fits, span-less, span-roomy}
 use Rattle.pages.proofs.Blanks.{blank-start}
 use Rattle.pages.proofs.free_pages.Statement.{statement}
 use Rattle.pages.proofs.free_pages.Tie as tie
@@ -39,32 +39,51 @@ sub-free-span : tie.Need-sub-free-span Inv-loop μ-loop
 sub-free-span c = search needs
 
 free-span-requires : tie.Need-free-span-requires Inv-loop μ-loop
-free-span-requires c κs = let l = c .before .before .before .before .before in (l .loop .inv .3, (l .loop .inv .4, search needs))
+free-span-requires c κs = let l = c .before .before .before .before .before in
+    (l .loop .inv .3, (l .loop .inv .4, span-some (l .before .at-most .result) (l .loop .done) (c .before .before .before .before .loop-test .taken)))
 
 add-done : tie.Need-add-done Inv-loop μ-loop
-add-done c = search needs
+add-done c =
+    let r = c .before .before .before .before in
+    let l = r .before .before .before .before .before .before in
+    span-fits (l .before .at-most .result) (l .loop .done) (r .free-span .result .done) (r .free-span .ensures .1 .1 .0) (l .loop .inv .0) (l .loop .inv .1)
+    (l .before .before .before .fits .n)
 
 loop-less : tie.Need-loop-less Inv-loop μ-loop
-loop-less c = search needs
+loop-less c =
+    let r = c .before .before .before .before in
+    let l = r .before .before .before .before .before .before in
+    span-less (l .before .at-most .result) (l .loop .done) (r .free-span .result .done) (r .free-span .ensures .1 .1 .0) (r .free-span .ensures .1 .0)
 
 loop-again : tie.Need-loop-again Inv-loop μ-loop
 loop-again c =
     let r = c .before .before .before .before in
     let l = r .before .before .before .before .before .before in
-    let e = r .free-span .ensures in (
-      search needs,
-      search needs,
-      search needs,
-      span-roomy _ _ _ _ (e .1 .1 .1) (l .loop .inv .3),
+    let a = l .before .before .before .args in
+    let most = l .before .at-most .result in
+    let x = r .free-span in
+    let e = x .ensures in (
+      span-within most (l .loop .done) (x .result .done) (e .1 .1 .0) (l .loop .inv .0),
+      l .loop .inv .1,
+      x .kept .0 ∙ l .loop .inv .2,
+      span-roomy (memory (l .loop .words) (framesOf (l .loop .bitmap) (l .loop .left))) (a .root .0) (a .virt .0 + l .loop .done * 4096) (x .result .done)
+          (e .1 .1 .1) (l .loop .inv .3),
       e .0,
-      l .loop .inv .5 ∙ span-on _ _ _ _ _ _ _ (e .1 .1 .0) (l .loop .inv .0) (e .1 .1 .1),
+      l .loop .inv .5
+          ∙ span-on (a .root .0) (a .virt .0) most (l .loop .done) (x .result .done) (memory (l .loop .words) (framesOf (l .loop .bitmap) (l .loop .left)))
+          (memory (x .last .0) (framesOf (x .last .1 .0) (x .result .frames))) (e .1 .1 .0) (l .loop .inv .0) (e .1 .1 .1),
     )
 
 same-length : tie.Need-same-length Inv-loop μ-loop
-same-length c = search needs
+same-length c = c .before .loop .inv .2
 
 returns : tie.Need-returns Inv-loop μ-loop
-returns c = sym (c .before .loop .inv .5 ∙ free-end _ _ _ _ (c .loop-test .left) _ _)
+returns c =
+    let l = c .before in
+    let a = l .before .before .before .args in
+    sym
+    (l .loop .inv .5 ∙ free-end (a .root .0) (a .virt .0 + l .loop .done * 4096) (l .loop .done) (l .before .at-most .result) (c .loop-test .left)
+    (memory (l .loop .words) (framesOf (l .loop .bitmap) (l .loop .left))) 3)
 
 pub free-pages-spec : {M : Type 1} → statement M
 free-pages-spec =

@@ -1,5 +1,8 @@
 -- `map_fresh`: a fresh frame, then its entry below three tables; 13 where that is refused.
-use mathlib.Core.Path.{sym}
+use mathlib.Core.Path.{sym, _∙_}
+use lib.Dec.{lit≤}
+use Rattle.frame.specs.Frames.{frames}
+use Rattle.paging.specs.Map.{memory}
 use borrow.Author.Needs.{needs}
 use Rattle.paging.proofs.Pages.{map-fresh-none}
 use Rattle.mapper.proofs.Laws.{stepped}
@@ -11,10 +14,10 @@ fresh-frame-requires : tie.Need-fresh-frame-requires
 fresh-frame-requires c κs = search needs
 
 enum-known-walked : tie.Need-enum-known-walked
-enum-known-walked c = search needs
+enum-known-walked c = c .match .keys1
 
 enum-known-walked-2 : tie.Need-enum-known-walked-2
-enum-known-walked-2 c = search needs
+enum-known-walked-2 c = c .match .keys2
 
 start-address-requires : tie.Need-start-address-requires
 start-address-requires c κs = search needs
@@ -25,20 +28,32 @@ set-requires c κs = search needs
 map-entry-requires : tie.Need-map-entry-requires
 map-entry-requires c κs =
     let r = c .before .before .before .before .before .before .before .before .before .before in
-    (fresh-left (r .fresh-frame .ensures) 3 (r .before .before .before .before .pre), search needs)
+    let a = r .before .before .before .before .args in
+    let x = r .fresh-frame in (
+      fresh-left {m = memory (a .words .now) (frames (a .bitmap .now) (a .frames))} {m′ = memory (x .last .0) (frames (x .last .1 .0) (x .result .frames))}
+          (x .ensures) 3 (r .before .before .before .before .pre),
+      lit≤ tt,
+    )
 
 or-failed-requires : tie.Need-or-failed-requires
 or-failed-requires c κs = search needs
 
 same-length : tie.Need-same-length
-same-length c = search needs
+same-length c = c .before .before .before .before .before .before .fresh-frame .kept .0
 
 returns : tie.Need-returns
 returns c =
-    sym (map-fresh-none _ _ _ _ _ _ _ _ (stepped (c .before .before .before .before .before .before .fresh-frame .ensures) (c .before .walked .given .1)))
+    let r = c .before .before .before .before .before .before in
+    let a = r .before .before .before .before .args in
+    let x = r .fresh-frame in
+    sym
+    (map-fresh-none 3 (a .writable) (a .user) (memory (a .words .now) (frames (a .bitmap .now) (a .frames))) (a .root .0) (a .virt .0) _
+    (memory (x .last .0) (frames (x .last .1 .0) (x .result .frames))) (stepped (x .ensures) (c .before .walked .given .1)))
 
 same-length-2 : tie.Need-same-length-2
-same-length-2 c = search needs
+same-length-2 c =
+    let e = c .before .before .before .before in
+    e .map-entry .kept .0 ∙ e .before .before .before .before .before .before .before .before .before .before .before .fresh-frame .kept .0
 
 returns-2 : tie.Need-returns-2
 returns-2 c =
@@ -46,8 +61,14 @@ returns-2 c =
     let s = e .before .before .before in
     let w = s .before .before .before in
     let r = w .before .before .before .before .before in
-    map-fresh-made _ _ _ _ _ _ (r .before .before .before .before .pre .held .low) _ _ (stepped (r .fresh-frame .ensures) (w .walked2 .given .1))
-    _ _ (s .set .ensures) (s .before .start-address .ensures) _ _ _ (e .map-entry .ensures) _ (c .or-failed .ensures)
+    let b = r .before .before .before .before in
+    let a = b .args in
+    let x = r .fresh-frame in
+    let y = e .map-entry in
+    map-fresh-made 3 (a .writable) (a .user) (memory (a .words .now) (frames (a .bitmap .now) (a .frames))) (a .root .0) (a .virt .0) (b .pre .held .low) _
+    (memory (x .last .0) (frames (x .last .1 .0) (x .result .frames))) (stepped (x .ensures) (w .walked2 .given .1))
+    (s .set .result .0) (s .before .start-address .result) (s .set .ensures) (s .before .start-address .ensures)
+    (y .result) (y .last .0) (y .last .1 .0) (y .ensures) (c .or-failed .result) (c .or-failed .ensures)
 
 pub map-fresh-spec : {M : Type 1} → statement M
 map-fresh-spec =

@@ -7,10 +7,10 @@ use lib.ListN.{length}
 use borrow.Author.Needs.{needs}
 use Rattle.frame.specs.Frames.{frames as framesOf}
 use Rattle.paging.specs.Map.{memory, Roomy}
-use Rattle.paging.specs.Pages.{mapPages}
+use Rattle.paging.specs.declared.Walked.the-variants.{At}
+use Rattle.paging.specs.Pages.{ran, mapPages}
 use Rattle.paging.proofs.Map.{roomy-less}
-use Rattle.mapper.proofs.Laws.{stepped}
-use Rattle.pages.proofs.Laws.{run-on, run-stop, run-end, map-fresh-left}
+use Rattle.pages.proofs.Laws.{onward, fewer, next-fits, turn-left, turn-on, turn-stop, run-end}
 use Rattle.pages.proofs.map_pages.Statement.{statement}
 use Rattle.pages.proofs.map_pages.Tie as tie
 
@@ -38,45 +38,65 @@ map-fresh-requires c κs =
     roomy-less 4 (omega (arith, t .loop-test .taken)) (t .before .loop .inv .2)
 
 enum-known-walked : tie.Need-enum-known-walked Inv-loop μ-loop
-enum-known-walked c = search needs
+enum-known-walked c = c .match .keys1
 
 same-length : tie.Need-same-length Inv-loop μ-loop
-same-length c = search needs
+same-length c = let r = c .before .before .before .before .before .before in r .map-fresh .kept .0 ∙ r .before .before .before .before .before .loop .inv .1
 
 returns : tie.Need-returns Inv-loop μ-loop
 returns c =
     let r = c .before .before .before .before .before .before in
     let t = r .before .before .before .before in
-    sym (t .before .loop .inv .3 ∙ run-stop _ _ _ _ (t .loop-test .taken) _ _ _ _ _ _ (stepped (r .map-fresh .ensures) (c .before .walked .given .1)))
+    let l = t .before in
+    let a = l .before .before .args in
+    let i = l .loop .i in
+    let x = r .map-fresh in
+    turn-stop (a .root .0) (a .virt .0) i (a .n) (t .loop-test .taken) (a .writable) (a .user) (memory (l .loop .words) (framesOf (l .loop .bitmap) (l .loop .left)))
+    (memory (x .last .0) (framesOf (x .last .1 .0) (x .result .frames))) (x .ensures) (l .loop .inv .3) _ (c .before .walked .given .1)
 
 enum-told : tie.Need-enum-told Inv-loop μ-loop
-enum-told c = search needs
+enum-told c = c .match .keys2
+
+-- back to the turn's test
+abbrev inside : (c : tie.After-enum-told Inv-loop μ-loop) → tie.In-loop Inv-loop μ-loop
+inside c = c .before .before .before .before .before .before .before .before .before
 
 add-i : tie.Need-add-i Inv-loop μ-loop
-add-i c = search needs
+add-i c = let t = inside c in next-fits (t .before .loop .i) (t .before .before .before .args .n) (t .loop-test .taken) (t .before .before .before .fits .n)
 
 loop-less : tie.Need-loop-less Inv-loop μ-loop
-loop-less c = search needs
+loop-less c = let t = inside c in fewer (t .before .loop .i) (t .before .before .before .args .n) (t .loop-test .taken)
 
 loop-again : tie.Need-loop-again Inv-loop μ-loop
 loop-again c =
     let r = c .before .before .before .before .before in
     let t = r .before .before .before .before in
-    let l = t .before in (
-      search needs,
-      search needs,
-      map-fresh-left _ _ _ _ _ (r .map-fresh .ensures) _ (roomy-less _ (omega (arith, t .loop-test .taken)) (l .loop .inv .2)),
-      l .loop .inv .3 ∙ run-on _ _ _ _ (t .loop-test .taken) _ _ _ _ _ _ (stepped (r .map-fresh .ensures) (c .enum-told .given .1)),
+    let l = t .before in
+    let a = l .before .before .args in
+    let i = l .loop .i in
+    let x = r .map-fresh in (
+      onward i (a .n) (t .loop-test .taken),
+      x .kept .0 ∙ l .loop .inv .1,
+      turn-left (a .root .0) (a .virt .0) i (a .n) (t .loop-test .taken) (a .writable) (a .user) (memory (l .loop .words) (framesOf (l .loop .bitmap) (l .loop .left)))
+          (memory (x .last .0) (framesOf (x .last .1 .0) (x .result .frames))) (x .ensures) (l .loop .inv .2),
+      turn-on (a .root .0) (a .virt .0) i (a .n) (t .loop-test .taken) (a .writable) (a .user) (memory (l .loop .words) (framesOf (l .loop .bitmap) (l .loop .left)))
+          (memory (x .last .0) (framesOf (x .last .1 .0) (x .result .frames))) (x .ensures) (l .loop .inv .3) _ (c .enum-told .given .1),
     )
 
 same-length-2 : tie.Need-same-length-2 Inv-loop μ-loop
-same-length-2 c = search needs
+same-length-2 c = c .before .loop .inv .1
 
 returns-2 : tie.Need-returns-2 Inv-loop μ-loop
 returns-2 c =
     let l = c .before in
-    let e : l .loop .i ≡ l .before .before .args .n = omega arith in
-    sym (l .loop .inv .3 ∙ run-end _ _ _ _ (c .loop-test .left) _ _ _ _ ∙ rw e)
+    let a = l .before .before .args in
+    let e : l .loop .i ≡ a .n = omega (arith, l .loop .inv .0, c .loop-test .left) in
+    sym
+    (l .loop .inv .3
+    ∙ run-end (a .root .0) (a .virt .0 + l .loop .i * 4096) (l .loop .i) (a .n) (c .loop-test .left)
+    (memory (l .loop .words) (framesOf (l .loop .bitmap) (l .loop .left))) 3 (a .writable)
+    (a .user)
+    ∙ λ j. ran (At 0) (e j) (memory (l .loop .words) (framesOf (l .loop .bitmap) (l .loop .left))))
 
 pub map-pages-spec : {M : Type 1} → statement M
 map-pages-spec =

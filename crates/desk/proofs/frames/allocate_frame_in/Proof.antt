@@ -1,32 +1,31 @@
 -- The call on the parts unpacked, and the parts that it leaves packed.
 use mathlib.Core.Path.{refl}
-use borrow.Author.Needs.{needs}
 use Rattle.desk.proofs.frames.allocate_frame_in.Statement.{statement}
 use Rattle.desk.proofs.frames.allocate_frame_in.Tie as tie
 
 get-bits-requires : tie.Need-get-bits-requires
-get-bits-requires c κs = search needs
+get-bits-requires c κs = c .before .before .before .pre .1
 
 get-fields-requires : tie.Need-get-fields-requires
-get-fields-requires c κs = search needs
+get-fields-requires c κs = c .before .before .before .before .before .pre .0
 
 allocate-frame-requires : tie.Need-allocate-frame-requires
-allocate-frame-requires c κs = search needs
+allocate-frame-requires c κs = tt
 
 put-fields-requires : tie.Need-put-fields-requires
-put-fields-requires c κs = search needs
+put-fields-requires c κs = c .before .before .before .before .before .before .before .before .before .before .pre .0
 
 put-bits-requires : tie.Need-put-bits-requires
-put-bits-requires c κs = search needs
+put-bits-requires c κs = c .before .before .before .before .before .before .before .before .before .before .before .before .before .before .before .pre .1
 
 frame-line-requires : tie.Need-frame-line-requires
-frame-line-requires c κs = search needs
+frame-line-requires c κs = tt
 
 same-length : tie.Need-same-length
-same-length c = search needs
+same-length c = c .before .before .before .before .before .before .before .before .put-fields .kept .0
 
 same-length-2 : tie.Need-same-length-2
-same-length-2 c = search needs
+same-length-2 c = c .before .before .before .put-bits .kept .0
 
 returns : tie.Need-returns
 returns c =

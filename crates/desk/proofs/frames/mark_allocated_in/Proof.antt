@@ -1,32 +1,31 @@
 -- The call on the parts unpacked, and the parts that it leaves packed.
 use mathlib.Core.Path.{refl}
-use borrow.Author.Needs.{needs}
 use Rattle.desk.proofs.frames.mark_allocated_in.Statement.{statement}
 use Rattle.desk.proofs.frames.mark_allocated_in.Tie as tie
 
 get-bits-requires : tie.Need-get-bits-requires
-get-bits-requires c κs = search needs
+get-bits-requires c κs = c .before .before .before .pre .1
 
 get-fields-requires : tie.Need-get-fields-requires
-get-fields-requires c κs = search needs
+get-fields-requires c κs = c .before .before .before .before .before .pre .0
 
 mark-allocated-requires : tie.Need-mark-allocated-requires
-mark-allocated-requires c κs = search needs
+mark-allocated-requires c κs = tt
 
 put-fields-requires : tie.Need-put-fields-requires
-put-fields-requires c κs = search needs
+put-fields-requires c κs = c .before .before .before .before .before .before .before .before .before .before .pre .0
 
 put-bits-requires : tie.Need-put-bits-requires
-put-bits-requires c κs = search needs
+put-bits-requires c κs = c .before .before .before .before .before .before .before .before .before .before .before .before .before .before .before .pre .1
 
 answer-line-requires : tie.Need-answer-line-requires
-answer-line-requires c κs = search needs
+answer-line-requires c κs = tt
 
 same-length : tie.Need-same-length
-same-length c = search needs
+same-length c = c .before .before .before .before .before .before .before .before .put-fields .kept .0
 
 same-length-2 : tie.Need-same-length-2
-same-length-2 c = search needs
+same-length-2 c = c .before .before .before .put-bits .kept .0
 
 returns : tie.Need-returns
 returns c =

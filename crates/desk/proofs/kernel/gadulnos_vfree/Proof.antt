@@ -2,24 +2,23 @@
 use mathlib.Core.Path.{refl}
 use Rattle.frame.proofs.Laws.{passed, failed}
 use Rattle.layout.proofs.Fit.{lengths-vm}
-use borrow.Author.Needs.{needs}
 use Rattle.desk.proofs.kernel.gadulnos_vfree.Statement.{statement}
 use Rattle.desk.proofs.kernel.gadulnos_vfree.Tie as tie
 
 fits-requires : tie.Need-fits-requires
-fits-requires c κs = search needs
+fits-requires c κs = tt
 
 broken-requires : tie.Need-broken-requires
-broken-requires c κs = search needs
+broken-requires c κs = tt
 
 same-length : tie.Need-same-length
-same-length c = search needs
+same-length c = refl
 
 same-length-2 : tie.Need-same-length-2
-same-length-2 c = search needs
+same-length-2 c = refl
 
 same-length-3 : tie.Need-same-length-3
-same-length-3 c = search needs
+same-length-3 c = refl
 
 returns : tie.Need-returns
 returns c = rw (c .broken .ensures, failed (c .before .before .fits2 .ensures) (c .before .if1 .taken)) (refl, (refl, (refl, (refl, refl))))
@@ -30,16 +29,16 @@ vfree-in-requires c κs =
     lengths-vm (a .fields .now) (a .bits .now) (a .list .now) (c .before .before .before .before .before .fits2 .ensures) (c .before .before .before .before .if1 .left)
 
 same-length-4 : tie.Need-same-length-4
-same-length-4 c = search needs
+same-length-4 c = c .before .before .before .before .before .before .before .before .vfree-in .kept .0
 
 same-length-5 : tie.Need-same-length-5
-same-length-5 c = search needs
+same-length-5 c = c .before .before .before .before .before .before .before .before .vfree-in .kept .1 .0
 
 same-length-6 : tie.Need-same-length-6
-same-length-6 c = search needs
+same-length-6 c = c .before .before .before .before .before .before .before .before .vfree-in .kept .1 .1 .0
 
 same-length-7 : tie.Need-same-length-7
-same-length-7 c = search needs
+same-length-7 c = c .before .before .before .before .before .before .before .before .vfree-in .kept .1 .1 .1 .1 .0
 
 returns-2 : tie.Need-returns-2
 returns-2 c = rw (passed (c .before .before .before .before .before .before .before .before .before .before .before .before .before .before .fits2 .ensures) (c .before .before .before .before .before .before .before .before .before .before .before .before .before .if1 .left)) (c .before .before .before .before .before .before .before .before .vfree-in .ensures)

@@ -1,20 +1,23 @@
 -- The call on the parts unpacked, and the parts that it leaves packed.
-use mathlib.Core.Path.{refl}
-use borrow.Author.Needs.{needs}
+use Rattle.answer.specs.Numbers.{answerLine}
+use Rattle.vmalloc.specs.Calls.{Kernel, vfree as vfreeOf}
+use Rattle.vmalloc.specs.Results.{vfreed}
+use Rattle.vmalloc.specs.declared.Vfreed.{Vfreed}
+use Rattle.desk.proofs.Same.{packed-kernel}
 use Rattle.desk.proofs.kernel.vfree_in.Statement.{statement}
 use Rattle.desk.proofs.kernel.vfree_in.Tie as tie
 
 get-bits-requires : tie.Need-get-bits-requires
-get-bits-requires c κs = search needs
+get-bits-requires c κs = c .before .before .before .before .before .pre .1 .0
 
 get-fields-requires : tie.Need-get-fields-requires
-get-fields-requires c κs = search needs
+get-fields-requires c κs = c .before .before .before .before .before .before .before .pre .0
 
 get-vm-requires : tie.Need-get-vm-requires
-get-vm-requires c κs = search needs
+get-vm-requires c κs = c .before .before .before .before .before .before .before .before .before .before .before .pre .1 .1
 
 vfree-requires : tie.Need-vfree-requires
-vfree-requires c κs = search needs
+vfree-requires c κs = tt
 
 put-fields-requires : tie.Need-put-fields-requires
 put-fields-requires c κs = c .before .before .before .before .before .before .before .before .before .before .before .before .before .before .before .before .before .before .pre .0
@@ -26,36 +29,27 @@ put-vm-requires : tie.Need-put-vm-requires
 put-vm-requires c κs = c .before .before .before .before .before .before .before .before .before .before .before .before .before .before .before .before .before .before .before .before .before .before .before .before .before .before .before .pre .1 .1
 
 answer-line-requires : tie.Need-answer-line-requires
-answer-line-requires c κs = search needs
+answer-line-requires c κs = tt
 
 same-length : tie.Need-same-length
-same-length c = search needs
+same-length c = c .before .before .before .before .before .before .before .before .before .before .before .before .before .before .before .before .before .before .vfree .kept .0
 
 same-length-2 : tie.Need-same-length-2
-same-length-2 c = search needs
+same-length-2 c = c .before .before .before .before .before .before .before .before .before .before .before .before .put-fields .kept .0
 
 same-length-3 : tie.Need-same-length-3
-same-length-3 c = search needs
+same-length-3 c = c .before .before .before .before .before .before .before .put-bits .kept .0
 
 same-length-4 : tie.Need-same-length-4
-same-length-4 c = search needs
+same-length-4 c = c .before .before .before .put-vm .kept .0
 
 returns : tie.Need-returns
 returns c =
     let r = c .before .before .before .before .before .before .before .before .before .before .before .before .before .before .before .before .before .before in
-    rw (
-      c .answer-line .ensures,
-      c .before .before .before .put-vm .ensures,
-      c .before .before .before .before .before .before .before .put-bits .ensures,
-      c .before .before .before .before .before .before .before .before .before .before .before .before .put-fields .ensures,
-      r .vfree .ensures .0,
-      r .vfree .ensures .1 .0,
-      r .vfree .ensures .1 .1,
-      r .before .get-vm .ensures,
-      r .before .before .before .before .before .get-fields .ensures,
-      r .before .before .before .before .before .before .before .get-bits .ensures,
-    )
-    (refl, (refl, (refl, (refl, refl))))
+    let a = r .before .before .before .before .before .before .before .before .before .before .before .before .before .args in
+    packed-kernel (a .words .now) (a .fields .now) (a .bits .now) (a .list .now) (λ (k : Kernel). vfreeOf 3 k (a .root) (a .addr)) vfreed (λ (x : Vfreed). answerLine (x .answer)) (λ (x : Vfreed). x .frames) (λ (x : Vfreed). x .list)
+    (r .before .before .before .before .before .before .before .get-bits .ensures) (r .before .before .before .before .before .get-fields .ensures) (r .before .get-vm .ensures) (r .vfree .ensures)
+    (c .answer-line .ensures) (c .before .before .before .before .before .before .before .before .before .before .before .before .put-fields .ensures) (c .before .before .before .before .before .before .before .put-bits .ensures) (c .before .before .before .put-vm .ensures)
 
 pub vfree-in-spec : {M : Type 1} → statement M
 vfree-in-spec =

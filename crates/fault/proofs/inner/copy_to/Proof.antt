@@ -1,6 +1,6 @@
 -- `copy_to`: the words copied, then the page remapped.
-use mathlib.Core.Path.{sym, _∙_}
-use Rattle.mapper.proofs.Laws.{stepped}
+use Rattle.frame.specs.Frames.{frames as framesOf}
+use Rattle.paging.specs.Map.{Memory, memory}
 use Rattle.fault.proofs.Steps.{frame-low, copied-on-roomy, copy-to-stop, copy-to-on}
 use borrow.Author.Needs.{needs}
 use Rattle.fault.proofs.inner.copy_to.Statement.{statement}
@@ -15,29 +15,36 @@ enum-known-walked c = search needs
 enum-told : tie.Need-enum-told
 enum-told c = search needs
 
+-- the memory that is lent
+abbrev lent : tie.Start → Memory
+lent s = memory (s .args .words .now) (framesOf (s .args .bitmap .now) (s .args .frames))
+
 remap-page-requires : tie.Need-remap-page-requires
 remap-page-requires c κs =
-    let s = c .before .before .before .before .before .before .before .before .before .before .before in
-    (copied-on-roomy 3 _ _ _ _ (c .before .before .before .before .before .before .before .copy-page .ensures) 3 (s .pre .0), frame-low _ (s .pre .0) (s .pre .1))
+    let s = c .before .before .before .before .before .before .before .before .before .before .before in (
+      copied-on-roomy 3 (lent s) (s .args .root .0) (s .args .page .0) (s .args .f)
+          (c .before .before .before .before .before .before .before .copy-page .ensures) 3 (s .pre .0),
+      frame-low {m = lent s} (s .args .f) (s .pre .0) (s .pre .1),
+    )
 
 same-length : tie.Need-same-length
 same-length c = search needs
 
 returns : tie.Need-returns
 returns c =
-    let a = c .before .before .before .before .before .before .before .before .before .before .args in
-    sym (copy-to-stop 3 _ _ (a .page .0) (a .f) (a .user) _ _
-    (stepped (c .before .before .before .before .before .before .copy-page .ensures) (c .before .walked .given .1)))
+    let s = c .before .before .before .before .before .before .before .before .before .before in
+    copy-to-stop 3 (lent s) (s .args .root .0) (s .args .page .0) (s .args .f) (s .args .user)
+    (c .before .before .before .before .before .before .copy-page .ensures) (c .before .walked .given .1)
 
 same-length-2 : tie.Need-same-length-2
 same-length-2 c = search needs
 
 returns-2 : tie.Need-returns-2
 returns-2 c =
-    let a = c .before .before .before .before .before .before .before .before .before .before .before .before .before .before .args in
-    c .before .before .remap-page .ensures ∙ sym (copy-to-on 3 _ _ (a .page .0) (a .f) (a .user) _ _
-    (stepped (c .before .before .before .before .before .before .before .before .before .before .copy-page .ensures)
-    (c .before .before .before .before .before .enum-told .given .1)))
+    let s = c .before .before .before .before .before .before .before .before .before .before .before .before .before .before in
+    copy-to-on 3 (lent s) (s .args .root .0) (s .args .page .0) (s .args .f) (s .args .user)
+    (c .before .before .before .before .before .before .before .before .before .before .copy-page .ensures)
+    (c .before .before .before .before .before .enum-told .given .1) (c .before .before .remap-page .ensures)
 
 pub copy-to-spec : {M : Type 1} → statement M
 copy-to-spec =

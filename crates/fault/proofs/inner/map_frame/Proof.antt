@@ -1,4 +1,6 @@
 -- `map_frame`: what mapping the page answers, with 18 for each refusal.
+use Rattle.frame.specs.Frames.{frames as framesOf}
+use Rattle.paging.specs.Map.{Memory, memory}
 use Rattle.fault.proofs.Steps.{map-frame-met, map-frame-refused}
 use borrow.Author.Needs.{needs}
 use Rattle.fault.proofs.inner.map_frame.Statement.{statement}
@@ -22,12 +24,17 @@ enum-told-2 c = search needs
 same-length : tie.Need-same-length
 same-length c = search needs
 
+-- the memory that is lent
+abbrev lent : tie.Start → Memory
+lent s = memory (s .args .words .now) (framesOf (s .args .bitmap .now) (s .args .frames))
+
 returns : tie.Need-returns
 returns c =
     let m = c .before .before .before .before .before in
     let s = m .before .before .before in
-    let a = s .before .before .before .args in
-    map-frame-met 3 _ _ (a .virt .0) (a .f) (a .writable) _ (search needs) (s .before .start-address .ensures) (s .set .ensures) (m .map-entry .ensures)
+    let t = s .before .before .before in
+    let a = t .args in
+    map-frame-met 3 (lent t) (a .root .0) (a .virt .0) (a .f) (a .writable) (a .user) (t .pre .1) (s .before .start-address .ensures) (s .set .ensures) (m .map-entry .ensures)
     (c .enum-told .given .1)
 
 same-length-2 : tie.Need-same-length-2
@@ -37,8 +44,9 @@ returns-2 : tie.Need-returns-2
 returns-2 c =
     let m = c .before .before .before .before .before in
     let s = m .before .before .before in
-    let a = s .before .before .before .args in
-    map-frame-refused 3 _ _ (a .virt .0) (a .f) (a .writable) _ (search needs) (s .before .start-address .ensures) (s .set .ensures) (m .map-entry .ensures) _
+    let t = s .before .before .before in
+    let a = t .args in
+    map-frame-refused 3 (lent t) (a .root .0) (a .virt .0) (a .f) (a .writable) (a .user) (t .pre .1) (s .before .start-address .ensures) (s .set .ensures) (m .map-entry .ensures) _
     (c .enum-told2 .given .1)
 
 pub map-frame-spec : {M : Type 1} → statement M

@@ -1,8 +1,9 @@
 -- `map_over`: the tables on the way, then the word over what stands there.
-use mathlib.Core.Path.{sym, _∙_}
 use native.Mathlib.Omega.{arith}
 use lib.ListN.{take, length-take}
-use Rattle.mapper.proofs.Laws.{stepped, made-roomy}
+use Rattle.frame.specs.Frames.{frames as framesOf}
+use Rattle.mapper.proofs.Laws.{made-roomy}
+use Rattle.paging.specs.Map.{Memory, memory}
 use Rattle.paging.proofs.Map.{roomy-less, roomy-lent}
 use Rattle.fault.proofs.Steps.{frame-low, made-lent, map-over-stop, map-over-put}
 use borrow.Author.Needs.{needs}
@@ -30,14 +31,20 @@ set-requires c κs = search needs
 array-read-put-over : tie.Need-array-read-put-over
 array-read-put-over c = search needs
 
+-- the memory that is lent
+abbrev lent : tie.Start → Memory
+lent s = memory (s .args .words .now) (framesOf (s .args .bitmap .now) (s .args .frames))
+
 put-over-requires : tie.Need-put-over-requires
 put-over-requires c κs =
     let r = c .before .before .before .before .before .before .before .before .before in
     let i = r .before .before .before in
     let s = i .before .before in
+    let a = s .args in
     let is = i .page-indices .result in (
-      roomy-lent (made-roomy _ _ _ (take 3 is) (r .make-tables .ensures) 0 (roomy-less _ (omega (arith, length-take 3 is)) (s .pre .0))),
-      (i .page-indices .ensures .1 _, made-lent _ _ _ _ (r .make-tables .ensures) _ (s .pre .1)),
+      roomy-lent (made-roomy (a .user) (lent s) (a .root .0) (take 3 is) (r .make-tables .ensures) 0
+          (roomy-less {m = lent s} _ (omega (arith, length-take 3 is)) (s .pre .0))),
+      (i .page-indices .ensures .1 _, made-lent (a .user) (lent s) (a .root .0) (take 3 is) (r .make-tables .ensures) (a .f) (s .pre .1)),
     )
 
 same-length : tie.Need-same-length
@@ -48,21 +55,24 @@ returns c =
     let r = c .before .before .before .before .before .before in
     let i = r .before .before .before in
     let s = i .before .before in
-    sym (map-over-stop 3 _ _ (s .args .virt .0) (s .args .f) (s .args .writable) _ (i .page-indices .ensures .0) _ _
-    (stepped (r .make-tables .ensures) (c .before .walked .given .1)))
+    let a = s .args in
+    map-over-stop 3 (lent s) (a .root .0) (a .virt .0) (a .f) (a .writable) (a .user) (i .page-indices .ensures .0)
+    (r .make-tables .ensures) (c .before .walked .given .1)
 
 same-length-2 : tie.Need-same-length-2
 same-length-2 c = search needs
 
 returns-2 : tie.Need-returns-2
 returns-2 c =
-    let r = c .before .before .before .before .before .before .before .before .before .before .before .before in
+    let w = c .before .before .before .before .before .before .before in
+    let r = w .before .before .before .before .before in
     let i = r .before .before .before in
     let s = i .before .before in
-    c .before .before .put-over .ensures _
-    ∙ sym (map-over-put 3 _ _ (s .args .virt .0) (s .args .f) (s .args .writable) _ (i .page-indices .ensures .0) _ _
-    (stepped (r .make-tables .ensures) (c .before .before .before .before .before .before .before .walked2 .given .1))
-    (frame-low _ (s .pre .0) (s .pre .1)) (c .before .before .before .before .before .start-address .ensures) (c .before .before .before .before .set .ensures))
+    let a = s .args in
+    map-over-put 3 (lent s) (a .root .0) (a .virt .0) (a .f) (a .writable) (a .user) (i .page-indices .ensures .0)
+    (r .make-tables .ensures) (w .walked2 .given .1) (frame-low {m = lent s} (a .f) (s .pre .0) (s .pre .1))
+    (c .before .before .before .before .before .start-address .ensures) (c .before .before .before .before .set .ensures)
+    (c .before .before .put-over .ensures _)
 
 pub map-over-spec : {M : Type 1} → statement M
 map-over-spec =

@@ -1,7 +1,10 @@
 -- `create_table`: the lowest free frame, zeroed and entered, or 11.
-use mathlib.Core.Path.{_≡_}
+use mathlib.Core.Path.{_≡_, sym, _∙_, subst}
+use Prim.Native.Nat.{ℕ, _<_}
+use lib.ListN.{length-set}
 use mathlib.Core.Bool.{true}
-use Rattle.frame.specs.Frames.{inside}
+use Rattle.frame.specs.Frames.{frames, inside}
+use Rattle.paging.specs.Map.{memory}
 use Rattle.paging.proofs.Walk.{frame-lent}
 use Rattle.paging.proofs.Map.{roomy-lent}
 use Rattle.mapper.proofs.Laws.{place-asks, taken-lent, create-made, create-none}
@@ -10,7 +13,7 @@ use Rattle.mapper.proofs.inner.create_table.Statement.{statement}
 use Rattle.mapper.proofs.inner.create_table.Tie as tie
 
 take-frame-requires : tie.Need-take-frame-requires
-take-frame-requires c κs = search needs
+take-frame-requires c κs = c .before .before .pre .0 .held
 
 -- the frame that was taken is lent
 lent : (c : tie.After-answer2) → let a = c .before .before .before .before .before .before .args in
@@ -18,10 +21,10 @@ lent : (c : tie.After-answer2) → let a = c .before .before .before .before .be
 lent c = taken-lent _ _ (c .before .before .before .take-frame .ensures .0) _ (c .answer2 .given .1)
 
 enum-known-answer : tie.Need-enum-known-answer
-enum-known-answer c = search needs
+enum-known-answer c = c .match .keys1
 
 enum-known-answer-2 : tie.Need-enum-known-answer-2
-enum-known-answer-2 c = search needs
+enum-known-answer-2 c = c .match .keys2
 
 entry-place-requires : tie.Need-entry-place-requires
 entry-place-requires c κs =
@@ -44,21 +47,31 @@ mul-words : tie.Need-mul-words
 mul-words c = search needs
 
 slice-write-words : tie.Need-slice-write-words
-slice-write-words c = search needs
+slice-write-words c =
+    let s = c .before .before .before .before .before .before .before .before .before .before .before .before .before .before in
+    subst (λ (n : ℕ). s .args .at < n) (sym (c .before .before .before .before .zero-frame .kept .0)) (s .pre .1)
 
 returns : tie.Need-returns
 returns c =
     let f = c .before .before .before .before in
-    create-none _ _ _ _ _ (f .take-frame .ensures .0) (f .take-frame .ensures .1) _ (c .before .answer .given .1)
+    let a = f .before .before .before .args in
+    create-none (a .user) (memory (a .words .now) (frames (a .bitmap .now) (a .frames))) (a .at) (f .take-frame .result) (f .take-frame .last .0)
+    (f .take-frame .ensures .0) (f .take-frame .ensures .1) _ (c .before .answer .given .1)
 
 same-length : tie.Need-same-length
-same-length c = search needs
+same-length c =
+    let z = c .before .before .before .before .zero-frame in
+    length-set (z .last .0) (c .before .before .before .before .before .before .before .before .before .before .before .before .before .before .args .at) (c .set .result .0)
+    ∙ z .kept .0
 
 returns-2 : tie.Need-returns-2
 returns-2 c =
     let a = c .before .before .before .before .before .before .before .before in
     let f = a .before .before .before in
-    create-made _ _ _ _ _ (f .take-frame .ensures .0) (f .take-frame .ensures .1) _ (a .answer2 .given .1) (f .before .before .before .pre .0 .held .low)
+    let s = f .before .before .before in
+    let r = s .args in
+    create-made (r .user) (memory (r .words .now) (frames (r .bitmap .now) (r .frames))) (r .at) (f .take-frame .result) (f .take-frame .last .0)
+    (f .take-frame .ensures .0) (f .take-frame .ensures .1) _ (a .answer2 .given .1) (s .pre .0 .held .low)
     _ _ (c .before .before .before .before .zero-frame .ensures) (c .before .before .before .before .before .entry-place .ensures)
     _ _ (c .set .ensures) (c .before .start-address .ensures)
 

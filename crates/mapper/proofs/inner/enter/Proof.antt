@@ -1,17 +1,14 @@
 -- `enter` gives the table below an entry, made if there is none.
 use Prim.Native.Nat.{_<_}
-use mathlib.Core.Path.{_≡_, sym, _∙_, ap}
-use mathlib.Core.Bool.{Bool, true}
-use lib.ListN.{length, getD}
-use Rattle.bits.specs.Bit.{flag}
-use Rattle.entry.proofs.Entry.{frame-of-addr}
-use Rattle.frame.specs.Frames.{inside}
+use mathlib.Core.Path.{_≡_, sym, _∙_}
+use mathlib.Core.Bool.{true}
+use lib.ListN.{length}
+use Rattle.frame.specs.Frames.{frames, inside}
+use Rattle.paging.specs.Map.{memory}
 use Rattle.frame.proofs.Laws.{passed, failed}
-use Rattle.paging.specs.Walk.{place}
-use Rattle.paging.specs.Map.{create}
 use Rattle.paging.proofs.Walk.{place-lent}
-use Rattle.paging.proofs.Map.{roomy-lent, enter-out, enter-there, enter-absent}
-use Rattle.mapper.proofs.Laws.{place-asks}
+use Rattle.paging.proofs.Map.{roomy-lent, enter-out}
+use Rattle.mapper.proofs.Laws.{place-asks, entered-there, entered-new}
 use borrow.Author.Needs.{needs}
 use Rattle.mapper.proofs.inner.enter.Statement.{statement}
 use Rattle.mapper.proofs.inner.enter.Tie as tie
@@ -20,7 +17,9 @@ is-inside-requires : tie.Need-is-inside-requires
 is-inside-requires c κs = search needs
 
 returns : tie.Need-returns
-returns c = sym (enter-out _ _ _ _ (failed (c .before .is-inside .ensures) (c .if1 .taken)))
+returns c =
+    let a = c .before .before .before .args in
+    sym (enter-out (a .user) (memory (a .words .now) (frames (a .bitmap .now) (a .frames))) (a .t) (a .i) (failed (c .before .is-inside .ensures) (c .if1 .taken)))
 
 -- the table is lent
 table-lent : (c : tie.Else1) → let a = c .before .before .before .args in inside (a .frames .start) (a .frames .total) (a .t) ≡ true
@@ -37,12 +36,6 @@ under c =
     let s = c .before .before .before .before in
     rw (c .entry-place .ensures) (place-lent _ _ (roomy-lent (s .pre .0)) (table-lent (c .before)) (s .pre .1))
 
--- a flag of the word that was read, by the entry's place
-word : (c : tie.After-entry-place) {b : Bool}
-    → let a = c .before .before .before .before .args in
-    flag 0 (getD (a .words .now) (c .entry-place .result) 0) ≡ b → flag 0 (getD (a .words .now) (place (a .frames .start) (a .t) (a .i)) 0) ≡ b
-word c h = rw (← c .entry-place .ensures) h
-
 mul-e : tie.Need-mul-e
 mul-e c = let h = under c in search needs
 
@@ -58,8 +51,10 @@ addr-requires c κs = search needs
 returns-2 : tie.Need-returns-2
 returns-2 c =
     let p = c .before .before .before .before .before in
-    rw (c .before .addr .ensures, frame-of-addr, p .entry-place .ensures)
-    (sym (enter-there _ _ _ _ (table-lent (p .before)) (word p (sym (c .before .before .before .is-present .ensures) ∙ c .before .before .if2 .taken))))
+    let a = p .before .before .before .before .args in
+    entered-there (a .user) (memory (a .words .now) (frames (a .bitmap .now) (a .frames))) (a .t) (a .i) (p .entry-place .ensures) (table-lent (p .before))
+    (c .before .addr .ensures)
+    (sym (c .before .before .before .is-present .ensures) ∙ c .before .before .if2 .taken)
 
 create-table-requires : tie.Need-create-table-requires
 create-table-requires c κs =
@@ -67,14 +62,15 @@ create-table-requires c κs =
     (p .before .before .before .before .pre .0, under p)
 
 same-length : tie.Need-same-length
-same-length c = search needs
+same-length c = c .before .before .create-table .kept .0
 
 returns-3 : tie.Need-returns-3
 returns-3 c =
     let r = c .before .before in
     let p = r .before .before .before .before .before .before in
-    r .create-table .ensures ∙ ap (create _ _) (p .entry-place .ensures)
-    ∙ sym (enter-absent _ _ _ _ (table-lent (p .before)) (word p (sym (r .before .before .before .before .is-present .ensures) ∙ r .before .before .before .if2 .left)))
+    let a = p .before .before .before .before .args in
+    entered-new (a .user) (memory (a .words .now) (frames (a .bitmap .now) (a .frames))) (a .t) (a .i) (p .entry-place .ensures) (table-lent (p .before))
+    (sym (r .before .before .before .before .is-present .ensures) ∙ r .before .before .before .if2 .left) (r .create-table .ensures)
 
 pub enter-spec : {M : Type 1} → statement M
 enter-spec =

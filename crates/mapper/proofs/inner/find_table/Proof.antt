@@ -1,12 +1,14 @@
 -- `find_table`: the way to the last table. The invariant: what is left to walk from `t`, along the indices left, comes where the whole walk comes.
 use Prim.Native.Nat.{_≤_, _-_, _+_}
-use mathlib.Core.Path.{_≡_, sym, _∙_}
+use mathlib.Core.Path.{_≡_, refl, sym, _∙_, ap}
+use lib.Dec.{lit≤}
+use native.Mathlib.Nat.{lt-of-lt-of-le}
 use mathlib.Core.List.{_∷_}
 use lib.ListN.{getD, take, drop}
 use borrow.Author.Needs.{needs}
-use Rattle.entry.proofs.Entry.{frame-of-addr}
 use Rattle.paging.specs.Walk.{reach}
 use Rattle.paging.proofs.Walk.{next-upper, none-upper, reach-end, reach-stop, reach-on}
+use Rattle.mapper.proofs.Laws.{reach-shifted, onward, fewer, next-fits, slot-fits}
 use Rattle.mapper.proofs.inner.find_table.Statement.{statement}
 use Rattle.mapper.proofs.inner.find_table.Tie as tie
 
@@ -18,7 +20,7 @@ abbrev μ-loop : tie.MeasureT-loop
 μ-loop words start total indices t₀ level₀ t level = 3 - level
 
 loop-holds : tie.Need-loop-holds Inv-loop μ-loop
-loop-holds c = search needs
+loop-holds c = (lit≤ tt, refl)
 
 -- one more index is left
 more : (c : tie.In-loop Inv-loop μ-loop) → let l = c .before in let is = l .before .before .args .t5 in
@@ -26,40 +28,51 @@ more : (c : tie.In-loop Inv-loop μ-loop) → let l = c .before in let is = l .b
 more c = let l = c .before in next-upper 3 (l .before .before .args .t5) (l .loop .level) (c .loop-test .taken) (search needs)
 
 mul-entry-at : tie.Need-mul-entry-at Inv-loop μ-loop
-mul-entry-at c = search needs
+mul-entry-at c = slot-fits (c .before .loop .level) 3 (c .loop-test .taken) (lit≤ tt)
 
 array-read-entry-at : tie.Need-array-read-entry-at Inv-loop μ-loop
-array-read-entry-at c = search needs
+array-read-entry-at c = lt-of-lt-of-le (c .loop-test .taken) (lit≤ tt)
 
 entry-at-requires : tie.Need-entry-at-requires Inv-loop μ-loop
 entry-at-requires c κs = let s = c .before .before .before in (s .pre .0, s .pre .1 _)
 
 enum-known-n : tie.Need-enum-known-n Inv-loop μ-loop
-enum-known-n c = search needs
+enum-known-n c = c .match .keys1
 
 returns : tie.Need-returns Inv-loop μ-loop
 returns c =
     let i = c .before .before .before .before in
-    sym (i .before .loop .inv .1 ∙ reach-stop _ _ _ _ (more i) _ (sym (c .before .before .before .entry-at .ensures) ∙ c .before .n .given .1))
+    let l = i .before in
+    let a = l .before .before .args in
+    sym (l .loop .inv .1 ∙ reach-stop (a .words .now) (a .start) (a .total) (l .loop .t) (more i) _
+    (sym (c .before .before .before .entry-at .ensures) ∙ c .before .n .given .1))
 
 enum-known-e : tie.Need-enum-known-e Inv-loop μ-loop
-enum-known-e c = search needs
+enum-known-e c = c .match .keys2
+
+-- back to the turn's test
+abbrev inside : (c : tie.After-struct-known Inv-loop μ-loop) → tie.In-loop Inv-loop μ-loop
+inside c = c .before .before .before .before .before .before
 
 addr-requires : tie.Need-addr-requires Inv-loop μ-loop
 addr-requires c κs = search needs
 
 add-level : tie.Need-add-level Inv-loop μ-loop
-add-level c = search needs
+add-level c = let i = inside c in next-fits (i .before .loop .level) 3 (i .loop-test .taken) (lit≤ tt)
 
 loop-less : tie.Need-loop-less Inv-loop μ-loop
-loop-less c = search needs
+loop-less c = let i = inside c in fewer (i .before .loop .level) 3 (i .loop-test .taken)
 
 loop-again : tie.Need-loop-again Inv-loop μ-loop
 loop-again c =
-    let i = c .before .before .before .before .before .before in (
-      search needs,
-      rw (c .before .addr .ensures, frame-of-addr)
-          (i .before .loop .inv .1 ∙ reach-on _ _ _ _ (more i) _ (sym (c .before .before .before .before .before .entry-at .ensures) ∙ c .before .before .before .e .given .1)),
+    let i = inside c in
+    let l = i .before in
+    let a = l .before .before .args in (
+      onward (l .loop .level) 3 (i .loop-test .taken),
+      l .loop .inv .1
+          ∙ reach-on (a .words .now) (a .start) (a .total) (l .loop .t) (more i) _
+          (sym (c .before .before .before .before .before .entry-at .ensures) ∙ c .before .before .before .e .given .1)
+          ∙ reach-shifted (a .words .now) (a .start) (a .total) _ (c .before .addr .ensures) _,
     )
 
 returns-2 : tie.Need-returns-2 Inv-loop μ-loop

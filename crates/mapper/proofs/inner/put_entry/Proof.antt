@@ -1,17 +1,15 @@
 -- `put_entry` stores where no leaf is present, or says why not.
 use Prim.Native.Nat.{_<_}
 use mathlib.Core.Path.{_≡_, sym, _∙_}
-use mathlib.Core.Bool.{Bool, true}
-use lib.ListN.{length, getD}
+use mathlib.Core.Bool.{true}
+use lib.ListN.{length, length-set}
 use borrow.Author.Needs.{needs}
-use Rattle.bits.specs.Bit.{flag}
 use Rattle.frame.specs.Frames.{inside}
-use Rattle.paging.specs.Walk.{place}
 use Rattle.paging.proofs.Walk.{place-lent}
-use Rattle.paging.proofs.Map.{put-out, put-full, put-free}
+use Rattle.paging.proofs.Map.{put-out}
 use Rattle.paging.proofs.Calls.{told-left}
 use Rattle.frame.proofs.Laws.{passed, failed}
-use Rattle.mapper.proofs.Laws.{place-asks}
+use Rattle.mapper.proofs.Laws.{place-asks, put-there, put-new}
 use Rattle.mapper.proofs.inner.put_entry.Statement.{statement}
 use Rattle.mapper.proofs.inner.put_entry.Tie as tie
 
@@ -19,7 +17,9 @@ is-inside-requires : tie.Need-is-inside-requires
 is-inside-requires c κs = search needs
 
 returns : tie.Need-returns
-returns c = told-left (put-out _ _ _ _ _ _ (failed (c .before .is-inside .ensures) (c .if1 .taken)))
+returns c =
+    let a = c .before .before .before .args in
+    told-left (put-out (a .words .now) (a .start) (a .total) (a .t) (a .i) (a .e) (failed (c .before .is-inside .ensures) (c .if1 .taken)))
 
 -- the table is lent
 table-lent : (c : tie.Else1) → let a = c .before .before .before .args in inside (a .start) (a .total) (a .t) ≡ true
@@ -34,12 +34,6 @@ entry-place-requires c κs =
 under : (c : tie.After-entry-place) → c .entry-place .result < length (c .before .before .before .before .args .words .now)
 under c = let s = c .before .before .before .before in rw (c .entry-place .ensures) (place-lent _ _ (s .pre .0) (table-lent (c .before)) (s .pre .1))
 
--- a flag of the word that was read, by the entry's place
-word : (c : tie.After-entry-place) {b : Bool}
-    → let a = c .before .before .before .before .args in
-    flag 0 (getD (a .words .now) (c .entry-place .result) 0) ≡ b → flag 0 (getD (a .words .now) (place (a .start) (a .t) (a .i)) 0) ≡ b
-word c h = rw (← c .entry-place .ensures) h
-
 mul-t11 : tie.Need-mul-t11
 mul-t11 c = let h = under c in search needs
 
@@ -50,7 +44,11 @@ is-present-requires : tie.Need-is-present-requires
 is-present-requires c κs = search needs
 
 returns-2 : tie.Need-returns-2
-returns-2 c = told-left (put-full _ _ _ _ _ _ (table-lent (c .before .before .before .before)) (word (c .before .before .before) (sym (c .before .is-present .ensures) ∙ c .if2 .taken)))
+returns-2 c =
+    let p = c .before .before .before in
+    let a = p .before .before .before .before .args in
+    put-there (a .start) (a .t) (a .i) (p .entry-place .ensures) (a .words .now) (a .total) (table-lent (p .before)) (a .e)
+    (sym (c .before .is-present .ensures) ∙ c .if2 .taken)
 
 mul-words : tie.Need-mul-words
 mul-words c = let h = under (c .before .before .before) in search needs
@@ -59,12 +57,16 @@ slice-write-words : tie.Need-slice-write-words
 slice-write-words c = under (c .before .before .before)
 
 same-length : tie.Need-same-length
-same-length c = search needs
+same-length c =
+    let p = c .before .before .before in
+    let a = p .before .before .before .before .args in
+    length-set (a .words .now) (p .entry-place .result) (a .e)
 
 returns-3 : tie.Need-returns-3
 returns-3 c =
     let p = c .before .before .before in
-    rw (p .entry-place .ensures) (told-left (put-free _ _ _ _ _ _ (table-lent (p .before)) (word p (sym (c .before .is-present .ensures) ∙ c .if2 .left))))
+    let a = p .before .before .before .before .args in
+    put-new (a .start) (a .t) (a .i) (p .entry-place .ensures) (a .words .now) (a .total) (table-lent (p .before)) (a .e) (sym (c .before .is-present .ensures) ∙ c .if2 .left)
 
 pub put-entry-spec : {M : Type 1} → statement M
 put-entry-spec =

@@ -9,7 +9,7 @@ use Rattle.mapper.proofs.inner.walk.Statement.{statement}
 use Rattle.mapper.proofs.inner.walk.Tie as tie
 
 find-leaf-requires : tie.Need-find-leaf-requires
-find-leaf-requires c κs = search needs
+find-leaf-requires c κs = c .before .pre
 
 -- the answer from the leaf that was found
 from : (c : tie.After-find-leaf) → {l : Leaf} → c .find-leaf .result ≡ l → let a = c .before .before .args in
@@ -17,7 +17,7 @@ from : (c : tie.After-find-leaf) → {l : Leaf} → c .find-leaf .result ≡ l �
 from c h = ap (λ (l : Leaf). asPhys (address (c .before .before .args .virt .0) l)) (sym h ∙ c .find-leaf .ensures)
 
 enum-known-e : tie.Need-enum-known-e
-enum-known-e c = search needs
+enum-known-e c = c .match .keys1
 
 addr-requires : tie.Need-addr-requires
 addr-requires c κs = search needs
@@ -29,7 +29,7 @@ add-t14 : tie.Need-add-t14
 add-t14 c = search needs
 
 enum-known-e-2 : tie.Need-enum-known-e-2
-enum-known-e-2 c = search needs
+enum-known-e-2 c = c .match .keys2
 
 addr-requires-2 : tie.Need-addr-requires-2
 addr-requires-2 c κs = search needs
@@ -41,7 +41,7 @@ add-t19 : tie.Need-add-t19
 add-t19 c = search needs
 
 enum-known-n : tie.Need-enum-known-n
-enum-known-n c = search needs
+enum-known-n c = c .match .keys3
 
 returns : tie.Need-returns
 returns c = rw (c .before .before .addr .ensures, c .before .page-offset .ensures) (from (c .before .before .before .before .before .before) (c .before .before .before .before .e .given .1))

@@ -1,14 +1,20 @@
 -- `map_chosen`: the address, then a slot for it, then the region.
 use mathlib.Core.Path.{_≡_, sym, _∙_, ap}
-use mathlib.Core.Bool.{true}
+use mathlib.Core.Bool.{true, false}
+use mathlib.Core.List.{List}
+use Prim.Native.Nat.{ℕ}
+use mir.Syntax.{w32}
+use mir.Val.{ofZ, toZ}
 use mir.Facts.{toZ-ofZ}
 use borrow.Author.Needs.{needs}
 use Rattle.mmap.specs.Regions.{soundMappings}
-use Rattle.mmap.specs.Calls.{User, chosen}
+use Rattle.mmap.specs.Calls.{User, chosen, full, mapRegion, chosenRegion}
+use Rattle.mmap.specs.declared.Mmapped.{Mmapped}
+use Rattle.paging.specs.declared.Walked.the-variants.{At}
 use Rattle.mmap.specs.Results.{lentUser, mmapped}
 use Rattle.mmap.proofs.Sound.{sound-rising, sound-even}
 use Rattle.mmap.proofs.Calls.{room, chosen-place}
-use Rattle.mmap.proofs.Steps.{told, passed-on, user-sound, placed-stop, placed-full, placed-room, region-same}
+use Rattle.mmap.proofs.Steps.{Told, told, passed-on, user-sound, placed-stop, placed-full, placed-room, region-same}
 use Rattle.mmap.proofs.inner.map_chosen.Statement.{statement}
 use Rattle.mmap.proofs.inner.map_chosen.Tie as tie
 
@@ -28,19 +34,19 @@ choose-requires : tie.Need-choose-requires
 choose-requires c κs = (listed-sound (c .before), c .before .pre .1 .1)
 
 enum-known-e : tie.Need-enum-known-e
-enum-known-e c = search needs
+enum-known-e c = c .match .keys1
 
 no-mapping-requires : tie.Need-no-mapping-requires
-no-mapping-requires c κs = search needs
+no-mapping-requires c κs = tt
 
 enum-known-a : tie.Need-enum-known-a
-enum-known-a c = search needs
+enum-known-a c = c .match .keys2
 
 is-full-requires : tie.Need-is-full-requires
 is-full-requires c κs = listed-sound (c .before .before .before .before .before)
 
 no-mapping-requires-2 : tie.Need-no-mapping-requires-2
-no-mapping-requires-2 c κs = search needs
+no-mapping-requires-2 c κs = tt
 
 returns : tie.Need-returns
 returns c =
@@ -72,6 +78,15 @@ returns-2 c =
 same-length : tie.Need-same-length
 same-length c = search needs
 
+-- the region's answer, over the arguments alone; a signed number that is passed on is what its bits read back
+placed : (s : tie.Start) (a : ℕ) {r : Mmapped} {ws bm : List ℕ} → chosen (lent s) (s .args .wish) (s .args .n) (s .args .flags) ≡ At a → full (lent s) a ≡ false
+    → Told mmapped r ws bm (mapRegion 3 (lent s) (s .args .root .0) a (s .args .n) (toZ w32 (ofZ w32 (s .args .prot))) (toZ w32 (ofZ w32 (s .args .flags))))
+    → Told mmapped r ws bm (chosenRegion 3 (lent s) (s .args .root .0) (s .args .wish) (s .args .n) (s .args .prot) (s .args .flags))
+placed s a h k t =
+    passed-on mmapped t
+    (placed-room 3 (lent s) (s .args .root .0) (s .args .wish) (s .args .n) (s .args .prot) (s .args .flags) a h k
+    ∙ region-same 3 (lent s) (s .args .root .0) a (s .args .n) (sym (toZ-ofZ (s .fits .prot))) (sym (toZ-ofZ (s .fits .flags))))
+
 returns-3 : tie.Need-returns-3
 returns-3 c =
     let r = c .before .before in
@@ -79,10 +94,7 @@ returns-3 c =
     let a = e .before .before .before in
     let h = a .before .before in
     let s = h .before .before in
-    passed-on mmapped (r .map-region .ensures)
-    (placed-room 3 (lent s) (s .args .root .0) (s .args .wish) (s .args .n) (s .args .prot) (s .args .flags) _ (came h ∙ a .a .given .1)
-    (sym (e .before .is-full .ensures (lent s .mem)) ∙ e .if1 .left)
-    ∙ region-same 3 (lent s) _ _ _ (sym (toZ-ofZ (s .fits .prot))) (sym (toZ-ofZ (s .fits .flags))))
+    placed s (a .a .given .0 .0) (came h ∙ a .a .given .1) (sym (e .before .is-full .ensures (lent s .mem)) ∙ e .if1 .left) (r .map-region .ensures)
 
 pub map-chosen-spec : {M : Type 1} → statement M
 map-chosen-spec =

@@ -1,16 +1,18 @@
 -- `map_region`: the pages, and then the slot, or what a run that stopped leaves.
-use Prim.Native.Nat.{_+_, _*_, _/_}
+use Prim.Native.Nat.{ℕ, _+_, _*_, _/_, _^_, _<_}
 use mathlib.Core.Path.{_≡_, sym, _∙_, ap}
 use mathlib.Core.Bool.{Bool, true}
 use native.Mathlib.Omega.{arith}
 use mir.Facts.{toZ-ofZ}
-use mir.Syntax.{w32}
-use mir.Val.{ofZ, toZ}
+use mir.Syntax.{w32, w64}
+use mir.Val.{Fits, ofZ, toZ}
 use borrow.Author.Needs.{needs}
 use Rattle.address.specs.declared.VirtAnswer.the-variants.{AtVirt}
 use Rattle.frame.specs.Frames.{frames}
-use Rattle.paging.specs.Map.{memory, Roomy}
-use Rattle.paging.specs.Pages.{ran, mapPages}
+use Rattle.paging.specs.declared.Walked.{Walked}
+use Rattle.paging.specs.Walk.{Lent}
+use Rattle.paging.specs.Map.{Memory, memory, startOf, totalOf, Roomy}
+use Rattle.paging.specs.Pages.{Ran, ran, mapPages}
 use Rattle.paging.proofs.Calls.{whole-roomy}
 use Rattle.slots.specs.Slots.{listed, store}
 use Rattle.mmap.specs.declared.MappedRegion.{MappedRegion}
@@ -28,17 +30,20 @@ lent s = lentUser (s .args .words .now) (s .args .bitmap .now) (s .args .frames)
 roomy : (s : tie.Start) → Roomy (lent s .mem) (s .args .n / 4096 * 4)
 roomy s = whole-roomy (lent s .mem) (s .args .root .0) (user-whole (lent s) (s .args .root .0) (s .pre .0)) (s .args .n / 4096 * 4) (omega (arith, s .pre .1 .1 .1))
 
--- the run of pages
+-- the run of pages, over the arguments alone
+run-of : (s : tie.Start) {b : Bool} {r : Ran} → b ≡ writable (toZ w32 (ofZ w32 (s .args .prot)))
+    → r ≡ mapPages 3 b true (lent s .mem) (s .args .root .0) (s .args .virt .0) 0 (s .args .n / 4096)
+    → userPages 3 (lent s .mem) (s .args .root .0) (s .args .virt .0) (s .args .n) (s .args .prot) ≡ r
+run-of s e h =
+    ap (λ (w : Bool). mapPages 3 w true (lent s .mem) (s .args .root .0) (s .args .virt .0) 0 (s .args .n / 4096)) (ap writable (sym (toZ-ofZ (s .fits .prot))) ∙ sym e) ∙ sym h
+
 run : (c : tie.After-map-pages) → let s = c .before .before .before .before .before in let p = c .map-pages in
     userPages 3 (lent s .mem) (s .args .root .0) (s .args .virt .0) (s .args .n) (s .args .prot)
     ≡ ran (p .result .walked) (p .result .done) (memory (p .last .0) (frames (p .last .1 .0) (p .result .frames)))
-run c =
-    let s = c .before .before .before .before .before in
-    ap (λ (w : Bool). mapPages 3 w true (lent s .mem) (s .args .root .0) (s .args .virt .0) 0 (s .args .n / 4096))
-    (ap writable (sym (toZ-ofZ (s .fits .prot))) ∙ sym (c .before .is-writable .ensures)) ∙ sym (c .map-pages .ensures)
+run c = run-of (c .before .before .before .before .before) (c .before .is-writable .ensures) (c .map-pages .ensures)
 
 is-writable-requires : tie.Need-is-writable-requires
-is-writable-requires c κs = search needs
+is-writable-requires c κs = tt
 
 map-pages-requires : tie.Need-map-pages-requires
 map-pages-requires c κs =
@@ -46,28 +51,38 @@ map-pages-requires c κs =
     (roomy s, omega (arith, s .pre .1 .1 .0, s .pre .1 .1 .1))
 
 enum-known-walked : tie.Need-enum-known-walked
-enum-known-walked c = search needs
+enum-known-walked c = c .match .keys1
+
+-- what it leaves is lent, and ends in range
+leaves : (s : tie.Start) (b : Bool) {w : Walked} {k : ℕ} {m : Memory}
+    → ran w k m ≡ mapPages 3 b true (lent s .mem) (s .args .root .0) (s .args .virt .0) 0 (s .args .n / 4096)
+    → Lent (m .words) (startOf m) (totalOf m) × (s .args .virt .0 + k * 4096 < 2 ^ 64)
+leaves s b h = (
+  ran-lent b true (lent s .mem) (s .args .root .0) (s .args .virt .0) (s .args .n / 4096) h (roomy s),
+  omega (arith, ran-few b true (lent s .mem) (s .args .root .0) (s .args .virt .0) (s .args .n / 4096) h, s .pre .1 .1 .0, s .pre .1 .1 .1),
+)
 
 clear-after-requires : tie.Need-clear-after-requires
 clear-after-requires c κs =
     let p = c .before .before .before .before .before .before .before in
-    let s = p .before .before .before .before .before in
-    let few = ran-few _ true _ _ _ _ (p .map-pages .ensures) in
-    (ran-lent _ true _ _ _ _ (p .map-pages .ensures) (roomy s), omega (arith, few, s .pre .1 .1 .0, s .pre .1 .1 .1))
+    leaves (p .before .before .before .before .before) (p .before .is-writable .result) (p .map-pages .ensures)
 
 no-mapping-requires : tie.Need-no-mapping-requires
-no-mapping-requires c κs = search needs
+no-mapping-requires c κs = tt
 
 enum-told : tie.Need-enum-told
-enum-told c = search needs
+enum-told c = c .match .keys2
 
 insert-requires : tie.Need-insert-requires
 insert-requires c κs =
     let s = c .before .before .before .before .before .before .before .before .before .before in
     (user-sound (lent s) (s .args .root .0) (s .pre .0), s .pre .1 .0)
 
+after : (s : tie.Start) → Fits w64 (s .args .virt .0 + s .args .n)
+after s = omega (arith, s .pre .1 .1 .1)
+
 add-after : tie.Need-add-after
-add-after c = search needs
+add-after c = after (c .before .before .before .before .before .before .before .before .before .before .before .before)
 
 same-length : tie.Need-same-length
 same-length c = search needs

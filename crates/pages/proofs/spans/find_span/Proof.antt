@@ -3,14 +3,17 @@ use Prim.Native.Nat.{ℕ, _≤_, _<_, _-_, _+_, _/_}
 use mathlib.Core.Path.{_≡_, refl, sym, _∙_, ap}
 use mathlib.Core.Bool.{true}
 use native.Mathlib.Omega.{arith}
+use native.Mathlib.Nat.{lt-of-lt-of-le}
+use lib.Dec.{lit≤}
+use mir.Facts.{fits-lit}
 use lib.ListN.{length, getD, take, length-set}
 use borrow.Author.Needs.{needs}
-use Rattle.entry.proofs.Entry.{frame-of-addr}
 use Rattle.frame.specs.Frames.{inside}
 use Rattle.frame.proofs.Laws.{passed, failed}
 use Rattle.paging.specs.declared.Walked.the-variants.{At}
 use Rattle.paging.specs.Walk.{reach}
 use Rattle.paging.proofs.Walk.{reach-end}
+use Rattle.pages.proofs.Laws.{onward, fewer, next-fits, slot-fits, named}
 use Rattle.pages.proofs.Gaps.{gap-absent, gap-outside, leaves-found, above-more, further}
 use Rattle.pages.proofs.spans.find_span.Statement.{statement}
 use Rattle.pages.proofs.spans.find_span.Tie as tie
@@ -30,22 +33,22 @@ loop-holds : tie.Need-loop-holds Inv-loop μ-loop
 loop-holds c = (search needs, refl, reach-end _ _ _ _ refl, λ h. absurd (omega arith), λ k h. absurd (omega arith))
 
 mul-above : tie.Need-mul-above Inv-loop μ-loop
-mul-above c = search needs
+mul-above c = slot-fits (c .before .loop .level) 3 (c .loop-test .taken) (lit≤ tt)
 
 array-write-above : tie.Need-array-write-above Inv-loop μ-loop
 array-write-above c = search needs
 
 mul-entry-at : tie.Need-mul-entry-at Inv-loop μ-loop
-mul-entry-at c = search needs
+mul-entry-at c = slot-fits (c .before .loop .level) 3 (c .loop-test .taken) (lit≤ tt)
 
 array-read-entry-at : tie.Need-array-read-entry-at Inv-loop μ-loop
-array-read-entry-at c = search needs
+array-read-entry-at c = lt-of-lt-of-le (c .loop-test .taken) (lit≤ tt)
 
 entry-at-requires : tie.Need-entry-at-requires Inv-loop μ-loop
 entry-at-requires c κs = let p = c .before .before in (p .before .before .pre, p .page-indices .ensures .1 _)
 
 enum-told : tie.Need-enum-told Inv-loop μ-loop
-enum-told c = search needs
+enum-told c = c .match .keys1
 
 sub-to-end : tie.Need-sub-to-end Inv-loop μ-loop
 sub-to-end c = search needs
@@ -57,11 +60,13 @@ returns : tie.Need-returns Inv-loop μ-loop
 returns c =
     let x = c .before .before .before in
     let l = x .before .before in
-    gap-absent _ _ _ _ _ (l .before .page-indices .ensures .0) _ (x .before .loop-test .taken) (c .to-end .ensures) _ _ (l .loop .inv .2)
+    let a = l .before .before .before .args in
+    gap-absent (a .words .now) (a .start) (a .total) (a .root .0) (a .virt .0) (l .before .page-indices .ensures .0) _ (x .before .loop-test .taken)
+    (c .to-end .ensures) _ _ (l .loop .inv .2)
     (sym (x .entry-at .ensures) ∙ c .before .enum-told .given .1)
 
 enum-known-e : tie.Need-enum-known-e Inv-loop μ-loop
-enum-known-e c = search needs
+enum-known-e c = c .match .keys2
 
 addr-requires : tie.Need-addr-requires Inv-loop μ-loop
 addr-requires c κs = search needs
@@ -72,10 +77,11 @@ down : (c : tie.After-addr Inv-loop μ-loop) → let l = c .before .before .befo
 down c =
     let x = c .before .before .before .before in
     let l = x .before .before in
-    rw (c .addr .ensures, frame-of-addr)
-    (further _ _ _ _ (l .before .page-indices .result) _ _ _
+    let a = l .before .before .before .args in
+    further (a .words .now) (a .start) (a .total) (a .root .0) (l .before .page-indices .result) (l .loop .level) (l .loop .t) _
     (omega (arith, x .before .loop-test .taken, ap length (l .before .page-indices .ensures .0))) (l .loop .inv .2)
-    (sym (x .entry-at .ensures) ∙ c .before .before .e .given .1))
+    (sym (x .entry-at .ensures) ∙ c .before .before .e .given .1)
+    ∙ named _ (c .addr .ensures)
 
 is-inside-requires : tie.Need-is-inside-requires Inv-loop μ-loop
 is-inside-requires c κs = search needs
@@ -90,25 +96,29 @@ returns-2 : tie.Need-returns-2 Inv-loop μ-loop
 returns-2 c =
     let a = c .before .before .before .before in
     let t = a .before .before .before .before .before in
-    gap-outside _ _ _ _ _ (t .before .before .page-indices .ensures .0) _ (t .loop-test .taken) (c .to-end2 .ensures) _ (down a)
+    let g = t .before .before .before .before .args in
+    gap-outside (g .words .now) (g .start) (g .total) (g .root .0) (g .virt .0) (t .before .before .page-indices .ensures .0) _ (t .loop-test .taken)
+    (c .to-end2 .ensures) _ (down a)
     (failed (c .before .before .is-inside .ensures) (c .before .if1 .taken))
 
 add-level : tie.Need-add-level Inv-loop μ-loop
-add-level c = search needs
+add-level c = let t = c .before .before .before .before .before .before .before .before in next-fits (t .before .loop .level) 3 (t .loop-test .taken) (fits-lit tt)
 
 loop-less : tie.Need-loop-less Inv-loop μ-loop
-loop-less c = search needs
+loop-less c = let t = c .before .before .before .before .before .before .before .before in fewer (t .before .loop .level) 3 (t .loop-test .taken)
 
 loop-again : tie.Need-loop-again Inv-loop μ-loop
 loop-again c =
     let a = c .before .before .before in
     let t = a .before .before .before .before .before in
-    let l = t .before in (
-      search needs,
-      simp length-set (l .loop .inv .1),
+    let l = t .before in
+    let b = l .before .before .before .args in (
+      onward (l .loop .level) 3 (t .loop-test .taken),
+      length-set (l .loop .above) (l .loop .level) (l .loop .t) ∙ l .loop .inv .1,
       down a,
       λ _. passed (c .before .is-inside .ensures) (c .if1 .left),
-      above-more _ _ _ _ _ (l .loop .above) (l .loop .level) _ (omega (arith, l .loop .inv .1, t .loop-test .taken)) (l .loop .inv .4) (l .loop .inv .2),
+      above-more (b .words .now) (b .start) (b .total) (b .root .0) (l .before .page-indices .result) (l .loop .above) (l .loop .level) (l .loop .t)
+          (omega (arith, l .loop .inv .1, t .loop-test .taken)) (l .loop .inv .4) (l .loop .inv .2),
     )
 
 leaves-apart-requires : tie.Need-leaves-apart-requires Inv-loop μ-loop
@@ -120,7 +130,9 @@ returns-3 c =
     let p = l .before in
     let e : l .loop .level ≡ 3 = omega (arith, c .before .loop-test .left) in
     let r = c .leaves-apart .ensures in
-    leaves-found _ _ _ _ _ (p .page-indices .ensures .0) (l .loop .above) _ _ (rw e at (l .loop .inv .2)) (l .loop .inv .3 (omega arith))
+    let a = p .before .before .args in
+    leaves-found (a .words .now) (a .start) (a .total) (a .root .0) (a .virt .0) (p .page-indices .ensures .0) (l .loop .above) _ _ (rw e at (l .loop .inv .2))
+    (l .loop .inv .3 (omega arith))
     (λ k h. l .loop .inv .4 k (omega arith)) (r .0) (r .1 .0) (r .1 .1)
 
 pub find-span-spec : {M : Type 1} → statement M

@@ -7,6 +7,7 @@ use borrow.Author.Needs.{needs}
 use Rattle.frame.specs.Frames.{frames as framesOf}
 use Rattle.paging.specs.Map.{memory, Roomy}
 use Rattle.pages.specs.Spans.{freeLeaves}
+use Rattle.pages.proofs.Laws.{onward, fewer, next-fits}
 use Rattle.pages.proofs.Leaves.{leaf-left, leaves-on, leaves-end}
 use Rattle.pages.proofs.spans.free_leaves.Statement.{statement}
 use Rattle.pages.proofs.spans.free_leaves.Tie as tie
@@ -29,24 +30,32 @@ free-leaf-requires : tie.Need-free-leaf-requires Inv-loop μ-loop
 free-leaf-requires c κs = (c .before .before .before .loop .inv .2, search needs)
 
 add-j : tie.Need-add-j Inv-loop μ-loop
-add-j c = search needs
+add-j c =
+    let t = c .before .before .before .before .before in
+    next-fits (t .before .loop .j) (t .before .before .before .args .n) (t .loop-test .taken) (t .before .before .before .fits .n)
 
 loop-less : tie.Need-loop-less Inv-loop μ-loop
-loop-less c = search needs
+loop-less c =
+    let t = c .before .before .before .before .before in
+    fewer (t .before .loop .j) (t .before .before .before .args .n) (t .loop-test .taken)
 
 loop-again : tie.Need-loop-again Inv-loop μ-loop
 loop-again c =
     let r = c .before .before in
     let t = r .before .before .before in
-    let l = t .before in (
-      search needs,
-      search needs,
-      leaf-left _ _ _ (r .free-leaf .ensures) (l .loop .inv .2),
-      l .loop .inv .3 ∙ leaves-on _ _ _ _ (t .loop-test .taken) _ _ (r .free-leaf .ensures),
+    let l = t .before in
+    let a = l .before .before .args in
+    let x = r .free-leaf in (
+      onward (l .loop .j) (a .n) (t .loop-test .taken),
+      x .kept .0 ∙ l .loop .inv .1,
+      leaf-left (memory (l .loop .words) (framesOf (l .loop .bitmap) (l .loop .left))) (a .t) (a .i + l .loop .j) (x .ensures) (l .loop .inv .2),
+      l .loop .inv .3
+          ∙ leaves-on (a .t) (a .i) (l .loop .j) (a .n) (t .loop-test .taken) (memory (l .loop .words) (framesOf (l .loop .bitmap) (l .loop .left)))
+          (memory (x .last .0) (framesOf (x .last .1 .0) (x .result))) (x .ensures),
     )
 
 same-length : tie.Need-same-length Inv-loop μ-loop
-same-length c = search needs
+same-length c = c .before .loop .inv .1
 
 returns : tie.Need-returns Inv-loop μ-loop
 returns c = sym (c .before .loop .inv .3 ∙ leaves-end _ _ _ _ (c .loop-test .left) _)

@@ -1,6 +1,8 @@
 -- `free_span`: the pages of a gap, or the leaves of a table.
 use Prim.Native.Nat.{ℕ}
-use mathlib.Core.Path.{ap}
+use mathlib.Core.Path.{refl, ap}
+use Rattle.frame.specs.Frames.{frames}
+use Rattle.paging.specs.Map.{memory}
 use mathlib.Core.List.{List}
 use lib.ListN.{getD}
 use borrow.Author.Needs.{needs}
@@ -12,13 +14,13 @@ find-span-requires : tie.Need-find-span-requires
 find-span-requires c κs = search needs
 
 enum-known-k : tie.Need-enum-known-k
-enum-known-k c = search needs
+enum-known-k c = c .match .keys1
 
 at-most-requires : tie.Need-at-most-requires
 at-most-requires c κs = search needs
 
 enum-known-t : tie.Need-enum-known-t
-enum-known-t c = search needs
+enum-known-t c = c .match .keys2
 
 page-indices-requires : tie.Need-page-indices-requires
 page-indices-requires c κs = search needs
@@ -34,28 +36,45 @@ free-table-requires c κs =
     let q = c .before .before .before in
     let f = q .before .before .before .before .before in
     let s = f .before .before .before in
-    let g = is-leaves _ _ _ _ _ (f .find-span .ensures) (q .before .before .before .t .given .1) in
-    (s .pre .0, (s .pre .1 .0, (g .lent, leaves-fit _ _ _ _ _ _ _ _ g (q .at-most2 .ensures) (q .before .page-indices .ensures .0))))
+    let a = s .args in
+    let g = is-leaves (a .words .now) (a .frames .start) (a .frames .total) (a .root .0) (a .virt .0) (f .find-span .ensures) (q .before .before .before .t .given .1) in (
+      s .pre .0,
+      (
+        s .pre .1 .0,
+        (
+          g .lent,
+          leaves-fit (a .words .now) (a .frames .start) (a .frames .total) (a .root .0) (a .virt .0) _ _ (a .n) g
+              (q .at-most2 .ensures) (q .before .page-indices .ensures .0),
+        ),
+      ),
+    )
 
 same-length : tie.Need-same-length
-same-length c = search needs
+same-length c = refl
 
 returns : tie.Need-returns
 returns c =
     let f = c .before .before .before .before in
     let s = f .before .before .before in
-    (s .pre .1 .0, gap-step _ _ _ _ _ (is-gap _ _ _ _ _ (f .find-span .ensures) (c .before .before .k .given .1)) (s .pre .1 .1) (c .at-most .ensures))
+    let a = s .args in (
+      s .pre .1 .0,
+      gap-step (memory (a .words .now) (frames (a .bitmap .now) (a .frames))) (a .root .0) (a .virt .0) _ (a .n)
+          (is-gap (a .words .now) (a .frames .start) (a .frames .total) (a .root .0) (a .virt .0) (f .find-span .ensures) (c .before .before .k .given .1))
+          (s .pre .1 .1) (c .at-most .ensures),
+    )
 
 same-length-2 : tie.Need-same-length-2
-same-length-2 c = search needs
+same-length-2 c = c .before .before .free-table .kept .0
 
 returns-2 : tie.Need-returns-2
 returns-2 c =
     let r = c .before .before in
     let q = r .before .before .before .before in
-    let f = q .before .before .before .before .before in (
+    let f = q .before .before .before .before .before in
+    let a = f .before .before .before .args in (
       r .free-table .ensures .1,
-      leaves-step _ _ _ _ _ _ _ (is-leaves _ _ _ _ _ (f .find-span .ensures) (q .before .before .before .t .given .1))
+      leaves-step (memory (a .words .now) (frames (a .bitmap .now) (a .frames))) (a .root .0) (a .virt .0) _ _ (a .n) (getD (q .before .page-indices .result) 3 0)
+          (is-leaves (a .words .now) (a .frames .start) (a .frames .total) (a .root .0) (a .virt .0) (f .find-span .ensures) (q .before .before .before .t .given .1))
           (f .before .before .before .pre .1 .1) (q .at-most2 .ensures)
           (ap (λ (is : List ℕ). getD is 3 0) (q .before .page-indices .ensures .0)) (r .free-table .ensures .0),
     )

@@ -4,6 +4,8 @@ use mathlib.Core.Path.{_≡_, sym, _∙_}
 use borrow.Author.Needs.{needs}
 use Rattle.bitmap.specs.Bitmap.{marked}
 use Rattle.bitmap.proofs.Marks.{marked-true, marked-false}
+use Rattle.frame.specs.Frames.{frames}
+use Rattle.paging.specs.Map.{memory}
 use Rattle.frame.proofs.Laws.{inside-from, inside-bit}
 use Rattle.pages.proofs.Blanks.{blank-pass, blank-left, blank-more}
 use Rattle.pages.proofs.spans.free_table.Statement.{statement}
@@ -18,10 +20,14 @@ is-marked-requires c κs = let s = c .before .before .before in inside-bit _ _ _
 returns : tie.Need-returns
 returns c =
     let s = c .before .before .before .before .before in
-    (blank-pass _ _ _ _ (s .pre .1 .0) (s .pre .1 .1 .0) (s .pre .1 .1 .1) (marked-true _ _ (sym (c .before .is-marked .ensures) ∙ c .if1 .taken)), s .pre .1 .0)
+    let a = s .args in (
+      blank-pass (memory (a .words .now) (frames (a .bitmap .now) (a .frames))) (a .t) (a .i) (a .n) (s .pre .1 .0) (s .pre .1 .1 .0) (s .pre .1 .1 .1)
+          (marked-true _ _ (sym (c .before .is-marked .ensures) ∙ c .if1 .taken)),
+      s .pre .1 .0,
+    )
 
 free-leaves-requires : tie.Need-free-leaves-requires
-free-leaves-requires c κs = search needs
+free-leaves-requires c κs = let s = c .before .before .before .before .before .before .before in (s .pre .0, s .pre .1 .1 .1)
 
 -- a table that is not marked
 free : (c : tie.Else1) → let s = c .before .before .before .before .before in marked (s .args .empty .now) (s .args .t - s .args .frames .start) ≡ 0
@@ -34,26 +40,32 @@ mark-requires c κs =
     (inside-bit _ _ _ (s .pre .0 .held .few) (s .pre .1 .1 .0), free e)
 
 same-length : tie.Need-same-length
-same-length c = search needs
+same-length c = c .before .before .before .before .before .free-leaves .kept .0
 
 returns-2 : tie.Need-returns-2
 returns-2 c =
     let f = c .before .before .before .before .before in
     let e = f .before .before .before in
-    let s = e .before .before .before .before .before in (
+    let s = e .before .before .before .before .before in
+    let a = s .args in (
       f .free-leaves .ensures,
       rw (c .mark .ensures)
-          (blank-more _ _ _ _ (s .pre .1 .0) (s .pre .1 .1 .0) (s .pre .1 .1 .1) (f .free-leaves .ensures) (c .before .before .if2 .taken) (free e)),
+          (blank-more (memory (a .words .now) (frames (a .bitmap .now) (a .frames))) (a .t) (a .i) (a .n) (s .pre .1 .0) (s .pre .1 .1 .0) (s .pre .1 .1 .1)
+          (f .free-leaves .ensures) (c .before .before .if2 .taken) (free e)),
     )
 
 same-length-2 : tie.Need-same-length-2
-same-length-2 c = search needs
+same-length-2 c = c .before .before .before .free-leaves .kept .0
 
 returns-3 : tie.Need-returns-3
 returns-3 c =
     let f = c .before .before .before in
     let s = f .before .before .before .before .before .before .before .before in
-    (f .free-leaves .ensures, blank-left _ _ _ _ (s .pre .1 .0) (s .pre .1 .1 .0) (s .pre .1 .1 .1) (f .free-leaves .ensures))
+    let a = s .args in (
+      f .free-leaves .ensures,
+      blank-left (memory (a .words .now) (frames (a .bitmap .now) (a .frames))) (a .t) (a .i) (a .n) (s .pre .1 .0) (s .pre .1 .1 .0)
+          (s .pre .1 .1 .1) (f .free-leaves .ensures),
+    )
 
 pub free-table-spec : {M : Type 1} → statement M
 free-table-spec =

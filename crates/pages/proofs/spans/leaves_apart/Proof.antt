@@ -5,8 +5,10 @@ use mathlib.Core.Path.{_≡_}
 use mathlib.Core.Logic.{_⊎_, inl, inr, ⊎-elim}
 use native.Mathlib.Omega.{arith}
 use lib.ListN.{getD}
+use mir.Facts.{fits-lit}
 use borrow.Author.Count.{below-more}
 use borrow.Author.Needs.{needs}
+use Rattle.pages.proofs.Laws.{onward, fewer, next-fits}
 use Rattle.pages.proofs.spans.leaves_apart.Statement.{statement}
 use Rattle.pages.proofs.spans.leaves_apart.Tie as tie
 
@@ -50,10 +52,10 @@ stop-past-requires : tie.Need-stop-past-requires Inv-loop μ-loop
 stop-past-requires c κs = search needs
 
 add-level : tie.Need-add-level Inv-loop μ-loop
-add-level c = search needs
+add-level c = let t = c .before in next-fits (t .before .loop .level) 3 (t .loop-test .taken) (fits-lit tt)
 
 loop-less : tie.Need-loop-less Inv-loop μ-loop
-loop-less c = search needs
+loop-less c = let t = c .before in fewer (t .before .loop .level) 3 (t .loop-test .taken)
 
 loop-again : tie.Need-loop-again Inv-loop μ-loop
 loop-again c =
@@ -62,15 +64,15 @@ loop-again c =
     let next = more (a .t1) (a .t2) (a .t) (getD (a .t2) 3 0) (l .loop .end) (c .if1 .end) (l .loop .level) in
     ⊎-elim
     (λ w. let p = w .1 .ensures in (
-      search needs,
+      onward (l .loop .level) 3 (c .before .loop-test .taken),
       rw (w .2) (p .0),
-      omega (arith, w .2, p .1 .0),
+      omega (arith, w .2, p .1 .0, l .loop .inv .2),
       next (omega (arith, w .2, p .1 .0)) (l .loop .inv .3) (λ _. rw (w .2) (p .1 .1)),
     ))
     (λ w. (
-      search needs,
-      omega (arith, w .1),
-      omega (arith, w .1),
+      onward (l .loop .level) 3 (c .before .loop-test .taken),
+      omega (arith, w .1, l .loop .inv .1),
+      omega (arith, w .1, l .loop .inv .2),
       next (omega (arith, w .1)) (l .loop .inv .3) (λ e. absurd (w .0 .left e)),
     ))
     (c .if1 .came)
@@ -81,8 +83,13 @@ sub-result c = search needs
 returns : tie.Need-returns Inv-loop μ-loop
 returns c =
     let l = c .before in
-    let e = l .loop .end in
-    (search needs, (omega (arith, l .loop .inv .1), λ k h q. ⊎-elim (λ x. inl x) (λ x. inr (omega (arith, l .loop .inv .1))) (l .loop .inv .3 k (omega arith) q)))
+    let e = l .loop .end in (
+      omega (arith, l .loop .inv .1),
+      (
+        omega (arith, l .loop .inv .1, l .loop .inv .2),
+        λ k h q. ⊎-elim (λ x. inl x) (λ x. inr (omega (arith, l .loop .inv .1))) (l .loop .inv .3 k (omega (arith, c .loop-test .left)) q),
+      ),
+    )
 
 pub leaves-apart-spec : {M : Type 1} → statement M
 leaves-apart-spec =

@@ -75,7 +75,7 @@ map-pages-requires c κs =
     )
 
 enum-known-walked : tie.Need-enum-known-walked
-enum-known-walked c = search needs
+enum-known-walked c = c .match .keys1
 
 -- what `take_region` asks
 asked : (c : tie.Else1) → let a = c .before .before .before .args in let i = c .before .first-fit .result in
@@ -87,7 +87,7 @@ take-region-requires : tie.Need-take-region-requires
 take-region-requires c κs = asked (c .before .before .before .before .before .before .before .before .before)
 
 enum-told : tie.Need-enum-told
-enum-told c = search needs
+enum-told c = c .match .keys2
 
 take-region-requires-2 : tie.Need-take-region-requires-2
 take-region-requires-2 c κs = asked (c .before .before .before .before .before .before .before .before)
