@@ -1,4 +1,4 @@
-// The calls on a record that is lent beside its bitmap and written in place: each hands it to the call by value and puts back what that leaves.
+// The calls on a record that is lent beside its bitmap. Those that change it hand it to the call by value and put back what that leaves; the reads write nothing.
 use crate::FrameAllocator;
 use address::Frame;
 use address::FrameAnswer;

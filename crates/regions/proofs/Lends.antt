@@ -1,4 +1,4 @@
--- A slice of regions whose borrow is open is lent to a callee, for a lifetime that is made for the call, and comes back: one step of `Types/Kit.antt`'s calculus, for every callee that takes the slice first and behind it parameters that own only facts.
+-- A slice of regions whose borrow is open is lent to a callee, for a lifetime that is made for the call, and comes back: one step of `types.Kit`'s calculus, for every callee that takes the slice first and behind it parameters that own only facts.
 --     Taking       a call of such a function where the slice's list is ys: the signature behind the slice, the contract, what is passed, and what is said of the result and of the last list
 --     lends        the call: the row of ys before it, the row of a last list after it. Where the operands are read, two entries stand in the place of the row. m is the count in the slice's machine value
 --     answers      what a callee that takes and answers values alone has left: its answer, and what is said of that

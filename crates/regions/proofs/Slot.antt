@@ -1,4 +1,4 @@
--- The records of a lent slice of regions, for the walks over one: laws of the record type, and steps of `Types/Kit.antt`'s calculus at it.
+-- The records of a lent slice of regions, for the walks over one: laws of the record type, and steps of `types.Kit`'s calculus at it.
 --     Good, made, typed        what owning a record tells; who makes one shows it of numbers that fit; its machine value then has the record's MIR type
 --     opens, closes            the slice that a function is lent, its first parameter, is opened at its list; once its borrow is closed at another list as long, the slice is owned at that
 --     rec-out, rec-back, rec-put       a record is taken out of the row, with its machine value; it is put back, or another is put in its place

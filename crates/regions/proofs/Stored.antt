@@ -1,4 +1,4 @@
--- The slots after a step on the list: a region cut, or two joined, is what `store` says.
+-- The slots after a step on the list: a region cut, or freed, is what `store` says.
 use Prim.Native.Nat.{ℕ, suc, _+_, _-_, _<_, _≤_, max}
 use mathlib.Core.Path.{_≡_, sym, _∙_, subst}
 use mathlib.Core.Bool.{Bool, true, false}

@@ -1,4 +1,4 @@
-// The regions of vmalloc.rs: the list that its calls are lent.
+// The list of vmalloc.rs: 256 region records and a count.
 pub mod lent;
 pub mod list;
 

@@ -15,7 +15,7 @@ module _ {A : Type 0} (blank : A) (m : List A) (s : Slots A) where
   unfolding store
   store-count = refl
 
-  -- a list with no more regions than before: blank slots take the place of those gone
+  -- a list no longer than before: blank slots take the place of those gone
   pub store-shorter : (k : ℕ) → length m ≡ k → k ≤ s .count
       → store blank m s ≡ record { slots = m ++ (replicate (s .count - k) blank ++ drop (s .count) (s .slots)); count = k }
   unfolding store

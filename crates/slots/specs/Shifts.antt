@@ -4,6 +4,7 @@ use mathlib.Core.List.{List, _∷_, _++_}
 use lib.ListN.{take, drop}
 use lib.Seq.{slice}
 
+-- one put in at index k, and the one at index k taken out
 abbrev pub putIn : {A : Type 0} → ℕ → A → List A → List A
 putIn k a l = take k l ++ a ∷ drop k l
 
