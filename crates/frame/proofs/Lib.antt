@@ -1,6 +1,6 @@
 pub mod Laws
 pub mod Steps
-mod Passed
+pub mod Passed
 mod Thin
 mod Reading
 mod Lending

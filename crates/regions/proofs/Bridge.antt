@@ -1,4 +1,4 @@
--- A list of regions by value whose slots are lent, for the walks of `list::taken` and `list::freed`: the array is in a local, which is lent as a slice, comes back, and goes with a count into a new `VMAllocator`.
+-- A list of regions by value whose slots are lent, for the walk of `Lending.antt`: the array is in a local, which is lent as a slice, comes back, and goes with a count into a new `VMAllocator`.
 --     GoodA, typedA    what owning the array tells; its machine value then has the array's MIR type
 --     lends, back      the local that holds the array is lent as a slice for a new lifetime; that is ended, and the local holds the array as it is then
 --     GoodL, typedL    the same of a list: its array field stands in the logic as the list of the records' fields, and its machine value has the array's as it is

@@ -9,3 +9,4 @@ pub mod Merging
 mod Slot
 mod Bridge
 mod Lends
+mod Lending
