@@ -2,8 +2,6 @@
 use Prim.Native.Nat.{ℕ}
 use mathlib.Core.Bool.{Bool, true, false}
 use Rattle.answer.specs.declared.Line.{Line}
-use Rattle.mmap.specs.declared.Wish.{Wish}
-use Rattle.mmap.specs.declared.Wish.the-variants.{Anywhere, Wished}
 use Rattle.entry.specs.declared.EntryAnswer.{EntryAnswer}
 use Rattle.entry.specs.declared.EntryAnswer.the-variants.{AtEntry, NoEntry}
 use Rattle.paging.specs.declared.HugePageSize.{HugePageSize}
@@ -34,8 +32,3 @@ tenFlags p w u t c a d h g n = record {
 abbrev pub hugeOf : Bool → HugePageSize
 hugeOf true = Size1GB
 hugeOf false = Size2MB
-
--- the address where one is given
-abbrev pub wishOf : Bool → ℕ → Wish
-wishOf true a = Wished a
-wishOf false a = Anywhere

@@ -4,7 +4,6 @@ use address::VirtAddr;
 use answer::Line;
 use layout::lists;
 use layout::parts;
-use mmap::Wish;
 ghost use mathlib.Core.Path.{_≡_};
 ghost use lib.ListN.{length};
 ghost use Rattle.bits.specs.Bit.{unless, both};
@@ -17,9 +16,9 @@ ghost use Rattle.paging.specs.Map.{memory};
 ghost use Rattle.paging.specs.Calls.{asAnswer};
 ghost use Rattle.vmalloc.specs.Results.{asVirt};
 ghost use Rattle.mmap.specs.Calls.{user, mmap as mmapOf, munmap as munmapOf, mprotect as mprotectOf};
+ghost use Rattle.mmap.specs.Results.{wishOf};
 ghost use Rattle.layout.specs.Parts.{framesIn, framesFit, fieldsOut};
 ghost use Rattle.layout.specs.Lists.{mmapIn, nextIn, mmapOut, mmapFit};
-ghost use Rattle.desk.specs.Line.{wishOf};
 
 // Whether all three parts stand for records.
 fn fits(fields: &[u8], bits: &[u8], list: &[u8]) -> bool
@@ -29,16 +28,6 @@ fn fits(fields: &[u8], bits: &[u8], list: &[u8]) -> bool
         return false;
     }
     lists::mmap_fits(list)
-}
-
-// The address where one is given.
-fn wish_of(given: bool, addr: u64) -> Wish
-    ensures { λ r. ⌜ r ≡ wishOf given addr ⌝ }
-{
-    if given {
-        return Wish::Wished(addr);
-    }
-    Wish::Anywhere
 }
 
 fn mmap_in(
@@ -70,7 +59,7 @@ fn mmap_in(
         frames,
         Frame(root),
         lists::get_mmap(list),
-        wish_of(given, addr),
+        mmap::wish_of(given, addr),
         size,
         prot,
         flags,

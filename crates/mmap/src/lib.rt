@@ -11,7 +11,7 @@ use frame::FrameAllocator;
 ghost use mathlib.Core.Path.{_≡_};
 ghost use Rattle.paging.specs.Calls.{asAnswer};
 ghost use Rattle.mmap.specs.Calls.{soundUser, mmap as mmapOf, munmap as munmapOf, mprotect as mprotectOf};
-ghost use Rattle.mmap.specs.Results.{lentUser, mmapped, munmapped};
+ghost use Rattle.mmap.specs.Results.{lentUser, wishOf, mmapped, munmapped};
 
 pub const PROT_READ: i32 = 0x1;
 
@@ -82,6 +82,16 @@ pub struct Munmapped {
     pub answer: Answer,
     pub frames: FrameAllocator,
     pub list: MemoryMapper,
+}
+
+// The address where one is given.
+pub fn wish_of(given: bool, addr: u64) -> Wish
+    ensures { λ r. ⌜ r ≡ wishOf given addr ⌝ }
+{
+    if given {
+        return Wish::Wished(addr);
+    }
+    Wish::Anywhere
 }
 
 // Whether nothing that the calls are lent is broken.

@@ -4,7 +4,7 @@ use mathlib.Core.Path.{_≡_, refl, sym, _∙_, ap}
 use mathlib.Core.List.{List, [], _∷_, _++_, append-assoc, append-nil}
 use native.Mathlib.Omega.{arith}
 use lib.ListN.{length, take, drop, getD, set, length-append, take-append-drop, drop-of-length-le}
-use lib.Seq.{drop-cons, drop-drop, drop-at, take-at, set-at, take-all, take-suc, append-snoc, drop-append-add, length-take-le, sets, sets-eq}
+use lib.Seq.{drop-cons, drop-drop, take-at, set-at, take-all, take-suc, append-snoc, drop-append-add, length-take-le, sets, sets-eq}
 use Rattle.packed.specs.Records.{records, packed}
 
 -- stores of one text behind another
@@ -101,10 +101,3 @@ module _ {A : Type 0} (g : A → List ℕ) (each : (a : A) → length (g a) ≡ 
   write-all k n l bs bs₀ h m e =
       e ∙ ap (λ (q : List ℕ). take k bs₀ ++ q)
       (ap (λ (q : List ℕ). packed g (take n l) ++ q) (drop-of-length-le bs₀ m) ∙ append-nil (packed g (take n l)) ∙ ap (packed g) (take-all n l h))
-
-  -- a record that survives alone survives among others
-  pub records-packed : (f : List ℕ → A) → ((a : A) (bs : List ℕ) → f (g a ++ bs) ≡ a) → (l : List A) → records f (length l) (packed g l) ≡ l
-  unfolding records packed
-  records-packed f same [] = refl
-  records-packed f same (a ∷ l) =
-      λ j. same a (packed g l) j ∷ (ap (records f (length l)) (drop-at (g a) (packed g l) 24 (each a)) ∙ records-packed f same l) j

@@ -1,6 +1,5 @@
 -- One call of a tape on a board, document 01's 'The key program': what its line says, and the board that it leaves.
 use Prim.Native.Nat.{ℕ}
-use mathlib.Core.Bool.{Bool, true, false}
 use Rattle.answer.specs.declared.Line.{Line}
 use Rattle.answer.specs.Numbers.{answerLine}
 use Rattle.address.specs.Address.{virtLine, physLine}
@@ -9,8 +8,7 @@ use Rattle.paging.specs.Calls.{asAnswer, asPhys, translate}
 use Rattle.vmalloc.specs.Calls.{Kernel, kernel, vmalloc, vfree}
 use Rattle.vmalloc.specs.Results.{asVirt}
 use Rattle.mmap.specs.Calls.{User, user, mmap, munmap}
-use Rattle.mmap.specs.declared.Wish.{Wish}
-use Rattle.mmap.specs.declared.Wish.the-variants.{Anywhere, Wished}
+use Rattle.mmap.specs.Results.{wishOf}
 use Rattle.fault.specs.Faults.{Faulting, faulting, handleFault}
 use Rattle.board.specs.Board.{Board}
 use Rattle.tape.specs.declared.Call.{Call}
@@ -33,11 +31,6 @@ withUser b u = record { mem = u .mem; root = b .root; kernel = b .kernel; user =
 
 abbrev pub withFaulting : Board → Faulting → Board
 withFaulting b f = record { mem = f .mem; root = b .root; kernel = b .kernel; user = b .user; next = b .next; marked = f .marked }
-
--- the address where one is given
-abbrev pub wishOf : Bool → ℕ → Wish
-wishOf true a = Wished a
-wishOf false a = Anywhere
 
 abbrev pub play : Board → Call → Turn
 play b (Vmalloc n) = let d = vmalloc 3 (kernel (b .mem) (b .kernel)) (b .root) n in turn 1 (virtLine (asVirt (d .answer))) (withKernel b (d .kernel))

@@ -7,7 +7,6 @@ use frame::FrameAllocator;
 use libc::STDIN_FILENO;
 use libc::STDOUT_FILENO;
 use mmap::MemoryMapper;
-use mmap::Wish;
 use regions::VMAllocator;
 use tape::Call;
 use tape::FaultCall;
@@ -20,7 +19,7 @@ ghost use Prim.Native.Nat.{ℕ, _+_, _≤_};
 ghost use lib.ListN.{length};
 ghost use Rattle.board.specs.Board.{boardOf};
 ghost use Rattle.tape.specs.declared.Call.{Call};
-ghost use Rattle.player.specs.Play.{turn, wishOf, play as playOf};
+ghost use Rattle.player.specs.Play.{turn, play as playOf};
 
 // Board: 16 frames from 0x100000.
 const FIRST: u64 = 0x10_0000;
@@ -93,22 +92,13 @@ fn play_vfree(words: &mut [u64], bitmap: &mut [u64; 128], records: Records, addr
     }
 }
 
-fn wish_of(given: bool, addr: u64) -> Wish
-    ensures { λ r. ⌜ r ≡ wishOf given addr ⌝ }
-{
-    if given {
-        return Wish::Wished(addr);
-    }
-    Wish::Anywhere
-}
-
 fn play_mmap(words: &mut [u64], bitmap: &mut [u64; 128], records: Records, c: MmapCall) -> Played
     ensures { λ r. ⌜ ((m : List ℕ) → turn (r .kind) (r .line) (boardOf (now (words .exit)) (now (bitmap .exit)) m (r .records)) ≡ playOf (boardOf (now (words .entry)) (now (bitmap .entry)) m records) (Call.Mmap c)) ⌝ }
 {
     let frames = records.frames;
     let root = records.root;
     let list = records.user;
-    let wish = wish_of(c.given, c.addr);
+    let wish = mmap::wish_of(c.given, c.addr);
     let did = mmap::mmap(
         words,
         bitmap,

@@ -5,7 +5,7 @@ use Rattle.layout.proofs.Fit.{lengths-mmap}
 use mir.Facts.{toZ-ofZ}
 use lib.IntN.{ℤ}
 use Rattle.mmap.specs.Calls.{User, mmap as mmapOf}
-use Rattle.desk.specs.Line.{wishOf}
+use Rattle.mmap.specs.Results.{wishOf}
 use Rattle.desk.proofs.Same.{both-same, met-mmap}
 use Rattle.desk.proofs.user.gadulnos_mmap.Statement.{statement}
 use Rattle.desk.proofs.user.gadulnos_mmap.Tie as tie

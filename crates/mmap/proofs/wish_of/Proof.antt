@@ -2,9 +2,9 @@
 use mathlib.Core.Path.{sym, ap}
 use mathlib.Core.Bool.{Bool}
 use borrow.Author.Needs.{needs}
-use Rattle.desk.specs.Line.{wishOf}
-use Rattle.desk.proofs.user.wish_of.Statement.{statement}
-use Rattle.desk.proofs.user.wish_of.Tie as tie
+use Rattle.mmap.specs.Results.{wishOf}
+use Rattle.mmap.proofs.wish_of.Statement.{statement}
+use Rattle.mmap.proofs.wish_of.Tie as tie
 
 returns : tie.Need-returns
 returns c = sym (ap (λ (b : Bool). wishOf b (c .before .args .addr)) (c .if1 .taken))
