@@ -1,5 +1,4 @@
--- This project's `translate` is Intel's 4-level paging: for canonical addresses, over tables with no HUGE entry, while the walk stays in lent frames. The
--- statements come first, with the definitions that they name. What leads to them stands below, and that they are not empty in Examples.antt.
+-- The statements of specs/Agreement.antt hold, but for the last, which is in Entries.antt.
 use Prim.Native.Nat.{ℕ, zero, suc, _+_, _*_, _%_, _^_, _<_, _≤_}
 use mathlib.Core.Path.{_≡_, refl, sym, _∙_, ap}
 use mathlib.Core.Bool.{Bool, true, false, true≢false}
@@ -18,78 +17,9 @@ use Rattle.paging.specs.Walk.{place, entryAt, reach, judge, leaf, address, lent
 use Rattle.paging.specs.Calls.{translate}
 use Rattle.paging.proofs.Walk.{present-yes, present-no, entry-out, entry-in, reach-end, reach-stop, reach-on, leaf-stop, leaf-on}
 use Rattle.paging.proofs.Calls.{translate-is}
-use Rattle.intel.specs.Sdm.{bits, Memory, Translation, physical, notPresent, reserved, large, choose, p, ps, pageAt, throughPte, throughPde, throughPdpte, throughPml4e, canonical, linear}
-use Rattle.intel.proofs.Steps.{no-address, not-outside, judge-plain, entry-outcomes, leaf-plain, outcomes}
-
--- ---- what the statements name
-
--- Physical memory holds the lent words: entry i of lent frame t stands at address t × 4096 + i × 8.
-pub record Holds (mem : Memory) (ws : List ℕ) (start total : ℕ) : Type 0 where
-  pub word : (t i : ℕ) → inside start total t ≡ true → i < 512 → mem (t * 2 ^ 12 + i * 2 ^ 3) ≡ getD ws (place start t i) 0
-
--- No HUGE entry: a table to which fewer than `up` indices lead from the root has no present entry with bit 7. With 3 these are all tables above the last level.
-pub record NoHuge (ws : List ℕ) (start total up root : ℕ) : Type 0 where
-  pub plain : (is : List ℕ) (t i e : ℕ) → length is < up → reach ws start total root is ≡ At t → entryAt ws start total t i ≡ At e → flag 7 e ≡ false
-
--- The manual's word for our answer.
-abbrev pub verdict : Walked → Translation
-verdict (At a) = physical a
-verdict (Stop n) = notPresent
-
--- What the statements ask: a record that is not broken (10), CR3 that names the root, memory that holds the words, no HUGE entry, and a canonical address.
-pub record Setting (mem : Memory) (cr3 : ℕ) (ws : List ℕ) (start total root v : ℕ) : Type 0 where
-  pub whole : lent (length ws) start total root ≡ true
-  pub base : bits 51 12 cr3 ≡ root
-  pub holds : Holds mem ws start total
-  pub noHuge : NoHuge ws start total 3 root
-  pub form : canonical v ≡ true
-
--- ---- the statements
-
--- While the walk stays in lent frames, the manual's outcome is ours.
-abbrev pub Agrees : Type 0
-Agrees =
-    (mem : Memory) (cr3 : ℕ) (ws : List ℕ) (start total root v : ℕ) → Setting mem cr3 ws start total root v
-    → (translate 3 ws start total root v ≡ Stop outside → ⊥)
-    → linear mem cr3 v ≡ verdict (translate 3 ws start total root v)
-
--- So there we give an address exactly where the manual does, and the same one,
-abbrev pub SamePages : Type 0
-SamePages =
-    (mem : Memory) (cr3 : ℕ) (ws : List ℕ) (start total root v : ℕ) → Setting mem cr3 ws start total root v
-    → (translate 3 ws start total root v ≡ Stop outside → ⊥)
-    → (a : ℕ) → (translate 3 ws start total root v ≡ At a) ↔ (linear mem cr3 v ≡ physical a)
-
--- and 14, not mapped, exactly where the manual says that an entry is not present.
-abbrev pub SameAbsent : Type 0
-SameAbsent =
-    (mem : Memory) (cr3 : ℕ) (ws : List ℕ) (start total root v : ℕ) → Setting mem cr3 ws start total root v
-    → (translate 3 ws start total root v ≡ Stop outside → ⊥)
-    → (translate 3 ws start total root v ≡ Stop notMapped) ↔ (linear mem cr3 v ≡ notPresent)
-
--- No other number occurs: on a record that is not broken the answer is an address, 14 or 19, whatever the words are.
-abbrev pub ThreeOutcomes : Type 0
-ThreeOutcomes =
-    (ws : List ℕ) (start total root v : ℕ) → lent (length ws) start total root ≡ true
-    → ((a : ℕ) × (translate 3 ws start total root v ≡ At a))
-    ⊎ (translate 3 ws start total root v ≡ Stop notMapped)
-    ⊎ (translate 3 ws start total root v ≡ Stop outside)
-
--- It is 19 exactly where the walk comes to a table outside the lent frames, whose entries the words do not hold.
-abbrev pub OffBoard : Type 0
-OffBoard =
-    (ws : List ℕ) (start total root v : ℕ) → lent (length ws) start total root ≡ true → NoHuge ws start total 3 root
-    → (translate 3 ws start total root v ≡ Stop outside)
-    ↔ ((k : ℕ) × (t : ℕ) × (k ≤ 3) × (reach ws start total root (take k (indices 4 v)) ≡ At t) × (inside start total t ≡ false))
-
--- ---- no HUGE entry in a table, and none below it
-
-module _ (ws : List ℕ) (start total : ℕ) where
-  plain-here : {up t : ℕ} (i e : ℕ) → NoHuge ws start total (suc up) t → entryAt ws start total t i ≡ At e → flag 7 e ≡ false
-  plain-here {up} {t} i e h k = h .plain [] t i e (omega arith) (reach-end ws start total t refl) k
-
-  plain-below : {up t : ℕ} (i e : ℕ) → NoHuge ws start total (suc up) t → entryAt ws start total t i ≡ At e → NoHuge ws start total up (frameOf e)
-  plain-below {up} {t} i e h k = record { plain = λ is s j x l r. h .plain (i ∷ is) s j x (omega arith) (reach-on ws start total t refl e k ∙ r) }
+use Rattle.intel.specs.Sdm.{bits, Memory, Translation, physical, notPresent, reserved, large, choose, p, ps, tableOf, pageAt, throughPte, throughPde, throughPdpte, throughPml4e, linear}
+use Rattle.intel.specs.Agreement.{Holds, NoHuge, verdict, Agrees, SamePages, SameAbsent, ThreeOutcomes, OffBoard}
+use Rattle.intel.proofs.Steps.{no-address, not-outside, judge-plain, entry-outcomes, leaf-plain, plain-here, plain-below, outcomes}
 
 -- ---- one table after the other, from the last level up
 
@@ -127,14 +57,15 @@ module _ (mem : Memory) (ws : List ℕ) (start total v : ℕ) (holds : Holds mem
 
   -- a table above, n levels over a page table: an entry with bit 7 is `other`, and any other one names a table below, for which the two are the same
   above : (through below : ℕ → Translation) (other : Translation) (n t : ℕ)
-      → ((e : ℕ) → through e ≡ choose (p e) (choose (ps e) other (below (frameOf e))) notPresent)
+      → ((e : ℕ) → through e ≡ choose (p e) (choose (ps e) other (below (tableOf e))) notPresent)
       → ((s : ℕ) → NoHuge ws start total n s → Same (below s) (address v (leaf ws start total s (indices (suc n) v))))
       → NoHuge ws start total (suc n) t
       → Same (through (mem (t * 2 ^ 12 + index (suc n) v * 2 ^ 3))) (address v (leaf ws start total t (indices (suc (suc n)) v)))
   above through below other n t law behind h =
       step through _ t (index (suc n) v) (indices (suc n) v) law (omega arith) (λ e k.
       let plain : ps e ≡ false = plain-here ws start total _ e h k in
-      rw (plain, judge-plain (index n v) (indices n v) e _ plain) (behind (frameOf e) (plain-below ws start total _ e h k)))
+      let table : tableOf e ≡ frameOf e = omega arith in
+      rw (plain, table, judge-plain (index n v) (indices n v) e _ plain) (behind (frameOf e) (plain-below ws start total _ e h k)))
 
   directory : (t : ℕ) → NoHuge ws start total 1 t → Same (throughPde mem v (mem (t * 2 ^ 12 + bits 29 21 v * 2 ^ 3))) (address v (leaf ws start total t (indices 2 v)))
   unfolding throughPde

@@ -1,9 +1,9 @@
--- The statements of Agree.antt are not empty. Any lent words can stand in physical memory, and words without bit 7 have no HUGE entry. The canonical addresses are
+-- The statements of specs/Agreement.antt are not empty. Any lent words can stand in physical memory, and words without bit 7 have no HUGE entry. The canonical addresses are
 -- the lowest and the highest 2^47. On a board of one frame both sides map an address, to the same one, and both find another absent.
 use Prim.Native.Nat.{ℕ, zero, suc, _+_, _-_, _*_, _/_, _%_, _^_, _<_, _≤_}
 use mathlib.Core.Path.{_≡_, refl, sym, ap₂, subst}
 use mathlib.Core.Bool.{Bool, true, false}
-use mathlib.Core.List.{List, _∷_}
+use mathlib.Core.List.{List, [], _∷_}
 use mathlib.Core.Logic.{_⊎_, inl, inr, ⊎-elim}
 use native.Mathlib.Omega.{arith}
 use lib.Dec.{eqb}
@@ -15,9 +15,10 @@ use Rattle.paging.specs.declared.Walked.{Walked}
 use Rattle.paging.specs.declared.Walked.the-variants.{At}
 use Rattle.paging.specs.Walk.{place, present, entryAt, leaf, lent}
 use Rattle.paging.specs.Calls.{translate}
-use Rattle.intel.specs.Sdm.{bits, Memory, physical, notPresent, or, canonical, linear}
+use Rattle.intel.specs.Sdm.{bits, Memory, physical, notPresent, or, canonical, linear, readPte, readPde, readPdpte, readPml4e, entriesRead}
 use Rattle.intel.proofs.Steps.{no-address, not-outside, entry-outcomes}
-use Rattle.intel.proofs.Agree.{Holds, NoHuge, Setting, same-pages, same-absent}
+use Rattle.intel.specs.Agreement.{Holds, NoHuge, Setting}
+use Rattle.intel.proofs.Agree.{same-pages, same-absent}
 
 -- a physical memory that holds the words from frame `start` on
 abbrev pub memoryOf : List ℕ → ℕ → Memory
@@ -81,3 +82,12 @@ mapped = same-pages _ _ _ _ _ _ _ (setting 0x123 refl) no-address 0x10_0123 .0 r
 pub absent : linear (memoryOf words 0x100) 0x10_0000 0x1123 ≡ notPresent
 unfolding translate leaf entryAt present lent
 absent = same-absent _ _ _ _ _ _ _ (setting 0x1123 refl) not-outside .0 refl
+
+-- the four entries that the first reads are one and the same; the second's last is another one
+pub four-read : entriesRead (memoryOf words 0x100) 0x10_0000 0x123 ≡ 0x10_0000 ∷ 0x10_0000 ∷ 0x10_0000 ∷ 0x10_0000 ∷ []
+unfolding entriesRead readPml4e readPdpte readPde readPte
+four-read = refl
+
+pub last-other : entriesRead (memoryOf words 0x100) 0x10_0000 0x1123 ≡ 0x10_0000 ∷ 0x10_0000 ∷ 0x10_0000 ∷ 0x10_0008 ∷ []
+unfolding entriesRead readPml4e readPdpte readPde readPte
+last-other = refl

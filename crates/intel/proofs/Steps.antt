@@ -1,5 +1,5 @@
 -- The outcomes of one entry and of a whole walk, whatever the words are.
-use Prim.Native.Nat.{ℕ}
+use Prim.Native.Nat.{ℕ, suc}
 use mathlib.Core.Path.{_≡_, refl, _∙_}
 use mathlib.Core.Bool.{true, false}
 use mathlib.Core.List.{List, [], _∷_}
@@ -17,7 +17,8 @@ use Rattle.paging.specs.declared.Walked.the-variants.{At, Stop}
 use Rattle.paging.specs.declared.Leaf.{Leaf}
 use Rattle.paging.specs.declared.Leaf.the-variants.{Large}
 use Rattle.paging.specs.Walk.{place, present, entryAt, judge, orLeaf, leaf, address}
-use Rattle.paging.proofs.Walk.{leaf-on}
+use Rattle.paging.proofs.Walk.{reach-end, reach-on, leaf-on}
+use Rattle.intel.specs.Agreement.{NoHuge}
 
 -- an address is no number, and 14 is not 19
 pub no-address : {a n : ℕ} → At a ≡ Stop n → ⊥
@@ -45,6 +46,13 @@ module _ (ws : List ℕ) (start total : ℕ) where
       pick-cases P (inside start total t) _ _
       (λ h. pick-cases P (ltb i 512) _ _ (λ _. pick-cases P (flag 0 (getD ws (place start t i) 0)) _ _ (λ _. there h) (λ _. none h)) (λ _. none h))
       out
+
+  -- no HUGE entry in a table, and none below it
+  pub plain-here : {up t : ℕ} (i e : ℕ) → NoHuge ws start total (suc up) t → entryAt ws start total t i ≡ At e → flag 7 e ≡ false
+  plain-here {up} {t} i e h k = h .plain [] t i e (omega arith) (reach-end ws start total t refl) k
+
+  pub plain-below : {up t : ℕ} (i e : ℕ) → NoHuge ws start total (suc up) t → entryAt ws start total t i ≡ At e → NoHuge ws start total up (frameOf e)
+  plain-below {up} {t} i e h k = record { plain = λ is s j x l r. h .plain (i ∷ is) s j x (omega arith) (reach-on ws start total t refl e k ∙ r) }
 
   -- past an entry that is a table's
   pub leaf-plain : (t i j : ℕ) (is : List ℕ) (e : ℕ) → entryAt ws start total t i ≡ At e → flag 7 e ≡ false

@@ -1,1 +1,2 @@
 pub mod Sdm
+pub mod Agreement

@@ -3,6 +3,7 @@
 -- is 1, so that no address bit of an entry is reserved, nor bit 63. Access rights and cached translations are the manual's next sections, and not part of this.
 use Prim.Native.Nat.{ℕ, _+_, _-_, _*_, _/_, _%_, _^_}
 use mathlib.Core.Bool.{Bool, true, false}
+use mathlib.Core.List.{List, [], _∷_}
 use lib.Dec.{eqb}
 
 -- 'bits hi:lo' of x
@@ -19,7 +20,7 @@ pub data Translation : Type 0 where
   notPresent reserved large notCanonical : Translation
 
 -- the one choice by a flag
-abbrev pub choose : Bool → Translation → Translation → Translation
+abbrev pub choose : {A : Type 0} → Bool → A → A → A
 choose true a b = a
 choose false a b = b
 
@@ -32,38 +33,54 @@ p e = eqb (bits 0 0 e) 1
 abbrev pub ps : ℕ → Bool
 ps e = eqb (bits 7 7 e) 1
 
+-- ---- where each entry stands
+
+-- the number of the 4-KByte table that x references, CR3 or an entry: 'Bits 51:12 are from' x, for every paging structure
+abbrev pub tableOf : ℕ → ℕ
+tableOf x = bits 51 12 x
+
+-- entry i of that table: 'Bits 11:3 are' i. 'Bits 2:0 are all 0'
+abbrev pub entryOf : ℕ → ℕ → ℕ
+entryOf x i = tableOf x * 2 ^ 12 + i * 2 ^ 3
+
 -- 'Bits 51:12 are from CR3. Bits 11:3 are bits 47:39 of the linear address. Bits 2:0 are all 0.'
 abbrev pub pml4eAt : ℕ → ℕ → ℕ
-pml4eAt cr3 v = bits 51 12 cr3 * 2 ^ 12 + bits 47 39 v * 2 ^ 3
+pml4eAt cr3 v = entryOf cr3 (bits 47 39 v)
 
 -- 'Bits 51:12 are from the PML4E. Bits 11:3 are bits 38:30 of the linear address. Bits 2:0 are all 0.'
 abbrev pub pdpteAt : ℕ → ℕ → ℕ
-pdpteAt pml4e v = bits 51 12 pml4e * 2 ^ 12 + bits 38 30 v * 2 ^ 3
+pdpteAt pml4e v = entryOf pml4e (bits 38 30 v)
 
 -- 'Bits 51:12 are from the PDPTE. Bits 11:3 are bits 29:21 of the linear address. Bits 2:0 are all 0.'
 abbrev pub pdeAt : ℕ → ℕ → ℕ
-pdeAt pdpte v = bits 51 12 pdpte * 2 ^ 12 + bits 29 21 v * 2 ^ 3
+pdeAt pdpte v = entryOf pdpte (bits 29 21 v)
 
 -- 'Bits 51:12 are from the PDE. Bits 11:3 are bits 20:12 of the linear address. Bits 2:0 are all 0.'
 abbrev pub pteAt : ℕ → ℕ → ℕ
-pteAt pde v = bits 51 12 pde * 2 ^ 12 + bits 20 12 v * 2 ^ 3
+pteAt pde v = entryOf pde (bits 20 12 v)
 
 -- 'Bits 51:12 are from the PTE. Bits 11:0 are from the original linear address.'
 abbrev pub pageAt : ℕ → ℕ → ℕ
 pageAt pte v = bits 51 12 pte * 2 ^ 12 + bits 11 0 v
+
+-- ---- the translation
+
+-- an entry above a PTE: it is not present, it is `other` with PS, or it references a table, from which the translation goes `on`
+abbrev pub above : Translation → ℕ → Translation → Translation
+above other e on = choose (p e) (choose (ps e) other on) notPresent
 
 -- the translation of linear address v from one of its four entries on
 unfoldable pub throughPte : ℕ → ℕ → Translation
 throughPte v pte = choose (p pte) (physical (pageAt pte v)) notPresent
 
 unfoldable pub throughPde : Memory → ℕ → ℕ → Translation
-throughPde mem v pde = choose (p pde) (choose (ps pde) large (throughPte v (mem (pteAt pde v)))) notPresent
+throughPde mem v pde = above large pde (throughPte v (mem (pteAt pde v)))
 
 unfoldable pub throughPdpte : Memory → ℕ → ℕ → Translation
-throughPdpte mem v pdpte = choose (p pdpte) (choose (ps pdpte) large (throughPde mem v (mem (pdeAt pdpte v)))) notPresent
+throughPdpte mem v pdpte = above large pdpte (throughPde mem v (mem (pdeAt pdpte v)))
 
 unfoldable pub throughPml4e : Memory → ℕ → ℕ → Translation
-throughPml4e mem v pml4e = choose (p pml4e) (choose (ps pml4e) reserved (throughPdpte mem v (mem (pdpteAt pml4e v)))) notPresent
+throughPml4e mem v pml4e = above reserved pml4e (throughPdpte mem v (mem (pdpteAt pml4e v)))
 
 abbrev pub or : Bool → Bool → Bool
 or true b = true
@@ -76,3 +93,26 @@ canonical v = or (eqb (bits 63 47 v) 0) (eqb (bits 63 47 v) (2 ^ 17 - 1))
 -- the translation of linear address v
 unfoldable pub linear : Memory → ℕ → ℕ → Translation
 linear mem cr3 v = choose (canonical v) (throughPml4e mem v (mem (pml4eAt cr3 v))) notCanonical
+
+-- ---- the entries that it reads
+
+-- the entry at address a is read, and those behind it where it is present and references a table
+abbrev pub reading : Memory → ℕ → (ℕ → List ℕ) → List ℕ
+reading mem a behind = a ∷ choose (p (mem a)) (choose (ps (mem a)) [] (behind (mem a))) []
+
+-- the addresses of the entries that are read from one of the four on, which stands at address a
+unfoldable pub readPte : ℕ → List ℕ
+readPte a = a ∷ []
+
+unfoldable pub readPde : Memory → ℕ → ℕ → List ℕ
+readPde mem v a = reading mem a (λ pde. readPte (pteAt pde v))
+
+unfoldable pub readPdpte : Memory → ℕ → ℕ → List ℕ
+readPdpte mem v a = reading mem a (λ pdpte. readPde mem v (pdeAt pdpte v))
+
+unfoldable pub readPml4e : Memory → ℕ → ℕ → List ℕ
+readPml4e mem v a = reading mem a (λ pml4e. readPdpte mem v (pdpteAt pml4e v))
+
+-- the physical addresses of the entries that the translation of linear address v reads, in order
+unfoldable pub entriesRead : Memory → ℕ → ℕ → List ℕ
+entriesRead mem cr3 v = choose (canonical v) (readPml4e mem v (pml4eAt cr3 v)) []
