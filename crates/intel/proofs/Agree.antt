@@ -1,9 +1,9 @@
 -- The statements of specs/Agreement.antt hold, but for the last, which is in Entries.antt.
-use Prim.Native.Nat.{ℕ, zero, suc, _+_, _*_, _%_, _^_, _<_, _≤_}
+use Prim.Native.Nat.{ℕ, zero, suc, _+_, _*_, _%_, _^_, _<_}
 use mathlib.Core.Path.{_≡_, refl, sym, _∙_, ap}
 use mathlib.Core.Bool.{Bool, true, false, true≢false}
 use mathlib.Core.List.{List, [], _∷_}
-use mathlib.Core.Logic.{_⊎_, _↔_, ⊎-elim}
+use mathlib.Core.Logic.{_↔_, ⊎-elim}
 use native.Mathlib.Omega.{arith}
 use lib.ListN.{length, getD, take}
 use Rattle.bits.specs.Bit.{flag}
@@ -13,7 +13,7 @@ use Rattle.frame.specs.Frames.{inside}
 use Rattle.paging.specs.declared.Walked.{Walked}
 use Rattle.paging.specs.declared.Walked.the-variants.{At, Stop}
 use Rattle.paging.specs.declared.Leaf.{Leaf}
-use Rattle.paging.specs.Walk.{place, entryAt, reach, judge, leaf, address, lent}
+use Rattle.paging.specs.Walk.{place, entryAt, reach, judge, leaf, address}
 use Rattle.paging.specs.Calls.{translate}
 use Rattle.paging.proofs.Walk.{present-yes, present-no, entry-out, entry-in, reach-end, reach-stop, reach-on, leaf-stop, leaf-on}
 use Rattle.paging.proofs.Calls.{translate-is}

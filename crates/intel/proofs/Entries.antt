@@ -3,17 +3,15 @@ use Prim.Native.Nat.{ℕ, suc, _+_, _*_, _/_, _^_, _<_}
 use mathlib.Core.Path.{_≡_, refl, sym, _∙_, ap, subst}
 use mathlib.Core.Bool.{Bool, true, false, true≢false}
 use mathlib.Core.List.{List, [], _∷_, List·Memᴰ, List·Memᴰ·head, List·Memᴰ·tail, List·Memᴰ·cases-cons, List·Memᴰ·not-nil}
-use mathlib.Core.Logic.{_⊎_, _↔_, ⊎-elim}
+use mathlib.Core.Logic.{_↔_, ⊎-elim}
 use native.Mathlib.Omega.{arith}
 use lib.ListN.{getD}
 use Rattle.bits.specs.Bit.{flag}
 use Rattle.answer.specs.Numbers.{notMapped, outside}
 use Rattle.entry.specs.Entry.{frameOf, index, indices}
 use Rattle.frame.specs.Frames.{inside}
-use Rattle.paging.specs.declared.Walked.{Walked}
 use Rattle.paging.specs.declared.Walked.the-variants.{At, Stop}
 use Rattle.paging.specs.Walk.{place, entryAt, judge, leaf, address}
-use Rattle.paging.specs.Calls.{translate}
 use Rattle.paging.proofs.Walk.{present-yes, present-no, entry-out, entry-in, leaf-stop, leaf-on}
 use Rattle.paging.proofs.Calls.{translate-is}
 use Rattle.intel.specs.Sdm.{bits, Memory, choose, p, ps, tableOf, reading, readPte, readPde, readPdpte, readPml4e, entriesRead}

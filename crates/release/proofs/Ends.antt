@@ -15,8 +15,6 @@ use Rattle.slots.proofs.Filled.{filled}
 use Rattle.regions.specs.declared.VMRegion.{VMRegion}
 use Rattle.regions.specs.Regions.{windowStart, windowEnd, usedSize, freeFirst, merge}
 use Rattle.regions.specs.Regions.{noSlot as noKernelSlot}
-use Rattle.vmalloc.specs.Calls.{kernel}
-use Rattle.vmalloc.specs.Calls.{Did as KernelDid}
 use Rattle.regions.proofs.Merge.{freedAll}
 use Rattle.regions.proofs.Rows.{freed-first, length-freed, length-merge}
 use Rattle.regions.proofs.Used.{used-inside}
@@ -24,16 +22,16 @@ use Rattle.vmalloc.proofs.Calls.{vfree-met}
 use Rattle.mmap.specs.declared.MappedRegion.{MappedRegion}
 use Rattle.mmap.specs.Regions.{holds, remove}
 use Rattle.mmap.specs.Regions.{noSlot as noUserSlot}
-use Rattle.mmap.specs.Calls.{Did as UserDid}
 use Rattle.mmap.proofs.Rising.{holds-placed, length-remove}
 use Rattle.mmap.proofs.Calls.{munmap-met}
 use Rattle.board.specs.Board.{Board, Did, did}
-use Rattle.release.specs.Demand3.{Call, vfrees, munmaps, play, Region, kernels, users, startIs, sizeIs, next}
+use Rattle.release.specs.Calls.{Call, vfrees, munmaps, kernelOf, userOf, play}
+use Rattle.release.specs.Demand3.{Region, kernels, users, startIs, sizeIs, next}
 use Rattle.release.proofs.Regions.{kernel-give, kernel-fewer, user-give, user-fewer}
 use Rattle.release.proofs.Invariant.{Leftover, Inv, paged-give, give-start}
 use Rattle.release.proofs.Sound.{kernel-sound, user-sound}
-use Rattle.release.proofs.Kernel.{withKernel, kernel-listed, kernel-stored}
-use Rattle.release.proofs.User.{userOf, withUser, user-listed, user-stored}
+use Rattle.release.proofs.Kernel.{kernel-listed, kernel-stored}
+use Rattle.release.proofs.User.{user-listed, user-stored}
 
 -- a board with other memory and other lists
 abbrev pub board : Board → Memory → List VMRegion → List MappedRegion → Board
@@ -70,10 +68,9 @@ module _ {b : Board} {k : List VMRegion} {u : List MappedRegion} {l : List Regio
   kernel-play : play b (vfrees a) ≡ did (At 0) (board b (freePages 3 (b .mem) (b .root) a (n / 4096)) (merge (freedAll a k)) u)
   unfolding play
   kernel-play =
-      ap (λ (d : KernelDid). did (d .answer) (withKernel b (d .kernel)))
-      (vfree-met 3 (kernel (b .mem) (b .kernel)) (b .root) a n (kernel-sound h) (omega (arith, used-inside a n windowStart windowEnd k (h .kernelList .rows) used .from))
+      rw (vfree-met 3 (kernelOf b) (b .root) a n (kernel-sound h) (omega (arith, used-inside a n windowStart windowEnd k (h .kernelList .rows) used .from))
       (ap (usedSize a) (kernel-listed h) ∙ used))
-      ∙ λ i. did (At 0) (record { mem = freePages 3 (b .mem) (b .root) a (n / 4096); root = b .root; kernel = lists i; user = h .userIs i; next = b .next; marked = b .marked })
+      λ i. did (At 0) (record { mem = freePages 3 (b .mem) (b .root) a (n / 4096); root = b .root; kernel = lists i; user = h .userIs i; next = b .next; marked = b .marked })
 
   pub kernel-gave : Gave left b k u (kernels a n) l ever (vfrees a)
   unfolding play
@@ -116,10 +113,9 @@ module _ {b : Board} {k : List VMRegion} {u : List MappedRegion} {l : List Regio
   user-play : play b (munmaps a size) ≡ did (At 0) (board b (freePages 3 (b .mem) (b .root) a (n / 4096)) k (remove a u))
   unfolding play
   user-play =
-      ap (λ (d : UserDid). did (d .answer) (withUser b (d .user)))
-      (munmap-met 3 (userOf b) (b .root) a size n (user-sound h) asked (eq-eqb (a % 4096) 0 (holds-placed a n 0 u (h .userList .rising) held .even)) r
+      rw (munmap-met 3 (userOf b) (b .root) a size n (user-sound h) asked (eq-eqb (a % 4096) 0 (holds-placed a n 0 u (h .userList .rising) held .even)) r
       (ap (holds a n) (user-listed h) ∙ held))
-      ∙ λ i. did (At 0) (record { mem = freePages 3 (b .mem) (b .root) a (n / 4096); root = b .root; kernel = h .kernelIs i; user = maps i; next = b .next; marked = b .marked })
+      λ i. did (At 0) (record { mem = freePages 3 (b .mem) (b .root) a (n / 4096); root = b .root; kernel = h .kernelIs i; user = maps i; next = b .next; marked = b .marked })
 
   pub user-gave : Gave left b k u (users a n) l ever (munmaps a size)
   unfolding play

@@ -24,7 +24,8 @@ use Rattle.regions.specs.Regions.{noSlot as noKernelSlot}
 use Rattle.mmap.specs.declared.MappedRegion.{MappedRegion}
 use Rattle.mmap.specs.Regions.{noSlot as noUserSlot}
 use Rattle.board.specs.Board.{Board}
-use Rattle.release.specs.Demand3.{turnedAway, Region, pagesFrom, pagesOf, concat}
+use Rattle.release.specs.Calls.{turnedAway}
+use Rattle.release.specs.Demand3.{Region, pagesFrom, pagesOf, concat}
 use Rattle.release.proofs.Lists.{Once, perm-once, perm-concat}
 use Rattle.release.proofs.Regions.{KernelList, UserList}
 

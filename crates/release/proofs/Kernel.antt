@@ -15,21 +15,18 @@ use Rattle.slots.proofs.Filled.{filled, listed-filled, store-filled}
 use Rattle.regions.specs.declared.VMRegion.{VMRegion}
 use Rattle.regions.specs.Regions.{windowStart, windowEnd, firstFit, taken, takenSlots, usedSize, freeFirst, merge}
 use Rattle.regions.specs.Regions.{noSlot as noKernelSlot}
-use Rattle.vmalloc.specs.Calls.{Kernel, kernel, Did, kernelPages, mapped, vmalloc, vfree}
+use Rattle.vmalloc.specs.Calls.{kernel, Did, kernelPages, mapped, vmalloc, vfree}
 use Rattle.regions.proofs.Rows.{freed-first, taken-few}
 use Rattle.regions.proofs.Used.{taken-was-free}
 use Rattle.vmalloc.proofs.Calls.{vmalloc-cases, vfree-cases}
 use Rattle.mmap.specs.declared.MappedRegion.{MappedRegion}
 use Rattle.board.specs.Board.{Board}
-use Rattle.release.specs.Demand3.{vmallocs, vfrees, turnedAway, Region, kernels, dropKernel, liveStep, pagesFrom, takePart, bookStep}
+use Rattle.release.specs.Calls.{vmallocs, vfrees, kernelOf, withKernel, turnedAway}
+use Rattle.release.specs.Demand3.{Region, kernels, dropKernel, liveStep, pagesFrom, takePart, bookStep}
 use Rattle.release.proofs.Book.{take-cut, free-part, join-parts}
 use Rattle.release.proofs.Regions.{KernelList, kernel-take, kernel-give, user-more, user-fewer, drop-kernel, not-both, same-at}
 use Rattle.release.proofs.Invariant.{Leftover, Inv, inv-perm, paged-take, paged-stop, take-start, paged-give, give-start}
 use Rattle.release.proofs.Sound.{kernel-sound}
-
--- the board that a kernel call leaves
-abbrev pub withKernel : Board → Kernel → Board
-withKernel b k = record { mem = k .mem; root = b .root; kernel = k .regions; user = b .user; next = b .next; marked = b .marked }
 
 -- the pages ever mapped, after a region of n bytes at a
 abbrev pub morePages : List ℕ → Walked → ℕ → List ℕ
@@ -63,10 +60,10 @@ module _ {b : Board} {k : List VMRegion} {u : List MappedRegion} {l : List Regio
       new m = not-both (h .kernelList .live a n m) (taken-was-free n (ltb (length k) 256) a windowStart windowEnd k (h .kernelList .rows) f)
 
   -- vmalloc
-  pub vmalloc-step : (size : ℕ) → let d = vmalloc 3 (kernel (b .mem) (b .kernel)) (b .root) size in turnedAway (d .answer) ≡ false
+  pub vmalloc-step : (size : ℕ) → let d = vmalloc 3 (kernelOf b) (b .root) size in turnedAway (d .answer) ≡ false
       → Inv left (withKernel b (d .kernel)) (bookStep k (vmallocs size) (d .answer)) u (liveStep l (vmallocs size) (d .answer)) (morePages ever (d .answer) (roundUp 12 size))
   vmalloc-step size =
-      vmalloc-cases 3 (kernel (b .mem) (b .kernel)) (b .root) size P
+      vmalloc-cases 3 (kernelOf b) (b .root) size P
       (λ e. absurd (true≢false (sym (kernel-sound h) ∙ e))) (λ _. h) (λ _. h) (λ e f _. h)
       (λ s pos le a f. by a (subst (λ (x : List VMRegion). firstFit (roundUp 12 size) x ≡ At a) kernel-listed f) pos (kernelPages 3 (b .mem) (b .root) a (roundUp 12 size) .walked) refl)
     where
@@ -98,10 +95,10 @@ module _ {b : Board} {k : List VMRegion} {u : List MappedRegion} {l : List Regio
       }
 
   -- vfree
-  pub vfree-step : (a : ℕ) → let d = vfree 3 (kernel (b .mem) (b .kernel)) (b .root) a in
+  pub vfree-step : (a : ℕ) → let d = vfree 3 (kernelOf b) (b .root) a in
       Inv left (withKernel b (d .kernel)) (bookStep k (vfrees a) (d .answer)) u (liveStep l (vfrees a) (d .answer)) ever
   vfree-step a =
-      vfree-cases 3 (kernel (b .mem) (b .kernel)) (b .root) a P
+      vfree-cases 3 (kernelOf b) (b .root) a P
       (λ e. absurd (true≢false (sym (kernel-sound h) ∙ e))) (λ e f. h)
       (λ s pos n e.
       let e′ : usedSize a k ≡ At n = subst (λ (x : List VMRegion). usedSize a x ≡ At n) kernel-listed e in

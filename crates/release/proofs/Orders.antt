@@ -17,7 +17,8 @@ use Rattle.mmap.specs.declared.MappedRegion.{MappedRegion}
 use Rattle.mmap.specs.Regions.{holds}
 use Rattle.mmap.proofs.Rising.{holds-nothing}
 use Rattle.board.specs.Board.{Board}
-use Rattle.release.specs.Demand3.{Call, after, events, isMet, Region, kernels, users, startIs, sizeIs, Releases, by-vfree, by-munmap, EachReleased, done, next, Order, pagesOf, concat}
+use Rattle.release.specs.Calls.{Call, after, events, isMet}
+use Rattle.release.specs.Demand3.{Region, kernels, users, startIs, sizeIs, Releases, by-vfree, by-munmap, EachReleased, done, next, Order, pagesOf, concat}
 use Rattle.release.proofs.Lists.{perm-concat, reordered}
 use Rattle.release.proofs.Regions.{UserList}
 use Rattle.release.proofs.Invariant.{Leftover, Inv, inv-perm, run-is}

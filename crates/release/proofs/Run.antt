@@ -25,7 +25,8 @@ use Rattle.mmap.specs.declared.MappedRegion.{MappedRegion}
 use Rattle.mmap.specs.Regions.{holds}
 use Rattle.board.specs.Board.{Board, Did, did, begun, start}
 use Rattle.board.proofs.Outcomes.{start-cases}
-use Rattle.release.specs.Demand3.{Call, vmallocs, vfrees, mmaps, munmaps, play, after, Event, events, turnedAway, noneTurnedAway, Region, liveStep, liveFrom, bookStep, bookFrom}
+use Rattle.release.specs.Calls.{Call, vmallocs, vfrees, mmaps, munmaps, play, after, Event, events, turnedAway}
+use Rattle.release.specs.Demand3.{noneTurnedAway, Region, liveStep, liveFrom, bookStep, bookFrom}
 use Rattle.release.proofs.Regions.{KernelList, UserList}
 use Rattle.release.proofs.Invariant.{Leftover, nothingLeft, Paged, Inv}
 use Rattle.release.proofs.Kernel.{morePages, vmalloc-step, vfree-step}

@@ -11,14 +11,15 @@ use Rattle.slots.proofs.Filled.{filled, listed-filled, drop-filled, every-zero}
 use Rattle.regions.specs.declared.VMRegion.{VMRegion}
 use Rattle.regions.specs.Regions.{windowStart, windowEnd, isNoSlot, soundRegions}
 use Rattle.regions.specs.Regions.{noSlot as noKernelSlot}
-use Rattle.vmalloc.specs.Calls.{kernel, soundKernel}
+use Rattle.vmalloc.specs.Calls.{soundKernel}
 use Rattle.regions.proofs.Rows.{rows-placed}
 use Rattle.mmap.specs.declared.MappedRegion.{MappedRegion}
 use Rattle.mmap.specs.Regions.{soundMappings}
 use Rattle.mmap.specs.Regions.{noSlot as noUserSlot}
-use Rattle.mmap.specs.Calls.{user, soundUser}
+use Rattle.mmap.specs.Calls.{soundUser}
 use Rattle.mmap.proofs.Rising.{rising-test, rising-placed}
 use Rattle.board.specs.Board.{Board}
+use Rattle.release.specs.Calls.{kernelOf, userOf}
 use Rattle.release.specs.Demand3.{Region}
 use Rattle.release.proofs.Regions.{KernelList, UserList}
 use Rattle.release.proofs.Invariant.{Leftover, Inv}
@@ -35,8 +36,8 @@ mappings-sound {u} next h e =
     rw (le-leb _ _ (h .few), listed-filled noUserSlot u, rising-test 0 u (h .rising), rising-placed 0 u (h .rising), eq-eqb (next % 4096) 0 e)
 
 module _ {b : Board} {k : List VMRegion} {u : List MappedRegion} {l : List Region} {ever : List ℕ} {left : Leftover} (h : Inv left b k u l ever) where
-  pub kernel-sound : soundKernel (kernel (b .mem) (b .kernel)) (b .root) ≡ true
+  pub kernel-sound : soundKernel (kernelOf b) (b .root) ≡ true
   kernel-sound = rw (ordered-whole (h .paged .account .order), h .kernelIs) (regions-sound (h .kernelList))
 
-  pub user-sound : soundUser (user (b .mem) (b .user) (b .next)) (b .root) ≡ true
+  pub user-sound : soundUser (userOf b) (b .root) ≡ true
   user-sound = rw (ordered-whole (h .paged .account .order), h .userIs) (mappings-sound (b .next) (h .userList) (h .next))

@@ -9,6 +9,7 @@ use native.Mathlib.Omega.{arith}
 use native.Mathlib.Decide.{ℕ-discrete}
 use lib.ListN.{length, take, length-take}
 use lib.Seq.{take-take}
+use borrow.Author.Tests.{le-leb}
 use Rattle.entry.specs.Entry.{indices}
 use Rattle.entry.proofs.Entry.{length-indices}
 use Rattle.frame.proofs.Laws.{inside-yes, inside-from, inside-under}
@@ -18,6 +19,7 @@ use Rattle.paging.specs.declared.Walked.{Walked}
 use Rattle.paging.specs.declared.Walked.the-variants.{At, Stop}
 use Rattle.paging.specs.Walk.{reach}
 use Rattle.paging.specs.Map.{startOf, totalOf}
+use Rattle.paging.proofs.Walk.{reach-end}
 use Rattle.tree.proofs.Paths.{Leads, leads-take, leads-length, take-leads, path, upper, length-upper}
 use Rattle.tree.proofs.Ordered.{reachIn, markIn, Ordered, root-marked}
 use Rattle.tree.proofs.Books.{Live, silent, tables-only}
@@ -25,10 +27,12 @@ use Rattle.tree.proofs.Counts.{counter-paths}
 use Rattle.slots.proofs.Filled.{filled, listed-filled}
 use Rattle.slots.specs.Slots.{listed}
 use Rattle.regions.specs.declared.VMRegion.{VMRegion}
-use Rattle.regions.specs.Regions.{window, noSlot as noKernelSlot}
+use Rattle.regions.specs.Regions.{windowStart, windowEnd, window, noSlot as noKernelSlot}
+use Rattle.regions.proofs.Rows.{Rows, rows-earlier}
 use Rattle.mmap.specs.declared.MappedRegion.{MappedRegion}
 use Rattle.board.specs.Board.{Board}
-use Rattle.release.specs.Demand3.{Call, vmallocs, vfrees, mmaps, munmaps, after, Event, events, bornBy, everLive, pagesFrom, pagesOf, runsOf, concat, leadingRuns, different, PageTable, book, neverCut, Ended, BookHolds, Demand3}
+use Rattle.release.specs.Calls.{Call, vmallocs, vfrees, mmaps, munmaps, after, Event, events}
+use Rattle.release.specs.Demand3.{bornBy, everLive, pagesFrom, pagesOf, runsOf, concat, leadingRuns, different, PageTable, book, neverCut, Ended, partsRise, BookHolds, BookRises, Demand3}
 use Rattle.release.proofs.Lists.{Once, concat-append, concat-member, member-concat}
 use Rattle.release.proofs.Different.{among-member, member-among, different-from, different-all, different-once}
 use Rattle.release.proofs.Invariant.{nothingLeft, Inv}
@@ -192,6 +196,9 @@ ended {x} es g whole =
       run-has-table = λ p m. let t = run-table es g p (among-member p (leadingRuns es) m) in (t .0, t .1);
       table-has-run = λ f t. member-among (t .path) (leadingRuns es) (table-run es g (t .path) f (t .proper) (t .above) (t .reached));
       one-run-each = λ f t t′. tree .once (t .path) (t′ .path) f (omega (arith, t .above)) (omega (arith, t′ .above)) (t .reached) (t′ .reached);
+      root-no-table = λ t.
+          let q = tree .once (t .path) [] (x .root) (omega (arith, t .above)) (omega arith) (t .reached) (reach-end (x .mem .words) (startOf (x .mem)) (totalOf (x .mem)) (x .root) refl) in
+          omega (arith, ap length q, t .proper);
       one-window = λ q. g .kernelIs ∙ ap (filled noKernelSlot) (whole q);
     }
 
@@ -212,3 +219,13 @@ demand3 old fresh from to st cs ne lr rs rs′ o o′ =
 pub book-holds : BookHolds
 book-holds old fresh from to st cs ne =
     ap listed (run-inv cs (fresh-inv old fresh from to st) ne .1 .kernelIs) ∙ listed-filled noKernelSlot (book (events fresh cs))
+
+rows-rise : (lo hi : ℕ) (l : List VMRegion) → Rows lo hi l → partsRise lo l ≡ true
+unfolding partsRise
+rows-rise lo hi [] h = refl
+rows-rise lo hi (r ∷ l) h = rw (le-leb lo (r .start) (h .0 .from)) (rows-rise (r .start + r .size) hi l (h .1))
+
+pub book-rises : BookRises
+book-rises old fresh from to st cs ne =
+    let r = run-inv cs (fresh-inv old fresh from to st) ne .1 .kernelList .rows in
+    rows-rise 0 windowEnd (book (events fresh cs)) (rows-earlier 0 windowStart windowEnd (book (events fresh cs)) (omega arith) r)

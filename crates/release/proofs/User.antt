@@ -28,23 +28,17 @@ use Rattle.mmap.specs.Regions.{writable, region, starts, insert, holds, remove}
 use Rattle.mmap.specs.Regions.{noSlot as noUserSlot}
 use Rattle.regions.proofs.Placed.{Placed}
 use Rattle.mmap.specs.declared.Wish.{Wish}
-use Rattle.mmap.specs.Calls.{User, user, Did, full, userPages, mapped, mmap, munmap}
+use Rattle.mmap.specs.Calls.{user, Did, did, full, userPages, mapped, mmap, munmap}
 use Rattle.mmap.proofs.Rising.{holds-placed, holds-one, holds-none}
 use Rattle.mmap.proofs.Calls.{room, mmap-cases, munmap-cases, chosen-place}
 use Rattle.board.specs.Board.{Board}
-use Rattle.release.specs.Demand3.{mmaps, munmaps, turnedAway, Region, users, dropUser, liveStep, pagesFrom, pagesOf}
+use Rattle.release.specs.Calls.{mmaps, munmaps, userOf, withUser, play, turnedAway}
+use Rattle.release.specs.Demand3.{Region, users, liveStep, pagesFrom, pagesOf}
 use Rattle.release.proofs.Lists.{member-concat}
 use Rattle.release.proofs.Regions.{kernel-more, kernel-fewer, user-take, user-give, drop-user}
 use Rattle.release.proofs.Invariant.{Leftover, with-is, Inv, inv-perm, paged-take, paged-stop, take-start, paged-give, give-start}
 use Rattle.release.proofs.Sound.{user-sound}
 use Rattle.release.proofs.Kernel.{morePages}
-
--- the board that a user call leaves
-abbrev pub withUser : Board → User → Board
-withUser b s = record { mem = s .mem; root = b .root; kernel = b .kernel; user = s .regions; next = s .next; marked = b .marked }
-
-abbrev pub userOf : Board → User
-userOf b = user (b .mem) (b .user) (b .next)
 
 -- a region that starts at a has a size
 starts-holds : (a : ℕ) (l : List MappedRegion) → starts a l ≡ true → (n : ℕ) × (holds a n l ≡ true)
@@ -127,33 +121,40 @@ module _ {b : Board} {k : List VMRegion} {u : List MappedRegion} {l : List Regio
       by a p f (At x) met = λ _. (insert (region a (roundUp 12 size) prot flags) u, rw user-listed (took (roundUp 12 size) a x prot flags p f met))
       by a p f (Stop e) met = λ ex. absurd (true≢false (sym (paged-stop (writable prot) true (h .paged) a (roundUp 12 size / 4096) e met) ∙ ex))
 
-  -- a region that is released
-  gave : (a n : ℕ) → holds a n u ≡ true
-      → Inv left (withUser b (user (freePages 3 (b .mem) (b .root) a (n / 4096)) (store noUserSlot (remove a u) (b .user)) (b .next))) k (remove a u) (dropUser a l) ever
-  gave a n e =
-      let p = drop-user a n l (h .userList .held a n e) (λ m q. holds-one a m n u (h .userList .live a m q) e) in
-      let g = inv-perm p h in
-      let r = user-give a n (g .userList) (g .once) in
-      record {
-        paged = paged-give a (n / 4096) (g .paged);
-        first = h .first ∙ sym (give-start (b .mem) (b .root) a (n / 4096));
-        kernelIs = h .kernelIs;
-        kernelList = kernel-fewer a n (g .kernelList);
-        userIs = user-stored (remove a u) (r .few);
-        userList = r;
-        next = h .next;
-        once = g .once .1;
-      }
-
   -- munmap
-  pub munmap-step : (a size : ℕ) → let d = munmap 3 (userOf b) (b .root) a size in
-      (u′ : List MappedRegion) × Inv left (withUser b (d .user)) k u′ (liveStep l (munmaps a size) (d .answer)) ever
-  munmap-step a size =
-      munmap-cases 3 (userOf b) (b .root) a size P
-      (λ e. absurd (true≢false (sym (user-sound h) ∙ e))) (λ e f. (u, h))
-      (λ s pos le e.
-      let e′ : holds a (roundUp 12 size) u ≡ true = subst (λ (x : List MappedRegion). holds a (roundUp 12 size) x ≡ true) user-listed e in
-      (remove a u, rw user-listed (gave a (roundUp 12 size) e′)))
-    where
-      P : Did → Type 0
-      P d = (u′ : List MappedRegion) × Inv left (withUser b (d .user)) k u′ (liveStep l (munmaps a size) (d .answer)) ever
+  module _ (a size : ℕ) where
+    abbrev Unmapped : Type 0
+    Unmapped = (u′ : List MappedRegion) × Inv left (play b (munmaps a size) .board) k u′ (liveStep l (munmaps a size) (play b (munmaps a size) .answer)) ever
+
+    unmap-refused : (e : ℕ) → munmap 3 (userOf b) (b .root) a size ≡ did (Stop e) (userOf b) → Unmapped
+    unfolding play
+    unmap-refused e q = rw q (u, h)
+
+    unmap-met : (n : ℕ) → holds a n u ≡ true
+        → munmap 3 (userOf b) (b .root) a size ≡ did (At 0) (user (freePages 3 (b .mem) (b .root) a (n / 4096)) (store noUserSlot (remove a u) (b .user)) (b .next)) → Unmapped
+    unfolding play
+    unmap-met n e q =
+        let p = drop-user a n l (h .userList .held a n e) (λ m r. holds-one a m n u (h .userList .live a m r) e) in
+        let g = inv-perm p h in
+        let r = user-give a n (g .userList) (g .once) in
+        rw q (
+          remove a u,
+          record {
+            paged = paged-give a (n / 4096) (g .paged);
+            first = h .first ∙ sym (give-start (b .mem) (b .root) a (n / 4096));
+            kernelIs = h .kernelIs;
+            kernelList = kernel-fewer a n (g .kernelList);
+            userIs = user-stored (remove a u) (r .few);
+            userList = r;
+            next = h .next;
+            once = g .once .1;
+          },
+        )
+
+    pub munmap-step : Unmapped
+    munmap-step =
+        munmap-cases 3 (userOf b) (b .root) a size (λ (d : Did). munmap 3 (userOf b) (b .root) a size ≡ d → Unmapped)
+        (λ e. absurd (true≢false (sym (user-sound h) ∙ e))) (λ e f. unmap-refused e)
+        (λ s pos le e q.
+        unmap-met (roundUp 12 size) (subst (λ (x : List MappedRegion). holds a (roundUp 12 size) x ≡ true) user-listed e) (rw user-listed at q))
+        refl

@@ -16,7 +16,7 @@ use Rattle.paging.specs.declared.Walked.the-variants.{At, Stop}
 use Rattle.slots.specs.Slots.{every}
 use Rattle.regions.specs.declared.VMRegion.{VMRegion}
 use Rattle.regions.specs.Regions.{windowStart, windowEnd, window, firstFit, takeFirst, usedSize, freeFirst, merge}
-use Rattle.vmalloc.specs.Calls.{Did, kernel, kernelPages, mapped, vmalloc}
+use Rattle.vmalloc.specs.Calls.{Did, kernelPages, mapped, vmalloc}
 use Rattle.regions.proofs.Merge.{freedAll}
 use Rattle.regions.proofs.Rows.{freed-first}
 use Rattle.regions.proofs.Used.{all-free}
@@ -24,7 +24,8 @@ use Rattle.regions.proofs.Tiles.{apart-merged, Tiled, tiled-freed, tiled-merge,
 use Rattle.vmalloc.proofs.Calls.{vmalloc-cases, walked-cases}
 use Rattle.mmap.specs.declared.MappedRegion.{MappedRegion}
 use Rattle.board.specs.Board.{Board}
-use Rattle.release.specs.Demand3.{Call, vmallocs, vfrees, mmaps, munmaps, play, events, turnedAway, noneTurnedAway, Region, kernels, users, takePart, freePart, joinParts, exceeds, bookStep, bookFrom, cuts, uncutFrom}
+use Rattle.release.specs.Calls.{Call, vmallocs, vfrees, mmaps, munmaps, kernelOf, play, events, turnedAway}
+use Rattle.release.specs.Demand3.{noneTurnedAway, Region, kernels, users, takePart, freePart, joinParts, exceeds, bookStep, bookFrom, cuts, uncutFrom}
 use Rattle.release.proofs.Book.{take-cut, exceeds-larger, free-part, join-parts}
 use Rattle.release.proofs.Regions.{KernelList, not-both}
 use Rattle.release.proofs.Invariant.{Leftover, Inv}
@@ -38,9 +39,9 @@ Whole k = Tiled windowStart windowEnd k
 
 -- a vmalloc that is met answers the first region large enough
 fit-of : {b : Board} {k : List VMRegion} {u : List MappedRegion} {l : List Region} {ever : List ℕ} {left : Leftover} → Inv left b k u l ever → (size a : ℕ)
-    → vmalloc 3 (kernel (b .mem) (b .kernel)) (b .root) size .answer ≡ At a → firstFit (roundUp 12 size) k ≡ At a
+    → vmalloc 3 (kernelOf b) (b .root) size .answer ≡ At a → firstFit (roundUp 12 size) k ≡ At a
 fit-of {b} {k} h size a =
-    vmalloc-cases 3 (kernel (b .mem) (b .kernel)) (b .root) size (λ (d : Did). d .answer ≡ At a → firstFit (roundUp 12 size) k ≡ At a)
+    vmalloc-cases 3 (kernelOf b) (b .root) size (λ (d : Did). d .answer ≡ At a → firstFit (roundUp 12 size) k ≡ At a)
     (λ _ e. absurd (not-both e refl)) (λ e. absurd (not-both e refl)) (λ e. absurd (not-both e refl)) (λ n f e. absurd (not-both e refl))
     (λ s pos le c f. by c (subst (λ (x : List VMRegion). firstFit (roundUp 12 size) x ≡ At c) (kernel-listed h) f) (kernelPages 3 (b .mem) (b .root) c (roundUp 12 size) .walked))
   where
@@ -68,8 +69,8 @@ module _ {b : Board} {k : List VMRegion} {u : List MappedRegion} {l : List Regio
   whole-step : (c : Call) → cuts k c (play b c .answer) ≡ false → Whole (bookStep k c (play b c .answer))
   unfolding play
   whole-step (vmallocs size) =
-      walked-cases (λ w. (vmalloc 3 (kernel (b .mem) (b .kernel)) (b .root) size .answer ≡ w) → cuts k (vmallocs size) w ≡ false → Whole (bookStep k (vmallocs size) w))
-      (vmalloc 3 (kernel (b .mem) (b .kernel)) (b .root) size .answer)
+      walked-cases (λ w. (vmalloc 3 (kernelOf b) (b .root) size .answer ≡ w) → cuts k (vmallocs size) w ≡ false → Whole (bookStep k (vmallocs size) w))
+      (vmalloc 3 (kernelOf b) (b .root) size .answer)
       (λ a _ e q. whole-take (roundUp 12 size) a (fit-of h size a e) q) (λ n _ e q. t) refl
   whole-step (vfrees a) = walked-cases (λ w. cuts k (vfrees a) w ≡ false → Whole (bookStep k (vfrees a) w)) (play b (vfrees a) .answer) (λ x _ q. whole-give a) (λ n _ q. t)
   whole-step (mmaps wish size prot flags) = λ q. t

@@ -1,16 +1,15 @@
--- Demand 3, the release paper, as one statement. It speaks of the definitions of the four calls (crates vmalloc and mmap) and of the board's start (crate board). What
--- 'live', 'the window book' and 'cut' mean is defined here from calls and answers, and 'page tables' from the words, as document 01 does under 'The release paper'.
+-- Demand 3, the release paper, as one statement about lists of calls (Calls.antt) from a board's start (crate board). What 'live', 'the window book' and 'cut' mean is
+-- defined here from calls and answers, and 'page tables' from the words, as document 01 does under 'The release paper'.
 use Prim.Native.Nat.{ℕ, zero, suc, _+_, _-_, _/_, _^_, _≤_, _<_}
 use mathlib.Core.Path.{_≡_}
 use mathlib.Core.Bool.{Bool, true, false, not}
 use mathlib.Core.Logic.{_⊎_}
 use mathlib.Core.List.{List, [], _∷_, _++_}
-use lib.IntN.{ℤ}
 use lib.Dec.{eqb, leb, ltb}
 use lib.ListN.{length, take, replicate}
 use Rattle.bits.specs.Bit.{pick, both}
 use Rattle.allocator.specs.Round.{rounded, roundUp}
-use Rattle.answer.specs.Numbers.{noFreeFrame, mapPageFailed, notMapped}
+use Rattle.answer.specs.Numbers.{notMapped}
 use Rattle.answer.specs.declared.CountAnswer.the-variants.{Count}
 use Rattle.entry.specs.Entry.{indices}
 use Rattle.bitmap.specs.Bitmap.{marked as markOf}
@@ -22,60 +21,11 @@ use Rattle.paging.specs.Calls.{translate}
 use Rattle.slots.specs.Slots.{listed, every}
 use Rattle.regions.specs.declared.VMRegion.{VMRegion}
 use Rattle.regions.specs.Regions.{window, noSlot, region, joins}
-use Rattle.vmalloc.specs.Calls.{kernel, vmalloc, vfree}
 use Rattle.mmap.specs.Regions.{fixed}
-use Rattle.mmap.specs.declared.Wish.{Wish}
 use Rattle.mmap.specs.declared.Wish.the-variants.{Anywhere, Wished}
-use Rattle.mmap.specs.Calls.{user, onPage, mmap, munmap}
-use Rattle.board.specs.Board.{Board, Did, did, start}
-
--- ---- lists of calls
-
--- the four calls with any arguments
-pub data Call : Type 0 where
-  vmallocs : ℕ → Call
-  vfrees : ℕ → Call
-  mmaps : Wish → ℕ → ℤ → ℤ → Call
-  munmaps : ℕ → ℕ → Call
-
--- a call on a board of four levels: its answer, and the board that it leaves
-unfoldable pub play : Board → Call → Did
-play b (vmallocs size) =
-    let d = vmalloc 3 (kernel (b .mem) (b .kernel)) (b .root) size in
-    did (d .answer) (record { mem = d .kernel .mem; root = b .root; kernel = d .kernel .regions; user = b .user; next = b .next; marked = b .marked })
-play b (vfrees a) =
-    let d = vfree 3 (kernel (b .mem) (b .kernel)) (b .root) a in
-    did (d .answer) (record { mem = d .kernel .mem; root = b .root; kernel = d .kernel .regions; user = b .user; next = b .next; marked = b .marked })
-play b (mmaps wish size prot flags) =
-    let d = mmap 3 (user (b .mem) (b .user) (b .next)) (b .root) wish size prot flags in
-    did (d .answer) (record { mem = d .user .mem; root = b .root; kernel = b .kernel; user = d .user .regions; next = d .user .next; marked = b .marked })
-play b (munmaps a size) =
-    let d = munmap 3 (user (b .mem) (b .user) (b .next)) (b .root) a size in
-    did (d .answer) (record { mem = d .user .mem; root = b .root; kernel = b .kernel; user = d .user .regions; next = d .user .next; marked = b .marked })
-
--- the board after a list of calls, 'each call on the state the last one left'
-unfoldable pub after : Board → List Call → Board
-after b [] = b
-after b (c ∷ cs) = after (play b c .board) cs
-
--- a call with its answer
-pub record Event : Type 0 where
-  pub call : Call
-  pub answer : Walked
-
--- the calls of a list with their answers
-unfoldable pub events : Board → List Call → List Event
-events b [] = []
-events b (c ∷ cs) = record { call = c; answer = play b c .answer } ∷ events (play b c .board) cs
-
-abbrev pub isMet : Walked → Bool
-isMet (At x) = true
-isMet (Stop n) = false
-
--- turned away with 11 or 13
-abbrev pub turnedAway : Walked → Bool
-turnedAway (At x) = false
-turnedAway (Stop n) = pick (eqb n noFreeFrame) true (eqb n mapPageFailed)
+use Rattle.mmap.specs.Calls.{onPage}
+use Rattle.board.specs.Board.{Board, did, start}
+use Rattle.release.specs.Calls.{Call, vmallocs, vfrees, mmaps, munmaps, after, Event, events, isMet, turnedAway}
 
 -- ---- the two conditions
 
@@ -298,12 +248,12 @@ pub record Ended (es : List Event) (e : Board) : Type 0 where
       → (startOf (e .mem) ≤ f) × (f < startOf (e .mem) + totalOf (e .mem)) × (markOf (e .mem .frames .bits) (f - startOf (e .mem)) ≡ 1)
   pub no-other-marked : (f : ℕ) → f < totalOf (e .mem) → markOf (e .mem .frames .bits) f ≡ 1 → (f ≡ 0) ⊎ PageTable e (startOf (e .mem) + f)
   -- 'counter = 1 + page tables', where there is 'one for each different run of leading indices .. of pages of all regions ever live': each of these runs comes to a page
-  -- table, each page table lies at such a run, and at one alone, so that there are as many page tables as different runs. The root is none of them: were it
-  -- reached along a run, then a walk round that loop would make some address translate
+  -- table, each page table lies at such a run, and at one alone, so that there are as many page tables as different runs; and the root is none of them
   pub counter : e .mem .frames .fa .allocated ≡ 1 + length (different (leadingRuns es))
   pub run-has-table : (p : List ℕ) → among p (leadingRuns es) ≡ true → (f : ℕ) × (reach (e .mem .words) (startOf (e .mem)) (totalOf (e .mem)) (e .root) p ≡ At f)
   pub table-has-run : (f : ℕ) (t : PageTable e f) → among (t .path) (leadingRuns es) ≡ true
   pub one-run-each : (f : ℕ) (t t′ : PageTable e f) → t .path ≡ t′ .path
+  pub root-no-table : PageTable e (e .root) → ⊥
   -- 'if no vmalloc cut a larger region while the vmalloc list held 256, the kernel window is one free region again'
   pub one-window : neverCut es ≡ true → e .kernel ≡ record { slots = window ∷ replicate 255 noSlot; count = 1 }
 
@@ -329,3 +279,15 @@ BookHolds =
     (old fresh : Board) (from to : ℕ) → start old from to ≡ did (At 0) fresh
     → (cs : List Call) → noneTurnedAway (events fresh cs) ≡ true
     → listed (after fresh cs .kernel) ≡ book (events fresh cs)
+
+-- whether parts stand in the order of their addresses, each at or behind the end of the one before it, the first at `from` or above
+unfoldable pub partsRise : ℕ → List VMRegion → Bool
+partsRise from [] = true
+partsRise from (r ∷ l) = both (leb from (r .start)) (partsRise (r .start + r .size) l)
+
+-- the order in which the book's parts are written is that of their addresses
+abbrev pub BookRises : Type 0
+BookRises =
+    (old fresh : Board) (from to : ℕ) → start old from to ≡ did (At 0) fresh
+    → (cs : List Call) → noneTurnedAway (events fresh cs) ≡ true
+    → partsRise 0 (book (events fresh cs)) ≡ true
