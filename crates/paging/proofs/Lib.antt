@@ -2,3 +2,4 @@ pub mod Walk
 pub mod Map
 pub mod Calls
 pub mod Pages
+pub mod Past

@@ -45,6 +45,9 @@ unfolding clear
 length-clear ws at zero = refl
 length-clear ws at (suc n) = length-set (clear ws at n) (at + n) 0 ∙ length-clear ws at n
 
+pub length-zero : (ws : List ℕ) (start f : ℕ) → length (zeroFrame ws start f) ≡ length ws
+length-zero ws start f = length-clear ws _ _
+
 -- ---- the table below an entry
 
 -- the words once frame f is zeroed and entered at word p as a table
@@ -52,7 +55,7 @@ abbrev pub linked : Bool → List ℕ → ℕ → ℕ → ℕ → List ℕ
 linked u ws start p f = set (zeroFrame ws start f) p (entryOf (f * 2 ^ 12) true u)
 
 pub length-linked : (u : Bool) (ws : List ℕ) (start p f : ℕ) → length (linked u ws start p f) ≡ length ws
-length-linked u ws start p f = length-set (zeroFrame ws start f) p _ ∙ length-clear ws _ 512
+length-linked u ws start p f = length-set (zeroFrame ws start f) p _ ∙ length-zero ws start f
 
 -- a frame that was taken is one of those lent
 pub taken-inside : (fr : Frames) (f : Frame) → takeFrame fr .answer ≡ AtFrame f → inside (fr .fa .start) (fr .fa .total) (f .0) ≡ true

@@ -22,7 +22,7 @@ use Rattle.paging.specs.Walk.{place}
 use Rattle.paging.specs.Map.{Memory, memory, startOf, totalOf, Out, out, zeroFrame, make, Left, left, putEntry, mapEntry, Roomy}
 use Rattle.paging.specs.Calls.{mapAt}
 use Rattle.paging.specs.Pages.{zeroed, freshFrame, orFailed, mapFresh, ran, mapPages, unmapLeaf, clearPage, freed, freePage, clearPages, freePages}
-use Rattle.paging.proofs.Map.{goOn-cases, length-clear, roomy-less, map-entry-roomy, unmap-entry-length}
+use Rattle.paging.proofs.Map.{goOn-cases, length-zero, roomy-less, map-entry-roomy, unmap-entry-length}
 
 -- no step both stops and comes somewhere
 nowhere : {n x : ℕ} → Stop n ≡ At x → ⊥
@@ -53,7 +53,7 @@ module _ (m : Memory) where
   fresh-roomy n r =
       take-cases (m .frames) (λ (d : Did FrameAnswer). Roomy (zeroed m (d .answer) (d .frames) .mem) n)
       (λ j _ _ _. record {
-        enough = omega (arith, r .enough, length-clear (m .words) ((startOf m + j - startOf m) * 512) 512);
+        enough = omega (arith, r .enough, length-zero (m .words) (startOf m) (startOf m + j));
         held = record { few = r .held .few; low = r .held .low; room = omega (arith, r .held .room) };
       })
       (λ _. roomy-less n (omega arith) r)

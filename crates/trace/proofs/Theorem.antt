@@ -1,0 +1,148 @@
+-- No call touches a word past the lent frames: one theorem over all calls.
+use Prim.Native.Nat.{ℕ, suc, _*_, _/_, _≤_}
+use mathlib.Core.Path.{_≡_, refl, subst}
+use mathlib.Core.Bool.{Bool, true, false}
+use native.Mathlib.Omega.{arith}
+use lib.IntN.{ℤ}
+use lib.Dec.{eqb}
+use Rattle.bits.specs.Bit.{both}
+use Rattle.bits.proofs.Choice.{pick-cases}
+use Rattle.answer.specs.Numbers.{mapPageFailed}
+use Rattle.address.specs.Address.{aligned}
+use Rattle.allocator.specs.Round.{roundUp}
+use Rattle.entry.specs.Entry.{entryOf, hugeEntryOf}
+use Rattle.entry.proofs.Entry.{indices-lt}
+use Rattle.frame.specs.Frames.{withMark}
+use Rattle.paging.specs.declared.Walked.{Walked}
+use Rattle.paging.specs.declared.Walked.the-variants.{At, Stop}
+use Rattle.paging.specs.declared.HugePageSize.{HugePageSize}
+use Rattle.paging.specs.Walk.{lent}
+use Rattle.paging.specs.Map.{Memory, totalOf, startOf, Out, Left}
+use Rattle.paging.specs.Calls.{whole, sizeOf, tablesAbove, mapPage, mapHuge, unmapPage}
+use Rattle.paging.proofs.Past.{Past, past-same, past-clear, past-unmap, Stays, stays-same, stays-then, stays-words, stays-map-at, stays-map-pages, stays-clear-pages, stays-free-pages}
+use Rattle.vmalloc.specs.Calls.{Kernel, kernelPages, vmalloc, vfree}
+use Rattle.vmalloc.specs.Calls.{Did as KernelDid, mapped as mappedKernel}
+use Rattle.vmalloc.proofs.Calls.{vmalloc-cases, vfree-cases}
+use Rattle.mmap.specs.declared.Wish.{Wish}
+use Rattle.mmap.specs.Regions.{writable}
+use Rattle.mmap.specs.Calls.{User, userPages, mmap, munmap}
+use Rattle.mmap.specs.Calls.{Did as UserDid, mapped as mappedUser}
+use Rattle.mmap.proofs.Calls.{mmap-cases, munmap-cases}
+use Rattle.board.specs.Board.{Board, Did, start}
+use Rattle.board.proofs.Outcomes.{start-cases}
+use Rattle.release.specs.Calls.{Call, vmallocs, vfrees, mmaps, munmaps}
+use Rattle.release.specs.Calls.{play as playRegions}
+use Rattle.trace.specs.Trace.{regions, protects, faults, secondFaults, marksCow, unmarksCow, asksCow, mapsPage, mapsHuge, unmapsPage, translates, asksUser, allocates, deallocates, marksFrame, asksFrame, countsFree, countsAllocated, countsTotal, inits, starts}
+use Rattle.trace.specs.Untouched.{Untouched, NoneTouched}
+use Rattle.trace.proofs.Faults.{stays-fault, stays-second}
+
+-- ---- the calls on pages and tables
+
+stays-map-page : (up : ℕ) (m : Memory) (root v p : ℕ) (w u : Bool) → Stays m (mapPage up m root v p w u .mem)
+unfolding mapPage
+stays-map-page up m root v p w u = pick-cases (λ (o : Out). Stays m (o .mem)) (whole m root) _ _ (λ _. stays-map-at up up u m root v (entryOf p w u)) (λ _. stays-same m)
+
+stays-map-huge : (up : ℕ) (m : Memory) (root v p : ℕ) (s : HugePageSize) (w u : Bool) → Stays m (mapHuge up m root v p s w u .mem)
+unfolding mapHuge
+stays-map-huge up m root v p s w u =
+    pick-cases (λ (o : Out). Stays m (o .mem)) (whole m root) _ _
+    (λ _. pick-cases (λ (o : Out). Stays m (o .mem)) (both (aligned v (sizeOf s)) (aligned p (sizeOf s))) _ _
+    (λ _. stays-map-at up (tablesAbove up s) u m root v (hugeEntryOf p w u)) (λ _. stays-same m))
+    (λ _. stays-same m)
+
+stays-unmap-page : (up : ℕ) (m : Memory) (root v : ℕ) → Past (totalOf m * 512) (m .words) (unmapPage up (m .words) (startOf m) (totalOf m) root v .words)
+unfolding unmapPage
+stays-unmap-page up m root v =
+    pick-cases (λ (l : Left). Past (totalOf m * 512) (m .words) (l .words)) (lent _ (startOf m) (totalOf m) root) _ _
+    (λ _. past-unmap _ _ _ _ _ _ (indices-lt (suc up) v up)) (λ _. past-same _ (m .words))
+
+-- ---- vmalloc, vfree, mmap and munmap
+
+stays-vmalloc : (up : ℕ) (k : Kernel) (root size : ℕ) → Stays (k .mem) (vmalloc up k root size .kernel .mem)
+stays-vmalloc up k root size =
+    vmalloc-cases up k root size (λ (d : KernelDid). Stays (k .mem) (d .kernel .mem))
+    (λ _. stays-same (k .mem)) (stays-same (k .mem)) (stays-same (k .mem)) (λ _ _. stays-same (k .mem))
+    (λ _ _ _ a _. by a (kernelPages up (k .mem) root a (roundUp 12 size) .walked))
+  where
+    by : (a : ℕ) (w : Walked) → Stays (k .mem) (mappedKernel a (roundUp 12 size) (k .regions) w (kernelPages up (k .mem) root a (roundUp 12 size) .mem) .kernel .mem)
+    by a (At x) = stays-map-pages up true false root (roundUp 12 size / 4096) (k .mem) a 0
+    by a (Stop e) = stays-map-pages up true false root (roundUp 12 size / 4096) (k .mem) a 0
+
+stays-vfree : (up : ℕ) (k : Kernel) (root a : ℕ) → Stays (k .mem) (vfree up k root a .kernel .mem)
+stays-vfree up k root a =
+    vfree-cases up k root a (λ (d : KernelDid). Stays (k .mem) (d .kernel .mem))
+    (λ _. stays-same (k .mem)) (λ _ _. stays-same (k .mem)) (λ _ _ n _. stays-free-pages up root (n / 4096) (k .mem) a)
+
+stays-mmap : (up : ℕ) (s : User) (root : ℕ) (wish : Wish) (size : ℕ) (prot flags : ℤ) → Stays (s .mem) (mmap up s root wish size prot flags .user .mem)
+stays-mmap up s root wish size prot flags =
+    mmap-cases up s root wish size prot flags (λ (d : UserDid). Stays (s .mem) (d .user .mem))
+    (λ _. stays-same (s .mem)) (stays-same (s .mem)) (stays-same (s .mem)) (λ _ _. stays-same (s .mem)) (stays-same (s .mem))
+    (λ _ _ _ a _ _. by a (userPages up (s .mem) root a (roundUp 12 size) prot .walked))
+  where
+    done : ℕ → ℕ
+    done a = userPages up (s .mem) root a (roundUp 12 size) prot .done
+
+    run : (a : ℕ) → Stays (s .mem) (userPages up (s .mem) root a (roundUp 12 size) prot .mem)
+    run a = stays-map-pages up (writable prot) true root (roundUp 12 size / 4096) (s .mem) a 0
+
+    by : (a : ℕ) (w : Walked)
+        → Stays (s .mem) (mappedUser up s root a (roundUp 12 size) prot flags w (done a) (userPages up (s .mem) root a (roundUp 12 size) prot .mem) .user .mem)
+    by a (At x) = run a
+    by a (Stop e) =
+        pick-cases (λ (m : Memory). Stays (s .mem) m) (eqb e mapPageFailed) _ _
+        (λ _. stays-then (run a) (stays-clear-pages up root (done a) (userPages up (s .mem) root a (roundUp 12 size) prot .mem) a)) (λ _. run a)
+
+stays-munmap : (up : ℕ) (s : User) (root a size : ℕ) → Stays (s .mem) (munmap up s root a size .user .mem)
+stays-munmap up s root a size =
+    munmap-cases up s root a size (λ (d : UserDid). Stays (s .mem) (d .user .mem))
+    (λ _. stays-same (s .mem)) (λ _ _. stays-same (s .mem)) (λ _ _ _ _. stays-free-pages up root (roundUp 12 size / 4096) (s .mem) a)
+
+stays-regions : (b : Board) (c : Call) → Stays (b .mem) (playRegions b c .board .mem)
+unfolding playRegions
+stays-regions b (vmallocs size) = stays-vmalloc 3 _ (b .root) size
+stays-regions b (vfrees a) = stays-vfree 3 _ (b .root) a
+stays-regions b (mmaps wish size prot flags) = stays-mmap 3 _ (b .root) wish size prot flags
+stays-regions b (munmaps a size) = stays-munmap 3 _ (b .root) a size
+
+-- ---- the theorem
+
+-- a call that keeps the frames lent, and one that leaves the words
+stays-untouched : (b left : Board) → Stays (b .mem) (left .mem) → Untouched b left
+stays-untouched b left s = record {
+  number = s .words .number;
+  past = λ i l. s .words .past i (subst (λ (n : ℕ). n * 512 ≤ i) (s .total) l);
+}
+
+words-untouched : (b left : Board) → left .mem .words ≡ b .mem .words → Untouched b left
+words-untouched b left e = rw e (record { number = refl; past = λ i l. refl })
+
+-- a start lends other frames, the first of which it zeroes
+start-untouched : (b : Board) (from to : ℕ) → Untouched b (start b from to .board)
+unfolding withMark
+start-untouched b from to =
+    start-cases b from to (λ (d : Did). Untouched b (d .board))
+    (λ _ _ some _. let p = past-clear _ (b .mem .words) _ _ (omega arith) in record { number = p .number; past = p .past })
+    (words-untouched b b refl) (words-untouched b b refl)
+
+pub none-touched : NoneTouched
+none-touched b (regions c) = stays-untouched b _ (stays-regions b c)
+none-touched b (protects a size prot) = words-untouched b _ refl
+none-touched b (faults a code) = stays-untouched b _ (stays-fault 3 _ (b .root) a code)
+none-touched b (secondFaults a code) = stays-untouched b _ (stays-second 3 (b .mem) (b .root) a code)
+none-touched b (marksCow a) = words-untouched b _ refl
+none-touched b (unmarksCow a) = words-untouched b _ refl
+none-touched b (asksCow a) = words-untouched b _ refl
+none-touched b (mapsPage v p w u) = stays-untouched b _ (stays-map-page 3 (b .mem) (b .root) v p w u)
+none-touched b (mapsHuge v p size w u) = stays-untouched b _ (stays-map-huge 3 (b .mem) (b .root) v p size w u)
+none-touched b (unmapsPage v) = stays-untouched b _ (stays-words (b .mem) _ (stays-unmap-page 3 (b .mem) (b .root) v))
+none-touched b (translates v) = words-untouched b _ refl
+none-touched b (asksUser v write) = words-untouched b _ refl
+none-touched b allocates = words-untouched b _ refl
+none-touched b (deallocates n) = words-untouched b _ refl
+none-touched b (marksFrame n) = words-untouched b _ refl
+none-touched b (asksFrame n) = words-untouched b _ refl
+none-touched b countsFree = words-untouched b _ refl
+none-touched b countsAllocated = words-untouched b _ refl
+none-touched b countsTotal = words-untouched b _ refl
+none-touched b (inits from to) = words-untouched b _ refl
+none-touched b (starts from to) = start-untouched b from to
