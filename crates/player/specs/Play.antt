@@ -1,16 +1,11 @@
--- One call of a tape on a board, document 01's 'The key program': what its line says, and the board that it leaves.
+-- One call of a tape on a board, document 01's 'The key program': its kind, what its line says, and the board that it leaves, as crate trace plays every call.
 use Prim.Native.Nat.{ℕ}
 use Rattle.answer.specs.declared.Line.{Line}
-use Rattle.answer.specs.Numbers.{answerLine}
-use Rattle.address.specs.Address.{virtLine, physLine}
-use Rattle.paging.specs.Map.{startOf, totalOf}
-use Rattle.paging.specs.Calls.{asAnswer, asPhys, translate}
-use Rattle.vmalloc.specs.Calls.{Kernel, kernel, vmalloc, vfree}
-use Rattle.vmalloc.specs.Results.{asVirt}
-use Rattle.mmap.specs.Calls.{User, user, mmap, munmap}
 use Rattle.mmap.specs.Results.{wishOf}
-use Rattle.fault.specs.Faults.{Faulting, faulting, handleFault}
 use Rattle.board.specs.Board.{Board}
+use Rattle.release.specs.Calls.{vmallocs, vfrees, mmaps, munmaps}
+use Rattle.trace.specs.Trace.{AnyCall, regions, faults, translates}
+use Rattle.trace.specs.Trace.{play as playAny}
 use Rattle.tape.specs.declared.Call.{Call}
 use Rattle.tape.specs.declared.Call.the-variants.{Vmalloc, Vfree, Mmap, Munmap, Fault, Translate}
 
@@ -22,24 +17,23 @@ pub record Turn : Type 0 where
 abbrev pub turn : ℕ → Line → Board → Turn
 turn k l b = record { kind = k; line = l; board = b }
 
--- the board with what a call was lent of it
-abbrev pub withKernel : Board → Kernel → Board
-withKernel b k = record { mem = k .mem; root = b .root; kernel = k .regions; user = b .user; next = b .next; marked = b .marked }
+-- a call's kind byte
+abbrev pub kindOf : Call → ℕ
+kindOf (Vmalloc n) = 1
+kindOf (Vfree a) = 2
+kindOf (Mmap c) = 3
+kindOf (Munmap c) = 4
+kindOf (Fault c) = 5
+kindOf (Translate a) = 6
 
-abbrev pub withUser : Board → User → Board
-withUser b u = record { mem = u .mem; root = b .root; kernel = b .kernel; user = u .regions; next = u .next; marked = b .marked }
-
-abbrev pub withFaulting : Board → Faulting → Board
-withFaulting b f = record { mem = f .mem; root = b .root; kernel = b .kernel; user = b .user; next = b .next; marked = f .marked }
+-- .. as one of all calls
+abbrev pub anyCall : Call → AnyCall
+anyCall (Vmalloc n) = regions (vmallocs n)
+anyCall (Vfree a) = regions (vfrees a)
+anyCall (Mmap c) = regions (mmaps (wishOf (c .given) (c .addr)) (c .size) (c .prot) (c .flags))
+anyCall (Munmap c) = regions (munmaps (c .addr) (c .size))
+anyCall (Fault c) = faults (c .addr) (c .code)
+anyCall (Translate a) = translates a
 
 abbrev pub play : Board → Call → Turn
-play b (Vmalloc n) = let d = vmalloc 3 (kernel (b .mem) (b .kernel)) (b .root) n in turn 1 (virtLine (asVirt (d .answer))) (withKernel b (d .kernel))
-play b (Vfree a) = let d = vfree 3 (kernel (b .mem) (b .kernel)) (b .root) a in turn 2 (answerLine (asAnswer (d .answer))) (withKernel b (d .kernel))
-play b (Mmap c) =
-    let d = mmap 3 (user (b .mem) (b .user) (b .next)) (b .root) (wishOf (c .given) (c .addr)) (c .size) (c .prot) (c .flags) in
-    turn 3 (virtLine (asVirt (d .answer))) (withUser b (d .user))
-play b (Munmap c) =
-    let d = munmap 3 (user (b .mem) (b .user) (b .next)) (b .root) (c .addr) (c .size) in turn 4 (answerLine (asAnswer (d .answer))) (withUser b (d .user))
-play b (Fault c) =
-    let d = handleFault 3 (faulting (b .mem) (b .marked)) (b .root) (c .addr) (c .code) in turn 5 (answerLine (asAnswer (d .answer))) (withFaulting b (d .state))
-play b (Translate a) = turn 6 (physLine (asPhys (translate 3 (b .mem .words) (startOf (b .mem)) (totalOf (b .mem)) (b .root) a))) b
+play b c = turn (kindOf c) (playAny b (anyCall c) .line) (playAny b (anyCall c) .board)

@@ -7,6 +7,7 @@ use Rattle.mmap.specs.declared.Mmapped.{Mmapped}
 use mir.Val.{SFits}
 use mir.Facts.{toZ-ofZ}
 use mir.Syntax.{w32}
+use Rattle.release.specs.Calls.{play as playRegions}
 use borrow.Author.Needs.{needs}
 use Rattle.player.proofs.play_mmap.Statement.{statement}
 use Rattle.player.proofs.play_mmap.Tie as tie
@@ -24,6 +25,7 @@ same-length : tie.Need-same-length
 same-length c = search needs
 
 returns : tie.Need-returns
+unfolding playRegions
 returns c =
     let r = c .before .before .before .before .before .before in
     let s = c .before .before .before .before .before .before .before .before .before .before .before .before .before .before .before .before in

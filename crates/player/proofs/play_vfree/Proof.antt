@@ -4,6 +4,7 @@ use Rattle.answer.specs.Numbers.{answerLine}
 use Rattle.board.specs.Board.{boardOf}
 use Rattle.player.specs.Play.{turn}
 use Rattle.vmalloc.specs.declared.Vfreed.{Vfreed}
+use Rattle.release.specs.Calls.{play as playRegions}
 use borrow.Author.Needs.{needs}
 use Rattle.player.proofs.play_vfree.Statement.{statement}
 use Rattle.player.proofs.play_vfree.Tie as tie
@@ -18,6 +19,7 @@ same-length : tie.Need-same-length
 same-length c = search needs
 
 returns : tie.Need-returns
+unfolding playRegions
 returns c =
     let e = c .before .before .before .before .before .before .vfree .ensures in
     let s = c .before .before .before .before .before .before .before .before .before .before .before .before .before in
