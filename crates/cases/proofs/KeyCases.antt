@@ -5,21 +5,29 @@ use mathlib.Core.Bool.{Bool, true, false, false≢true}
 use mathlib.Core.List.{List, [], _∷_}
 use native.Mathlib.Omega.{arith}
 use lib.Dec.{eqb, leb}
+use lib.ListN.{replicate}
 use borrow.Author.Tests.{eqb-true}
 use Rattle.bits.specs.Bit.{pick}
 use Rattle.bits.proofs.Choice.{both-true}
 use Rattle.allocator.specs.Round.{rounded}
+use Rattle.paging.specs.declared.Walked.the-variants.{At, Stop}
 use Rattle.paging.specs.Calls.{whole}
 use Rattle.frame.specs.Frames.{init, isAllocated}
 use Rattle.frame.proofs.Laws.{inside-low, inside-high, reads-outside}
 use Rattle.answer.specs.declared.FlagAnswer.the-variants.{Flag}
 use Rattle.slots.specs.Slots.{listed, every}
-use Rattle.regions.specs.Regions.{firstFit}
+use Rattle.regions.specs.Regions.{window, firstFit}
+use Rattle.regions.specs.Regions.{noSlot as noVmSlot}
 use Rattle.vmalloc.specs.Calls.{vmalloc}
 use Rattle.mmap.specs.declared.MappedRegion.{MappedRegion}
-use Rattle.mmap.specs.Regions.{inTheWay, searchFrom, risingFrom, wellPlacedRegion, soundMappings, holds}
+use Rattle.mmap.specs.Regions.{userStart, inTheWay, searchFrom, risingFrom, wellPlacedRegion, soundMappings, holds}
 use Rattle.mmap.specs.Calls.{User, onPage, soundUser, mmap, munmap}
+use Rattle.mmap.specs.List.{emptySlots}
 use Rattle.mmap.proofs.Rising.{holds-one}
+use Rattle.board.specs.Board.{Board, Did, did, start}
+use Rattle.board.proofs.Outcomes.{start-cases}
+use Rattle.release.proofs.Sound.{kernel-sound}
+use Rattle.release.proofs.Run.{fresh-inv}
 use Rattle.cases.specs.KeyCases.{KeyCases}
 
 -- a region of two pages has no other size
@@ -48,6 +56,21 @@ sound-start s root a n h g =
     let t = both-true (risingFrom 0 (listed (s .regions))) _ (both-true (leb (s .regions .count) 256) _ m .1) .1 in
     placed-start a n (listed (s .regions)) (both-true (every wellPlacedRegion (listed (s .regions))) _ t .0) g
 
+-- the lists that a met start leaves
+pub record Fresh (b : Board) : Type 0 where
+  pub kernel : b .kernel ≡ record { slots = window ∷ replicate 255 noVmSlot; count = 1 }
+  pub user : b .user ≡ emptySlots
+  pub next : b .next ≡ userStart
+
+fresh-lists : (old fresh : Board) (from to : ℕ) → start old from to ≡ did (At 0) fresh → Fresh fresh
+fresh-lists old fresh from to =
+    start-cases old from to (λ (d : Did). d ≡ did (At 0) fresh → Fresh fresh)
+    (λ _ _ _ _ e. subst Fresh (ap (λ (d : Did). d .board) e) (record { kernel = refl; user = refl; next = refl }))
+    (λ e. absurd (refused (ap (λ (d : Did). d .answer) e))) (λ e. absurd (refused (ap (λ (d : Did). d .answer) e)))
+  where
+    refused : {n : ℕ} → Stop n ≡ At 0 → ⊥
+    refused q = let z : _≡_ {A = ℕ} 0 1 = cc in omega arith
+
 pub key-cases : KeyCases
 unfolding rounded init isAllocated inTheWay searchFrom firstFit vmalloc mmap munmap
 key-cases = record {
@@ -62,8 +85,8 @@ key-cases = record {
     rw h (ap Flag (reads-outside fr 255 (inside-low (fr .fa .start) (fr .fa .total) 255 (omega arith)))),
     rw h (ap Flag (reads-outside fr 8448 (inside-high (fr .fa .start) (fr .fa .total) 8448 (omega arith) (omega arith)))),
   );
-  k9 = (refl, refl);
-  k10 = λ k root h l. rw (h, l);
+  k9 = λ old fresh from to h. let f = fresh-lists old fresh from to h in (rw (f .user, f .next), rw (f .user, f .next));
+  k10 = λ old fresh from to h. let f = fresh-lists old fresh from to h in rw (kernel-sound (fresh-inv old fresh from to h), ap listed (f .kernel));
   k11 = λ s root a h g. let e = sound-start s root a 8192 h g in (rw (h, e, g), rw (h, e, one-size a _ g));
   k12 = λ s root wish prot flags h. rw h;
 }

@@ -13,13 +13,14 @@ use Rattle.entry.specs.Entry.{indices, entryOf, hugeEntryOf}
 use Rattle.frame.specs.Frames.{Frames, init, sound, isAllocated}
 use Rattle.paging.specs.declared.Walked.the-variants.{At, Stop}
 use Rattle.slots.specs.Slots.{listed}
-use Rattle.regions.specs.Regions.{window}
-use Rattle.vmalloc.specs.Calls.{Kernel, soundKernel, vmalloc}
+use Rattle.vmalloc.specs.Calls.{vmalloc}
 use Rattle.vmalloc.specs.Calls.{did as didKernel}
 use Rattle.mmap.specs.Regions.{userStart, findFree, holds}
 use Rattle.mmap.specs.declared.Wish.{Wish}
 use Rattle.mmap.specs.Calls.{User, soundUser, mmap, munmap}
 use Rattle.mmap.specs.Calls.{did as didUser}
+use Rattle.board.specs.Board.{Board, did, start}
+use Rattle.release.specs.Calls.{kernelOf}
 
 pub record KeyCases : Type 0 where
   -- K1 4096 rounds to 4096
@@ -38,10 +39,12 @@ pub record KeyCases : Type 0 where
   pub k7 : (fr : Frames) → (init fr 0x1800 0x3800 .answer ≡ Met) × (init fr 0x1800 0x3800 .frames .fa .start ≡ 1) × (init fr 0x1800 0x3800 .frames .fa .total ≡ 2)
   -- K8 with 8192 frames from 256, frames 255 and 8448 read allocated
   pub k8 : (fr : Frames) → fr .fa .start ≡ 256 → fr .fa .total ≡ 8192 → sound fr ≡ true → (isAllocated fr 255 ≡ Flag true) × (isAllocated fr 8448 ≡ Flag true)
-  -- K9 fresh search: 0x6FFFFFFFE000 found, 0x6FFFFFFFF000 is 15
-  pub k9 : (findFree [] userStart 0x6FFF_FFFF_E000 ≡ At userStart) × (findFree [] userStart 0x6FFF_FFFF_F000 ≡ Stop noRegion)
+  -- K9 fresh search: 0x6FFFFFFFE000 found, 0x6FFFFFFFF000 is 15. Fresh is what a met start leaves
+  pub k9 : (old fresh : Board) (from to : ℕ) → start old from to ≡ did (At 0) fresh
+      → (findFree (listed (fresh .user)) (fresh .next) 0x6FFF_FFFF_E000 ≡ At userStart) × (findFree (listed (fresh .user)) (fresh .next) 0x6FFF_FFFF_F000 ≡ Stop noRegion)
   -- K10 fresh vmalloc of 2^37+1 bytes: 15
-  pub k10 : (k : Kernel) (root : ℕ) → soundKernel k root ≡ true → listed (k .regions) ≡ window ∷ [] → vmalloc 3 k root (2 ^ 37 + 1) ≡ didKernel (Stop noRegion) k
+  pub k10 : (old fresh : Board) (from to : ℕ) → start old from to ≡ did (At 0) fresh
+      → vmalloc 3 (kernelOf fresh) (fresh .root) (2 ^ 37 + 1) ≡ didKernel (Stop noRegion) (kernelOf fresh)
   -- K11 a two-page region: munmap with 4097 met, with 4096 is 16
   pub k11 : (s : User) (root a : ℕ) → soundUser s root ≡ true → holds a 8192 (listed (s .regions)) ≡ true
       → (munmap 3 s root a 4097 .answer ≡ At 0) × (munmap 3 s root a 4096 ≡ didUser (Stop regionNotFound) s)

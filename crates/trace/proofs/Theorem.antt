@@ -2,9 +2,11 @@
 use Prim.Native.Nat.{ℕ, suc, _*_, _/_, _≤_}
 use mathlib.Core.Path.{_≡_, refl, subst}
 use mathlib.Core.Bool.{Bool, true, false}
+use mathlib.Core.List.{List}
 use native.Mathlib.Omega.{arith}
 use lib.IntN.{ℤ}
 use lib.Dec.{eqb}
+use lib.ListN.{length}
 use Rattle.bits.specs.Bit.{both}
 use Rattle.bits.proofs.Choice.{pick-cases}
 use Rattle.answer.specs.Numbers.{mapPageFailed}
@@ -32,7 +34,7 @@ use Rattle.board.specs.Board.{Board, Did, start}
 use Rattle.board.proofs.Outcomes.{start-cases}
 use Rattle.release.specs.Calls.{Call, vmallocs, vfrees, mmaps, munmaps}
 use Rattle.release.specs.Calls.{play as playRegions}
-use Rattle.trace.specs.Trace.{regions, protects, faults, secondFaults, marksCow, unmarksCow, asksCow, mapsPage, mapsHuge, unmapsPage, translates, asksUser, allocates, deallocates, marksFrame, asksFrame, countsFree, countsAllocated, countsTotal, inits, starts}
+use Rattle.trace.specs.Trace.{play, regions, protects, faults, secondFaults, marksCow, unmarksCow, asksCow, mapsPage, mapsHuge, unmapsPage, translates, asksUser, allocates, deallocates, marksFrame, asksFrame, countsFree, countsAllocated, countsTotal, inits, starts}
 use Rattle.trace.specs.Untouched.{Untouched, NoneTouched}
 use Rattle.trace.proofs.Faults.{stays-fault, stays-second}
 
@@ -50,11 +52,11 @@ stays-map-huge up m root v p s w u =
     (λ _. stays-map-at up (tablesAbove up s) u m root v (hugeEntryOf p w u)) (λ _. stays-same m))
     (λ _. stays-same m)
 
-stays-unmap-page : (up : ℕ) (m : Memory) (root v : ℕ) → Past (totalOf m * 512) (m .words) (unmapPage up (m .words) (startOf m) (totalOf m) root v .words)
+past-unmap-page : (up : ℕ) (ws : List ℕ) (start total root v : ℕ) → Past (total * 512) ws (unmapPage up ws start total root v .words)
 unfolding unmapPage
-stays-unmap-page up m root v =
-    pick-cases (λ (l : Left). Past (totalOf m * 512) (m .words) (l .words)) (lent _ (startOf m) (totalOf m) root) _ _
-    (λ _. past-unmap _ _ _ _ _ _ (indices-lt (suc up) v up)) (λ _. past-same _ (m .words))
+past-unmap-page up ws start total root v =
+    pick-cases (λ (l : Left). Past (total * 512) ws (l .words)) (lent (length ws) start total root) _ _
+    (λ _. past-unmap ws start total root _ _ (indices-lt (suc up) v up)) (λ _. past-same _ ws)
 
 -- ---- vmalloc, vfree, mmap and munmap
 
@@ -134,7 +136,10 @@ none-touched b (unmarksCow a) = words-untouched b _ refl
 none-touched b (asksCow a) = words-untouched b _ refl
 none-touched b (mapsPage v p w u) = stays-untouched b _ (stays-map-page 3 (b .mem) (b .root) v p w u)
 none-touched b (mapsHuge v p size w u) = stays-untouched b _ (stays-map-huge 3 (b .mem) (b .root) v p size w u)
-none-touched b (unmapsPage v) = stays-untouched b _ (stays-words (b .mem) _ (stays-unmap-page 3 (b .mem) (b .root) v))
+none-touched b (unmapsPage v) =
+    let left = play b (unmapsPage v) .board in
+    let p : Past (totalOf (b .mem) * 512) (b .mem .words) (left .mem .words) = past-unmap-page 3 (b .mem .words) (startOf (b .mem)) _ (b .root) v in
+    stays-untouched b left (stays-words (b .mem) _ p)
 none-touched b (translates v) = words-untouched b _ refl
 none-touched b (asksUser v write) = words-untouched b _ refl
 none-touched b allocates = words-untouched b _ refl
