@@ -20,6 +20,7 @@ use Rattle.paging.proofs.Calls.{translate-is}
 use Rattle.intel.specs.Sdm.{bits, Memory, Translation, physical, notPresent, reserved, large, choose, p, ps, tableOf, pageAt, throughPte, throughPde, throughPdpte, throughPml4e, linear}
 use Rattle.intel.specs.Agreement.{Holds, NoHuge, verdict, Agrees, SamePages, SameAbsent, ThreeOutcomes, OffBoard}
 use Rattle.intel.proofs.Steps.{no-address, not-outside, judge-plain, entry-outcomes, leaf-plain, plain-here, plain-below, outcomes}
+use Rattle.intel.proofs.Entries.{same-table}
 
 -- ---- one table after the other, from the last level up
 
@@ -64,8 +65,7 @@ module _ (mem : Memory) (ws : List ℕ) (start total v : ℕ) (holds : Holds mem
   above through below other n t law behind h =
       step through _ t (index (suc n) v) (indices (suc n) v) law (omega arith) (λ e k.
       let plain : ps e ≡ false = plain-here ws start total _ e h k in
-      let table : tableOf e ≡ frameOf e = omega arith in
-      rw (plain, table, judge-plain (index n v) (indices n v) e _ plain) (behind (frameOf e) (plain-below ws start total _ e h k)))
+      rw (plain, same-table e, judge-plain (index n v) (indices n v) e _ plain) (behind (frameOf e) (plain-below ws start total _ e h k)))
 
   directory : (t : ℕ) → NoHuge ws start total 1 t → Same (throughPde mem v (mem (t * 2 ^ 12 + bits 29 21 v * 2 ^ 3))) (address v (leaf ws start total t (indices 2 v)))
   unfolding throughPde

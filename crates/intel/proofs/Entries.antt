@@ -18,6 +18,10 @@ use Rattle.intel.specs.Sdm.{bits, Memory, choose, p, ps, tableOf, readin
 use Rattle.intel.specs.Agreement.{Holds, NoHuge, ReadsOff}
 use Rattle.intel.proofs.Steps.{no-address, not-outside, judge-plain, plain-here, plain-below}
 
+-- the table that an entry references is the frame that we walk to
+pub same-table : (e : ℕ) → tableOf e ≡ frameOf e
+same-table e = omega arith
+
 -- the address of entry i of table t
 abbrev at : ℕ → ℕ → ℕ
 at t i = t * 2 ^ 12 + i * 2 ^ 3
@@ -88,8 +92,7 @@ module _ (mem : Memory) (ws : List ℕ) (start total v : ℕ) (holds : Holds mem
   above behind n t below h =
       step t (index (suc n) v) (indices (suc n) v) (λ e. choose (ps e) [] (behind (tableOf e))) (omega arith) (λ e k.
       let plain : ps e ≡ false = plain-here ws start total _ e h k in
-      let table : tableOf e ≡ frameOf e = omega arith in
-      rw (plain, table, judge-plain (index n v) (indices n v) e _ plain) (below (frameOf e) (plain-below ws start total _ e h k)))
+      rw (plain, same-table e, judge-plain (index n v) (indices n v) e _ plain) (below (frameOf e) (plain-below ws start total _ e h k)))
 
   directory : (t : ℕ) → NoHuge ws start total 1 t → Leaves t (indices 2 v) (readPde mem v (at t (bits 29 21 v)))
   unfolding readPde

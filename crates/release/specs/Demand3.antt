@@ -173,7 +173,7 @@ unfoldable pub different : List (List ℕ) → List (List ℕ)
 different [] = []
 different (p ∷ l) = pick (among p l) (different l) (p ∷ different l)
 
--- ---- the window book: its parts stand in the order of their addresses, so that adjoining ones are neighbours
+-- ---- the window book: its parts stand in the order of their addresses (`BookRises`), so that adjoining ones are neighbours
 
 -- 'A met vmalloc takes the free part at its answer. If it exceeds the rounded size, the tail becomes a free part while the book has fewer than 256; at 256 the part is
 -- cut, the tail struck out'
