@@ -1,10 +1,12 @@
 /* Gadulnos: the rinux memory manager as C functions. Link libdesk.a, which `rt staticlib desk` makes
  * (x86-64, System V calling convention). docs/LAYOUT.md explains the layout at length.
  *
- * Nothing is asked of any argument but that each pointer lends as many elements as its length says and
- * that no two lent parts overlap. A length may be 0. A function touches what it is lent and nothing else,
- * keeps no state and always ends. A call that cannot be met answers with document 01's number and changes
- * nothing but the leftovers listed there.
+ * What is asked of the arguments: each pointer lends as many elements as its length says, no two lent parts
+ * overlap, a pointer to words or numbers (uint64_t, size_t) is aligned to 8 bytes as C asks (a pointer to
+ * bytes may be odd), and a bool holds 0 or 1, as every C compiler makes it. A length may be 0; the pointer is
+ * then not read, and may be null. Nothing else is asked. A function touches what it is lent and nothing else,
+ * keeps no state and always ends. A call that cannot be met answers with a number of docs/NUMBERS.md and
+ * changes nothing but the leftovers listed there.
  *
  * The parts of a board's state. All numbers are little-endian, 64 bits unless said otherwise.
  *
@@ -55,6 +57,20 @@ struct gadulnos_line {
 uint64_t gadulnos_align_down(uint64_t addr, uint64_t align);
 struct gadulnos_line gadulnos_align_up(uint64_t addr, uint64_t align);
 struct gadulnos_line gadulnos_page_align_up(uint64_t size);
+
+/* Whether an address is a multiple of `align` (of 0 only 0 is); its place in its page and its page's number;
+ * the zone of a physical address: 0 DMA, 1 normal, 2 high. */
+bool gadulnos_is_aligned(uint64_t addr, uint64_t align);
+uint64_t gadulnos_page_offset(uint64_t virt);
+uint64_t gadulnos_page_number(uint64_t virt);
+uint64_t gadulnos_zone(uint64_t phys);
+
+/* The number of the frame that holds a physical address; a frame's first address, cut to 64 bits; the size
+ * and the alignment of a huge page, 1 GiB if `gigabyte`, else 2 MiB. */
+uint64_t gadulnos_containing_address(uint64_t phys);
+uint64_t gadulnos_start_address(uint64_t frame);
+uint64_t gadulnos_huge_size(bool gigabyte);
+uint64_t gadulnos_huge_alignment(bool gigabyte);
 
 /* Entries of paging.rs: the word of a present entry, with HUGE in the second, and a word taken apart. */
 uint64_t gadulnos_entry_set(uint64_t phys, bool writable, bool user);

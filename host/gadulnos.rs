@@ -1,7 +1,7 @@
 //! Gadulnos for a Rust host: the C functions of `libdesk.a` (`rt staticlib desk` makes it), the packed
 //! layout of a board's state, and a board that hands its parts to them. docs/LAYOUT.md explains both.
 //!
-//! Nothing is asked of any argument. A call that cannot be met answers with document 01's number and
+//! Nothing is asked of any argument. A call that cannot be met answers with a number of docs/NUMBERS.md and
 //! changes nothing but the leftovers listed there; parts that stand for no sound record are answered
 //! with 10 and stay as they are.
 
@@ -78,6 +78,22 @@ functions! {
     fn align_up = gadulnos_align_up(addr: u64, align: u64) -> Line;
     /// A size rounded up to a page; 3 above 2^64 - 4096.
     fn page_align_up = gadulnos_page_align_up(size: u64) -> Line;
+    /// Whether an address is a multiple of `align`; of 0 only 0 is.
+    fn is_aligned = gadulnos_is_aligned(addr: u64, align: u64) -> bool;
+    /// An address's place in its page.
+    fn page_offset = gadulnos_page_offset(virt: u64) -> u64;
+    /// The number of its page.
+    fn page_number = gadulnos_page_number(virt: u64) -> u64;
+    /// The zone of a physical address: 0 DMA, 1 normal, 2 high.
+    fn zone = gadulnos_zone(phys: u64) -> u64;
+    /// The number of the frame that holds a physical address.
+    fn containing_address = gadulnos_containing_address(phys: u64) -> u64;
+    /// A frame's first address, cut to 64 bits.
+    fn start_address = gadulnos_start_address(frame: u64) -> u64;
+    /// The size of a huge page: 1 GiB if `gigabyte`, else 2 MiB.
+    fn huge_size = gadulnos_huge_size(gigabyte: bool) -> u64;
+    /// .. and its alignment.
+    fn huge_alignment = gadulnos_huge_alignment(gigabyte: bool) -> u64;
     /// An entry: the masked address, present, writable or not, the user's or not.
     fn entry_set = gadulnos_entry_set(phys: u64, writable: bool, user: bool) -> u64;
     /// .. with HUGE.

@@ -49,6 +49,12 @@ static void numbers(void)
     check("rounding", gadulnos_align_down(8191, 4096) == 4096 && is(gadulnos_align_up(1, 8), 0, 8)
                           && is(gadulnos_page_align_up(4097), 0, 8192)
                           && is(gadulnos_page_align_up(UINT64_MAX), 3, 0));
+    check("addresses", gadulnos_is_aligned(8192, 4096) && !gadulnos_is_aligned(1, 0)
+                           && gadulnos_page_offset(0x1234) == 0x234 && gadulnos_page_number(0x1234) == 1
+                           && gadulnos_zone(0xFFFFFF) == 0 && gadulnos_zone(0x1000000) == 1
+                           && gadulnos_zone(0x38000000) == 2 && gadulnos_containing_address(0x101234) == 0x101
+                           && gadulnos_start_address(0x101) == 0x101000 && gadulnos_huge_size(false) == 0x200000
+                           && gadulnos_huge_alignment(true) == 0x40000000);
     check("entries", gadulnos_entry_set(0x101000, true, false) == 0x101003
                          && gadulnos_entry_set_huge(0x200000, true, true) == 0x200087
                          && gadulnos_entry_addr(0x101003) == 0x101000 && gadulnos_entry_present(1)

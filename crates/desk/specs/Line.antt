@@ -1,6 +1,8 @@
 -- The number and value of a table's entry, and the record of ten flags.
 use Prim.Native.Nat.{ℕ}
 use mathlib.Core.Bool.{Bool, true, false}
+use Rattle.address.specs.declared.MemoryZone.{MemoryZone}
+use Rattle.address.specs.declared.MemoryZone.the-variants.{Dma, Normal, High}
 use Rattle.answer.specs.declared.Line.{Line}
 use Rattle.entry.specs.declared.EntryAnswer.{EntryAnswer}
 use Rattle.entry.specs.declared.EntryAnswer.the-variants.{AtEntry, NoEntry}
@@ -32,3 +34,9 @@ tenFlags p w u t c a d h g n = record {
 abbrev pub hugeOf : Bool → HugePageSize
 hugeOf true = Size1GB
 hugeOf false = Size2MB
+
+-- a zone of physical memory by its number, in the order of their addresses
+abbrev pub zoneNumber : MemoryZone → ℕ
+zoneNumber Dma = 0
+zoneNumber Normal = 1
+zoneNumber High = 2

@@ -1,4 +1,5 @@
 // C functions for the marking desk: every public call, on numbers and packed bytes (docs/LAYOUT.md). The frames are lent as 64-bit words.
+pub mod addresses;
 pub mod entries;
 pub mod faults;
 pub mod frames;

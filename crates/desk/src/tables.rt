@@ -101,7 +101,7 @@ pub extern "C" fn gadulnos_map_page(
     map_page_in(words, fields, bits, root, virt, phys, writable, user)
 }
 
-fn huge_size(gigabyte: bool) -> HugePageSize
+pub fn huge_size(gigabyte: bool) -> HugePageSize
     ensures { λ r. ⌜ r ≡ hugeOf gigabyte ⌝ }
 {
     if gigabyte {

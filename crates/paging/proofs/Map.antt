@@ -80,6 +80,7 @@ module _ (u : Bool) (m : Memory) (t i : ℕ) where
   enter-out h = rw h
 
   module _ (h : inside (startOf m) (totalOf m) t ≡ true) where
+    -- 'Present tables keep their bits'
     pub enter-there : flag 0 (getD (m .words) (place (startOf m) t i) 0) ≡ true
         → enter u m t i ≡ out (At (frameOf (getD (m .words) (place (startOf m) t i) 0))) m
     unfolding enter below

@@ -11,8 +11,10 @@
 
 mod boards;
 mod damage;
+mod every;
 #[path = "../shared/guard.rs"]
 mod guard;
+#[path = "../shared/model/mod.rs"]
 mod model;
 #[path = "../shared/options.rs"]
 mod options;
@@ -38,10 +40,13 @@ fn main() {
     guard::watch();
     let mut report = Report::default();
     guard::check(&mut report);
-    let mut seen = Seen::new();
+    let mut seen = Seen::default();
     for (stream, kind) in (1..).zip(damage::Kind::ALL) {
         report.tell(&format!("anything: {}", kind.name()), run(&options, stream, kind, &mut seen));
     }
+    report.check("anything: an answer's two registers", every::registers());
+    let rounds = options.amount.div_ceil(30);
+    report.tell("anything: every C function", every::run(&mut options.random(20), rounds));
     table::check(&mut report, &seen, options.amount);
     worst::check(&mut report);
     report.finish();

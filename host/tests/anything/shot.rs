@@ -14,8 +14,15 @@ use paper::minimise;
 use paper::PAGE;
 use std::collections::BTreeMap;
 
-/// How often each number was answered by each call.
-pub type Seen = BTreeMap<(&'static str, u64), u64>;
+/// What a run met with.
+#[derive(Default)]
+pub struct Seen {
+    /// How often each number was answered by each call.
+    pub numbers: BTreeMap<(&'static str, u64), u64>,
+    /// Calls whose words were compared with the model's, and releases in whose midst the model gave up.
+    pub compared: u64,
+    pub gave_up: u64,
+}
 
 /// A call on a board: one of the tape's, or one that no tape has.
 #[derive(Clone, Copy)]
@@ -136,15 +143,17 @@ fn fire(port: &mut Port, shot: &Shot, seen: &mut Seen) -> Result<(), String> {
         }
         Shot::Walk(start, total, root, virt) => return walk(port, model, start, total, root, virt),
     };
-    *seen.entry((shot.name(), line.number)).or_default() += 1;
+    *seen.numbers.entry((shot.name(), line.number)).or_default() += 1;
     table::allows(shot.name(), line)?;
     if table::changes_nothing(shot.name(), line.number) {
         holds(same(port, &before), &format!("nothing changed by {line:x?}"))?;
     }
     equal(line, wanted)?;
     if model.gave_up {
+        seen.gave_up += 1;
         return Ok(());
     }
+    seen.compared += 1;
     compare(port, &before, &model)?;
     match *shot {
         Shot::Call(Call::Counts) => equal(port::counts(port), model.counts()),

@@ -1,77 +1,248 @@
-//! Which numbers document 01 has for each call, and which of them leave nothing behind.
+//! Every C function: what it is lent, what it answers with, and which of document 01's numbers leave
+//! nothing behind. The fuzz, the checks of single answers and the count of numbers all read this table.
 
-use crate::report::{holds, Report};
+use crate::report::{equal, holds, Report};
 use crate::shot::Seen;
 use gadulnos::Line;
+use std::collections::BTreeSet;
 
-/// A call, the numbers that change nothing, and those with leftovers.
-type Row = (&'static str, &'static [u64], &'static [u64]);
-
-const TABLE: [Row; 22] = [
-    ("vmalloc", &[1, 3, 10, 15], &[11, 13]),
-    ("vfree", &[10, 16], &[]),
-    ("mmap", &[1, 2, 3, 10, 15, 20], &[11, 13]),
-    ("munmap", &[1, 2, 3, 10, 16], &[]),
-    ("fault", &[5, 6, 7, 8, 10, 11, 17], &[18]),
-    ("translate", &[10, 14, 19], &[]),
-    ("second_fault", &[5, 7, 8, 10, 17], &[11, 19]),
-    ("map_page", &[10], &[11, 12, 19]),
-    ("unmap_page", &[10, 14, 19], &[]),
-    ("map_huge_page", &[4, 10], &[11, 12, 19]),
-    ("mark_cow", &[10, 20], &[]),
-    ("unmark_cow", &[10], &[]),
-    ("is_cow", &[10], &[]),
-    ("allocate_frame", &[10, 11], &[]),
-    ("deallocate_frame", &[10], &[]),
-    ("mark_allocated", &[10], &[]),
-    ("is_allocated", &[10], &[]),
-    ("is_vmalloc_addr", &[], &[]),
-    ("mprotect", &[9], &[]),
-    ("counts", &[10], &[]),
-    ("init", &[10], &[]),
-    ("start", &[10, 11], &[]),
-];
-
-/// Calls that nothing refuses, or that are never met.
-const ALWAYS: [&str; 2] = ["is_vmalloc_addr", "mprotect"];
-
-fn row(name: &str) -> &'static Row {
-    TABLE.iter().find(|row| row.0 == name).expect("a row for every call")
+/// An argument as C sees it. A part is a pointer and a length.
+#[derive(Clone, Copy, PartialEq, Eq, Debug)]
+pub enum Arg {
+    Number,
+    Flag,
+    Signed,
+    /// start_frame, total and the root's number, as walks are lent them.
+    Start,
+    Total,
+    Root,
+    /// A pointer to the root's number, which a start writes.
+    RootOut,
+    /// A pointer to a table of 512 words, which is read.
+    Table,
+    /// A pointer to four indices, which are written.
+    Indices,
+    /// Parts that are read, and parts that may be written.
+    Words,
+    WordsMut,
+    Fields,
+    FieldsMut,
+    Bits,
+    BitsMut,
+    KernelMut,
+    UserMut,
+    Marked,
+    MarkedMut,
 }
 
-/// That a call may answer so. A refusal has no value.
-pub fn allows(name: &str, line: Line) -> Result<(), String> {
-    let (_, bare, leaving) = row(name);
-    let met = line.number == 0 && name != "mprotect";
-    let refused = bare.contains(&line.number) || leaving.contains(&line.number);
-    holds(met || refused && line.value == 0, &format!("an answer that {name} has, not {line:x?}"))
+use Arg::*;
+
+#[derive(Clone, Copy, PartialEq, Eq, Debug)]
+pub enum Answer {
+    Nothing,
+    Word,
+    Bool,
+    /// A number of document 01 and a value.
+    Numbered,
+}
+
+pub struct Row {
+    pub name: &'static str,
+    pub function: unsafe extern "C" fn(),
+    pub args: &'static [Arg],
+    pub answer: Answer,
+    /// The numbers that change nothing.
+    pub bare: &'static [u64],
+    /// The numbers with leftovers.
+    pub leaving: &'static [u64],
+}
+
+/// Rows that nothing refuses, and rows with their numbers: those that change nothing, then those with
+/// leftovers.
+macro_rules! rows {
+    (
+        plain { $($plain:ident($($arg:expr),*) -> $answer:ident;)* }
+        numbered { $($call:ident($($lent:expr),*) [$($bare:literal)*] [$($leaving:literal)*];)* }
+    ) => {
+        extern "C" {
+            $(fn $plain();)*
+            $(fn $call();)*
+        }
+
+        pub const TABLE: &[Row] = &[
+            $(Row {
+                name: stringify!($plain),
+                function: $plain,
+                args: &[$($arg),*],
+                answer: Answer::$answer,
+                bare: &[],
+                leaving: &[],
+            },)*
+            $(Row {
+                name: stringify!($call),
+                function: $call,
+                args: &[$($lent),*],
+                answer: Answer::Numbered,
+                bare: &[$($bare),*],
+                leaving: &[$($leaving),*],
+            },)*
+        ];
+    };
+}
+
+rows! {
+    plain {
+        gadulnos_align_down(Number, Number) -> Word;
+        gadulnos_is_aligned(Number, Number) -> Bool;
+        gadulnos_page_offset(Number) -> Word;
+        gadulnos_page_number(Number) -> Word;
+        gadulnos_zone(Number) -> Word;
+        gadulnos_containing_address(Number) -> Word;
+        gadulnos_start_address(Number) -> Word;
+        gadulnos_huge_size(Flag) -> Word;
+        gadulnos_huge_alignment(Flag) -> Word;
+        gadulnos_entry_set(Number, Flag, Flag) -> Word;
+        gadulnos_entry_set_huge(Number, Flag, Flag) -> Word;
+        gadulnos_entry_addr(Number) -> Word;
+        gadulnos_entry_present(Number) -> Bool;
+        gadulnos_entry_writable(Number) -> Bool;
+        gadulnos_entry_user(Number) -> Bool;
+        gadulnos_entry_huge(Number) -> Bool;
+        gadulnos_flags_to_bits(Flag, Flag, Flag, Flag, Flag, Flag, Flag, Flag, Flag, Flag) -> Word;
+        gadulnos_flags(Number) -> Word;
+        gadulnos_handler_entry(Number, Number) -> Word;
+        gadulnos_handler_present(Number) -> Bool;
+        gadulnos_handler_addr(Number) -> Word;
+        gadulnos_handler_flags(Number) -> Word;
+        gadulnos_page_indices(Number, Indices) -> Nothing;
+        gadulnos_is_vmalloc_addr(Number) -> Bool;
+    }
+    numbered {
+        gadulnos_align_up(Number, Number) [3] [];
+        gadulnos_page_align_up(Number) [3] [];
+        gadulnos_get_entry(Table, Number) [14] [];
+        gadulnos_mprotect(Number, Number, Signed) [9] [];
+        gadulnos_init(FieldsMut, BitsMut, Number, Number) [10] [];
+        gadulnos_is_allocated(Fields, Bits, Number) [10] [];
+        gadulnos_mark_allocated(FieldsMut, BitsMut, Number) [10] [];
+        gadulnos_allocate_frame(FieldsMut, BitsMut) [10 11] [];
+        gadulnos_deallocate_frame(FieldsMut, BitsMut, Number) [10] [];
+        gadulnos_free_frames(Fields, Bits) [10] [];
+        gadulnos_allocated_frames(Fields, Bits) [10] [];
+        gadulnos_total_frames(Fields, Bits) [10] [];
+        gadulnos_translate(Words, Start, Total, Root, Number) [10 14 19] [];
+        gadulnos_user_may(Words, Start, Total, Root, Number, Flag) [10] [];
+        gadulnos_map_page(WordsMut, FieldsMut, BitsMut, Root, Number, Number, Flag, Flag) [10] [11 12 19];
+        gadulnos_map_huge_page(WordsMut, FieldsMut, BitsMut, Root, Number, Number, Flag, Flag, Flag)
+            [4 10] [11 12 19];
+        gadulnos_unmap_page(WordsMut, Start, Total, Root, Number) [10 14 19] [];
+        gadulnos_vmalloc(WordsMut, FieldsMut, BitsMut, Root, KernelMut, Number) [1 3 10 15] [11 13];
+        gadulnos_vfree(WordsMut, FieldsMut, BitsMut, Root, KernelMut, Number) [10 16] [];
+        gadulnos_mmap(
+            WordsMut, FieldsMut, BitsMut, Root, UserMut, Flag, Number, Number, Signed, Signed
+        ) [1 2 3 10 15 20] [11 13];
+        gadulnos_munmap(WordsMut, FieldsMut, BitsMut, Root, UserMut, Number, Number) [1 2 3 10 16] [];
+        gadulnos_mark_cow(MarkedMut, Number) [10 20] [];
+        gadulnos_unmark_cow(MarkedMut, Number) [10] [];
+        gadulnos_is_cow(Marked, Number) [10] [];
+        gadulnos_handle_page_fault(WordsMut, FieldsMut, BitsMut, Root, MarkedMut, Number, Number)
+            [5 6 7 8 10 11 17] [18];
+        gadulnos_handle_page_fault_second(WordsMut, FieldsMut, BitsMut, Root, Number, Number)
+            [5 7 8 10 17] [11 19];
+        gadulnos_start(
+            WordsMut, FieldsMut, BitsMut, RootOut, KernelMut, UserMut, MarkedMut, Number, Number
+        ) [10 11] [];
+    }
+}
+
+/// At most one call in so many may be left uncompared because the model gave up.
+const MOST_GAVE_UP: u64 = 1000;
+
+/// The functions behind the calls whose names differ: a tape's faults, and the three counts.
+fn function_of(call: &str) -> String {
+    let name = match call {
+        "fault" => "handle_page_fault",
+        "second_fault" => "handle_page_fault_second",
+        "counts" => "allocated_frames",
+        name => name,
+    };
+    format!("gadulnos_{name}")
+}
+
+/// The row of a call, by the tape's name for it.
+fn row(call: &str) -> &'static Row {
+    let name = function_of(call);
+    TABLE.iter().find(|row| row.name == name).expect("a row for every call")
+}
+
+impl Row {
+    /// That the function may answer so. A refusal has no value.
+    pub fn allows(&self, line: Line) -> Result<(), String> {
+        let met = line.number == 0 && self.bare != [9];
+        let refused = self.bare.contains(&line.number) || self.leaving.contains(&line.number);
+        let expected = format!("an answer that {} has, not {line:x?}", self.name);
+        holds(met || refused && line.value == 0, &expected)
+    }
+}
+
+pub fn allows(call: &str, line: Line) -> Result<(), String> {
+    match call {
+        "is_vmalloc_addr" => {
+            holds(line.number == 0, "an answer to a question that nothing refuses")
+        }
+        call => row(call).allows(line),
+    }
 }
 
 /// Whether a call that answers so leaves all that is lent as it was.
-pub fn changes_nothing(name: &str, number: u64) -> bool {
-    row(name).1.contains(&number)
+pub fn changes_nothing(call: &str, number: u64) -> bool {
+    row(call).bare.contains(&number)
 }
 
 /// Prints how often each number came, and checks that each call had each of its numbers, unless the
 /// run was a short one.
 pub fn check(report: &mut Report, seen: &Seen, rounds: u64) {
-    for (name, bare, leaving) in &TABLE {
-        let numbers = [0].iter().chain(*bare).chain(*leaving);
-        let counts = numbers.filter_map(|number| Some((number, seen.get(&(*name, *number))?)));
-        let counts: Vec<String> = counts.map(|(number, n)| format!("{number}: {n}")).collect();
-        println!("  {name} {}", counts.join(", "));
+    let calls: BTreeSet<&str> = seen.numbers.keys().map(|(call, _)| *call).collect();
+    for call in &calls {
+        let counts = seen.numbers.iter().filter(|((name, _), _)| name == call);
+        let counts: Vec<String> = counts.map(|((_, n), count)| format!("{n}: {count}")).collect();
+        println!("  {call} {}", counts.join(", "));
     }
+    report.check("anything: the table has the functions of the header", as_declared());
+    let Seen { compared, gave_up, .. } = seen;
+    let few =
+        holds(gave_up * MOST_GAVE_UP <= *compared, "few releases that are too long for the model");
+    report.check(
+        &format!("anything: {compared} calls compared whole, {gave_up} too long for the model"),
+        few,
+    );
     if rounds >= 2000 {
-        report.check("anything: every number of every call was met with", all(seen));
+        report.check("anything: every number of every call was met with", all(seen, &calls));
     }
 }
 
-fn all(seen: &Seen) -> Result<(), String> {
-    for (name, bare, leaving) in &TABLE {
-        let met = if ALWAYS.contains(name) { &[][..] } else { &[0][..] };
+fn all(seen: &Seen, calls: &BTreeSet<&'static str>) -> Result<(), String> {
+    holds(calls.len() == 22, "all 22 kinds of calls")?;
+    for call in calls {
+        let Row { bare, leaving, .. } = row(call);
+        let met = if *bare == [9] { &[][..] } else { &[0][..] };
         for number in met.iter().chain(*bare).chain(*leaving) {
-            holds(seen.contains_key(&(*name, *number)), &format!("{name} {number}"))?;
+            holds(seen.numbers.contains_key(&(*call, *number)), &format!("{call} {number}"))?;
         }
     }
     Ok(())
+}
+
+/// That table and header name the same functions.
+fn as_declared() -> Result<(), String> {
+    let header = include_str!("../../gadulnos.h");
+    let mut declared = BTreeSet::new();
+    for (at, _) in header.match_indices("gadulnos_") {
+        let name: String =
+            header[at..].chars().take_while(|c| c.is_ascii_lowercase() || *c == '_').collect();
+        if header[at + name.len()..].starts_with('(') {
+            declared.insert(name);
+        }
+    }
+    equal(TABLE.iter().map(|row| row.name.to_string()).collect::<BTreeSet<_>>(), declared)
 }

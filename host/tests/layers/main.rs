@@ -6,6 +6,7 @@
 //!
 //! Usage: layers [--seed S] [--sequences N]
 
+mod addresses;
 mod entries;
 mod frames;
 #[path = "../shared/guard.rs"]
@@ -28,6 +29,7 @@ fn main() {
     let mut report = Report::default();
     guard::check(&mut report);
     rounding::check(&mut report, &options);
+    addresses::check(&mut report, &options);
     entries::check(&mut report, &options);
     frames::check(&mut report, &options);
     report.finish();

@@ -1,6 +1,8 @@
 //! Document 01, written a second time and in the plainest way, on copies of what is lent. It knows
 //! also what lies outside the domain of equality: 10, 19, 20 and the leftovers.
 
+#![allow(dead_code)] // no program uses all of it
+
 mod faults;
 mod memory;
 mod regions;

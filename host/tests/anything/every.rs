@@ -1,0 +1,251 @@
+//! Every C function as C calls it, from the one table: pointers and lengths of any kind that the header
+//! allows. Byte parts stand at even and odd addresses, between guards or between bytes that must stay,
+//! and a part of length 0 may be null.
+
+use crate::boards::{self, Base};
+use crate::guard::{self, Against, Guarded};
+use crate::report::{equal, holds, Checked};
+use crate::table::{Answer, Arg, Row, TABLE};
+use crate::PATIENCE;
+use gadulnos::{Frames, Kernel, Line, Marked, User};
+use paper::generate::Random;
+use paper::{KERNEL_WINDOW, LAST, PAGE, TEMPORARY, USER_WINDOW};
+
+/// Bytes that stand around a part at an odd address.
+const AROUND: u8 = 0xA5;
+
+/// As many arguments as a function has at most, each in a register or on the stack.
+const ARGS: usize = 16;
+
+/// Two registers.
+#[repr(C)]
+struct Registers(u64, u64);
+
+type Function = unsafe extern "C" fn(
+    u64,
+    u64,
+    u64,
+    u64,
+    u64,
+    u64,
+    u64,
+    u64,
+    u64,
+    u64,
+    u64,
+    u64,
+    u64,
+    u64,
+    u64,
+    u64,
+) -> Registers;
+
+/// A part that a call is lent.
+enum Lent {
+    Bytes { before: Vec<u8>, memory: Guarded<u8>, from: usize, null: bool },
+    Words { before: Vec<u64>, memory: Guarded<u64>, null: bool },
+}
+
+impl Lent {
+    fn bytes(random: &mut Random, part: &[u8]) -> Lent {
+        let null = part.is_empty() && random.chance(1, 2);
+        let (from, memory) = match random.below(3) {
+            0 => (0, Guarded::copy(part, Against::Before)),
+            1 => (0, Guarded::copy(part, Against::Behind)),
+            _ => {
+                let from = random.one_of(&[1, 3, 5, 7]);
+                let mut all = vec![AROUND; from];
+                all.extend(part);
+                all.extend([AROUND; 9]);
+                (from, Guarded::copy(&all, Against::Before))
+            }
+        };
+        Lent::Bytes { before: part.to_vec(), memory, from, null }
+    }
+
+    fn words(random: &mut Random, words: &[u64]) -> Lent {
+        let null = words.is_empty() && random.chance(1, 2);
+        let against = random.one_of(&[Against::Before, Against::Behind]);
+        Lent::Words { before: words.to_vec(), memory: Guarded::copy(words, against), null }
+    }
+
+    fn pointer(&mut self) -> u64 {
+        match self {
+            Lent::Bytes { null: true, .. } | Lent::Words { null: true, .. } => 0,
+            Lent::Bytes { memory, from, .. } => memory[*from..].as_mut_ptr() as u64,
+            Lent::Words { memory, .. } => memory.as_mut_ptr() as u64,
+        }
+    }
+
+    fn length(&self) -> u64 {
+        match self {
+            Lent::Bytes { before, .. } => before.len() as u64,
+            Lent::Words { before, .. } => before.len() as u64,
+        }
+    }
+
+    fn is_same(&self) -> bool {
+        match self {
+            Lent::Bytes { before, memory, from, .. } => {
+                memory[*from..*from + before.len()] == before[..]
+            }
+            Lent::Words { before, memory, .. } => memory[..] == before[..],
+        }
+    }
+
+    /// Whether the bytes around a part stayed.
+    fn stands_alone(&self) -> bool {
+        match self {
+            Lent::Bytes { before, memory, from, .. } => {
+                let (front, rest) = memory.split_at(*from);
+                front.iter().chain(&rest[before.len()..]).all(|byte| *byte == AROUND)
+            }
+            Lent::Words { .. } => true,
+        }
+    }
+}
+
+/// Calls each function on boards that calls led to and on anything else.
+pub fn run(random: &mut Random, rounds: u64) -> Checked {
+    let mut calls = 0;
+    for round in 0..rounds {
+        guard::within(PATIENCE);
+        let base = boards::base(random)?;
+        for row in TABLE {
+            for _ in 0..3 {
+                call(random, &base, row)
+                    .map_err(|why| format!("round {round}: {}: {why}", row.name))?;
+                calls += 1;
+            }
+        }
+    }
+    Ok(calls)
+}
+
+fn call(random: &mut Random, base: &Base, row: &Row) -> Result<(), String> {
+    let mut lent: Vec<(Arg, Lent)> = Vec::new();
+    let mut args: Vec<u64> = Vec::new();
+    for &arg in row.args {
+        match part(random, base, arg) {
+            Some(mut part) => {
+                args.push(part.pointer());
+                if !matches!(arg, Arg::RootOut | Arg::Table | Arg::Indices) {
+                    args.push(part.length());
+                }
+                lent.push((arg, part));
+            }
+            None => args.push(number(random, base, arg)),
+        }
+    }
+    args.resize(ARGS, random.word());
+    let a: [u64; ARGS] = args.try_into().expect("no more arguments than there is room for");
+    // SAFETY: all arguments and both results are integers or pointers, which go through the same
+    // registers and places on the stack whatever their types; arguments past the last are not looked at.
+    let Registers(first, second) = unsafe {
+        let function = std::mem::transmute::<unsafe extern "C" fn(), Function>(row.function);
+        function(
+            a[0], a[1], a[2], a[3], a[4], a[5], a[6], a[7], a[8], a[9], a[10], a[11], a[12], a[13],
+            a[14], a[15],
+        )
+    };
+    let changes_nothing = match row.answer {
+        Answer::Nothing | Answer::Word => false,
+        Answer::Bool => {
+            holds(first & 0xFF < 2, "a bool")?;
+            false
+        }
+        Answer::Numbered => {
+            row.allows(Line { number: first, value: second })?;
+            row.bare.contains(&first)
+        }
+    };
+    for (arg, part) in &lent {
+        holds(part.stands_alone(), &format!("the bytes around {arg:?} as they were"))?;
+        if changes_nothing || is_read(*arg) {
+            holds(part.is_same(), &format!("{arg:?} as it was, with {first:x}"))?;
+        }
+    }
+    Ok(())
+}
+
+fn is_read(arg: Arg) -> bool {
+    matches!(arg, Arg::Words | Arg::Fields | Arg::Bits | Arg::Marked | Arg::Table)
+}
+
+/// What a pointer lends: mostly the board's own part.
+fn part(random: &mut Random, base: &Base, arg: Arg) -> Option<Lent> {
+    let board = &base.board;
+    let bytes = match arg {
+        Arg::Fields | Arg::FieldsMut => &board.fields,
+        Arg::Bits | Arg::BitsMut => &board.bits,
+        Arg::KernelMut => &board.kernel,
+        Arg::UserMut => &board.user,
+        Arg::Marked | Arg::MarkedMut => &board.marked,
+        Arg::Words | Arg::WordsMut => {
+            let mut words = board.words.clone();
+            match random.below(16) {
+                0 => words.clear(),
+                1 => drop(words.pop()),
+                2 => words.push(random.word()),
+                3 => words.iter_mut().for_each(|word| *word = random.word()),
+                _ => {}
+            }
+            return Some(Lent::words(random, &words));
+        }
+        Arg::RootOut => return Some(Lent::words(random, &[board.root])),
+        Arg::Table => {
+            let table: Vec<u64> = (0..512).map(|_| random.word()).collect();
+            return Some(Lent::words(random, &table));
+        }
+        Arg::Indices => return Some(Lent::words(random, &[7; 4])),
+        _ => return None,
+    };
+    let mut bytes = bytes.clone();
+    match random.below(20) {
+        0 => bytes.clear(),
+        1 => drop(bytes.pop()),
+        2 => bytes.push(random.word() as u8),
+        3 => bytes.iter_mut().for_each(|byte| *byte = random.word() as u8),
+        _ => {}
+    }
+    Some(Lent::bytes(random, &bytes))
+}
+
+/// What a number is: mostly one that means something to the board.
+fn number(random: &mut Random, base: &Base, arg: Arg) -> u64 {
+    let Frames { start_frame, total, .. } = base.board.frames();
+    match arg {
+        Arg::Flag => random.below(2),
+        Arg::Signed => random.one_of(&[0, 2, 0x10, 0x12, u64::from(u32::MAX), 1 << 31]),
+        Arg::Start if random.chance(7, 8) => start_frame,
+        Arg::Total if random.chance(7, 8) => total,
+        Arg::Root if random.chance(7, 8) => base.board.root,
+        _ => any_number(random, base),
+    }
+}
+
+fn any_number(random: &mut Random, base: &Base) -> u64 {
+    let at = random.below(256) as usize;
+    let region = Kernel::unpack(&base.board.kernel).map_or(0, |list| list.slots[at % 8].start);
+    let mapped = User::unpack(&base.board.user)
+        .map_or((0, 0), |l| (l.slots[at % 8].start, l.slots[at % 8].size));
+    let page = Marked::unpack(&base.board.marked).map_or(0, |list| list.pages[at % 8]);
+    let near = [0, 1, 3, 7, PAGE, 2 * PAGE, 0x20_0000, 0x4000_0000, 1 << 47, 1 << 52];
+    let far = [KERNEL_WINDOW.0, USER_WINDOW.0, TEMPORARY, LAST, LAST + 1, u64::MAX];
+    let board =
+        [region, mapped.0, mapped.1, page, base.board.root, base.board.frames().start_frame];
+    let any = [random.word(), random.word() >> random.below(64)];
+    let pick = random.below(4);
+    random.one_of([&near[..], &far, &board, &any][pick as usize])
+}
+
+/// That the two registers of an answer are its number and its value, by a call with a known answer.
+pub fn registers() -> Result<(), String> {
+    let row = TABLE.iter().find(|row| row.name == "gadulnos_page_align_up").ok_or("no such row")?;
+    // SAFETY: as above.
+    let answer = unsafe {
+        let function = std::mem::transmute::<unsafe extern "C" fn(), Function>(row.function);
+        function(4097, 0, 0, 0, 0, 0, 0, 0, 0, 0, 0, 0, 0, 0, 0, 0)
+    };
+    equal((answer.0, answer.1), (0, 8192))
+}
