@@ -43,7 +43,7 @@ pub fn fresh_frame(words: &mut [u64], bitmap: &mut [u64; 128], frames: FrameAllo
             frames: left,
         },
         FrameAnswer::AtFrame(f) => {
-            mapper::inner::zero_frame(words, mapper::inner::entry_place(frames.start, f.0, 0));
+            mapper::inner::zero_frame(words, walk::entry_place(frames.start, f.0, 0));
             Entered {
                 walked: Walked::At(f.0),
                 frames: left,

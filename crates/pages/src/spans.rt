@@ -88,7 +88,7 @@ fn find_span(words: &[u64], start: u64, total: u64, root: Frame, virt: VirtAddr)
     let mut t = root.0;
     for level in 0..3 {
         above[level] = t;
-        match mapper::inner::entry_at(words, start, total, t, indices[level]) {
+        match walk::entry_at(words, start, total, t, indices[level]) {
             Walked::Stop(_) => return Span::Gap(to_end(virt, 3 - level as u64)),
             Walked::At(e) => {
                 t = PageTableEntry(e).addr().0 >> 12;

@@ -10,7 +10,8 @@ use Rattle.frame.specs.Frames.{frames as framesOf}
 use Rattle.paging.specs.Map.{memory, make, Roomy}
 use Rattle.paging.proofs.Walk.{next-upper, none-upper}
 use Rattle.paging.proofs.Map.{roomy-less, make-end}
-use Rattle.mapper.proofs.Laws.{onward, fewer, next-fits, slot-fits, entered-left, made-stop, made-on}
+use Rattle.walk.proofs.Laws.{onward, fewer, next-fits, slot-fits}
+use Rattle.mapper.proofs.Laws.{entered-left, made-stop, made-on}
 use borrow.Author.Needs.{needs}
 use Rattle.mapper.proofs.inner.make_tables.Statement.{statement}
 use Rattle.mapper.proofs.inner.make_tables.Tie as tie

@@ -8,9 +8,9 @@ use Rattle.frame.specs.Frames.{inside}
 use Rattle.paging.specs.Walk.{present, entryAt}
 use Rattle.paging.proofs.Walk.{entry-out, entry-in, present-yes, present-no, place-lent}
 use Rattle.frame.proofs.Laws.{passed, failed}
-use Rattle.mapper.proofs.Laws.{place-asks}
-use Rattle.mapper.proofs.inner.entry_at.Statement.{statement}
-use Rattle.mapper.proofs.inner.entry_at.Tie as tie
+use Rattle.walk.proofs.Laws.{place-asks}
+use Rattle.walk.proofs.entry_at.Statement.{statement}
+use Rattle.walk.proofs.entry_at.Tie as tie
 
 is-inside-requires : tie.Need-is-inside-requires
 is-inside-requires c κs = search needs

@@ -1,7 +1,7 @@
 -- `large_offset`: a mask of 21 ones is the remainder by 2 ^ 21.
 use lib.Bits.{and-mask}
-use Rattle.mapper.proofs.inner.large_offset.Statement.{statement}
-use Rattle.mapper.proofs.inner.large_offset.Tie as tie
+use Rattle.walk.proofs.large_offset.Statement.{statement}
+use Rattle.walk.proofs.large_offset.Tie as tie
 
 returns : tie.Need-returns
 returns c = and-mask (c .before .args .virt .0) 21

@@ -2,8 +2,8 @@
 use mathlib.Core.Path.{sym, _∙_}
 use borrow.Author.Needs.{needs}
 use Rattle.frame.proofs.Laws.{passed, failed}
-use Rattle.mapper.proofs.inner.user_entry.Statement.{statement}
-use Rattle.mapper.proofs.inner.user_entry.Tie as tie
+use Rattle.walk.proofs.user_entry.Statement.{statement}
+use Rattle.walk.proofs.user_entry.Tie as tie
 
 is-user-requires : tie.Need-is-user-requires
 is-user-requires c κs = search needs

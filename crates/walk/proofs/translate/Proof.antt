@@ -5,8 +5,8 @@ use Rattle.paging.proofs.Walk.{lent-words}
 use Rattle.paging.proofs.Calls.{translate-broken, translate-is}
 use Rattle.frame.proofs.Laws.{passed, failed}
 use borrow.Author.Needs.{needs}
-use Rattle.mapper.proofs.translate.Statement.{statement}
-use Rattle.mapper.proofs.translate.Tie as tie
+use Rattle.walk.proofs.translate.Statement.{statement}
+use Rattle.walk.proofs.translate.Tie as tie
 
 is-lent-requires : tie.Need-is-lent-requires
 is-lent-requires c κs = search needs

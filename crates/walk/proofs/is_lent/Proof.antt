@@ -3,8 +3,8 @@ use mathlib.Core.Path.{sym, _∙_}
 use native.Mathlib.Omega.{arith}
 use borrow.Author.Needs.{needs}
 use Rattle.paging.proofs.Walk.{lent-many, lent-short, lent-high, lent-rooted}
-use Rattle.mapper.proofs.is_lent.Statement.{statement}
-use Rattle.mapper.proofs.is_lent.Tie as tie
+use Rattle.walk.proofs.is_lent.Statement.{statement}
+use Rattle.walk.proofs.is_lent.Tie as tie
 
 returns : tie.Need-returns
 returns c = sym (lent-many _ _ _ _ (c .if1 .taken))

@@ -12,9 +12,9 @@ use Rattle.paging.specs.declared.Leaf.{Leaf}
 use Rattle.paging.specs.declared.Walked.the-variants.{At}
 use Rattle.paging.specs.Walk.{entryAt, leaf}
 use Rattle.paging.proofs.Walk.{next, leaf-end, leaf-stop, leaf-page, leaf-large, leaf-small, leaf-above}
-use Rattle.mapper.proofs.Laws.{leaf-shifted, onward, fewer, next-fits, slot-fits}
-use Rattle.mapper.proofs.inner.find_leaf.Statement.{statement}
-use Rattle.mapper.proofs.inner.find_leaf.Tie as tie
+use Rattle.walk.proofs.Laws.{leaf-shifted, onward, fewer, next-fits, slot-fits}
+use Rattle.walk.proofs.find_leaf.Statement.{statement}
+use Rattle.walk.proofs.find_leaf.Tie as tie
 
 abbrev Inv-loop : tie.InvT-loop
 Inv-loop words start total indices t₀ level₀ t level =

@@ -7,8 +7,8 @@ use Rattle.paging.proofs.Walk.{lent-words}
 use Rattle.paging.proofs.Calls.{may-broken, may-is}
 use Rattle.frame.proofs.Laws.{passed, failed}
 use borrow.Author.Needs.{needs}
-use Rattle.mapper.proofs.user_may.Statement.{statement}
-use Rattle.mapper.proofs.user_may.Tie as tie
+use Rattle.walk.proofs.user_may.Statement.{statement}
+use Rattle.walk.proofs.user_may.Tie as tie
 
 is-lent-requires : tie.Need-is-lent-requires
 is-lent-requires c κs = search needs

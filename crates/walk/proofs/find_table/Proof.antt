@@ -8,9 +8,9 @@ use lib.ListN.{getD, take, drop}
 use borrow.Author.Needs.{needs}
 use Rattle.paging.specs.Walk.{reach}
 use Rattle.paging.proofs.Walk.{next-upper, none-upper, reach-end, reach-stop, reach-on}
-use Rattle.mapper.proofs.Laws.{reach-shifted, onward, fewer, next-fits, slot-fits}
-use Rattle.mapper.proofs.inner.find_table.Statement.{statement}
-use Rattle.mapper.proofs.inner.find_table.Tie as tie
+use Rattle.walk.proofs.Laws.{reach-shifted, onward, fewer, next-fits, slot-fits}
+use Rattle.walk.proofs.find_table.Statement.{statement}
+use Rattle.walk.proofs.find_table.Tie as tie
 
 abbrev Inv-loop : tie.InvT-loop
 Inv-loop words start total indices t₀ level₀ t level =

@@ -5,8 +5,8 @@ use Rattle.paging.specs.declared.Leaf.{Leaf}
 use Rattle.paging.specs.Walk.{leaf, address}
 use Rattle.paging.specs.Calls.{asPhys}
 use borrow.Author.Needs.{needs}
-use Rattle.mapper.proofs.inner.walk.Statement.{statement}
-use Rattle.mapper.proofs.inner.walk.Tie as tie
+use Rattle.walk.proofs.walk.Statement.{statement}
+use Rattle.walk.proofs.walk.Tie as tie
 
 find-leaf-requires : tie.Need-find-leaf-requires
 find-leaf-requires c κs = c .before .pre
