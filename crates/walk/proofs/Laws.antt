@@ -1,30 +1,14 @@
 -- What the walks' proofs share: definitions by what code has in its hands.
-use Prim.Native.Nat.{ℕ, _+_, _*_, _-_, _/_, _<_, _≤_}
+use Prim.Native.Nat.{ℕ, _-_, _/_, _<_, _≤_}
 use mathlib.Core.Path.{_≡_, sym, _∙_, ap}
 use mathlib.Core.Bool.{true}
 use mathlib.Core.List.{List}
-use native.Mathlib.Omega.{arith}
-use mir.Syntax.{w64}
-use mir.Val.{Fits}
 use Rattle.entry.specs.Entry.{addrOf, frameOf}
 use Rattle.entry.proofs.Entry.{frame-of-addr}
 use Rattle.frame.specs.Frames.{inside}
 use Rattle.frame.proofs.Laws.{inside-from, inside-bit}
+use Rattle.paging.specs.declared.Walked.the-variants.{At}
 use Rattle.paging.specs.Walk.{reach, leaf}
-
--- a loop's counter below n: the next one, what is left, and the place in bytes of its index
-module _ (i n : ℕ) (h : i < n) where
-  pub onward : i + 1 ≤ n
-  onward = omega arith
-
-  pub fewer : n - (i + 1) < n - i
-  fewer = omega arith
-
-  pub next-fits : n ≤ 4 → Fits w64 (i + 1)
-  next-fits k = record { fits = omega arith }
-
-  pub slot-fits : n ≤ 4 → Fits w64 (i * 8)
-  slot-fits k = record { fits = omega arith }
 
 -- what `entry_place` asks of an entry of a lent table
 pub place-asks : (start total t i : ℕ) → total ≤ 8192 → inside start total t ≡ true → i < 512 → (start ≤ t) × ((t - start < 8192) × (i < 512))
@@ -33,6 +17,9 @@ place-asks start total t i few h k = (inside-from start total t h, (inside-bit s
 -- the frame that an entry names, from its address
 pub shifted : (e : ℕ) {a : ℕ} → a ≡ addrOf e → a / 4096 ≡ frameOf e
 shifted e h = ap (λ (x : ℕ). x / 4096) h ∙ frame-of-addr e
+
+pub named : (e : ℕ) {a : ℕ} → a ≡ addrOf e → At (frameOf e) ≡ At (a / 4096)
+named e h = ap At (sym (shifted e h))
 
 module _ (ws : List ℕ) (start total e : ℕ) {a : ℕ} (h : a ≡ addrOf e) (is : List ℕ) where
   pub reach-shifted : reach ws start total (frameOf e) is ≡ reach ws start total (a / 4096) is

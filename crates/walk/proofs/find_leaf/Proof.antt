@@ -12,7 +12,8 @@ use Rattle.paging.specs.declared.Leaf.{Leaf}
 use Rattle.paging.specs.declared.Walked.the-variants.{At}
 use Rattle.paging.specs.Walk.{entryAt, leaf}
 use Rattle.paging.proofs.Walk.{next, leaf-end, leaf-stop, leaf-page, leaf-large, leaf-small, leaf-above}
-use Rattle.walk.proofs.Laws.{leaf-shifted, onward, fewer, next-fits, slot-fits}
+use Rattle.walk.proofs.Laws.{leaf-shifted}
+use Rattle.bits.proofs.Counter.{onward, fewer, level-fits, slot-fits}
 use Rattle.walk.proofs.find_leaf.Statement.{statement}
 use Rattle.walk.proofs.find_leaf.Tie as tie
 
@@ -109,7 +110,7 @@ addr-requires : tie.Need-addr-requires Inv-loop μ-loop
 addr-requires c κs = search needs
 
 add-level : tie.Need-add-level Inv-loop μ-loop
-add-level c = let i = inside c in next-fits (i .before .loop .level) 4 (i .loop-test .taken) (lit≤ tt)
+add-level c = let i = inside c in level-fits (i .before .loop .level) 4 (i .loop-test .taken) (lit≤ tt)
 
 loop-less : tie.Need-loop-less Inv-loop μ-loop
 loop-less c = let i = inside c in fewer (i .before .loop .level) 4 (i .loop-test .taken)

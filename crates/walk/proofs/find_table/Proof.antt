@@ -8,7 +8,8 @@ use lib.ListN.{getD, take, drop}
 use borrow.Author.Needs.{needs}
 use Rattle.paging.specs.Walk.{reach}
 use Rattle.paging.proofs.Walk.{next-upper, none-upper, reach-end, reach-stop, reach-on}
-use Rattle.walk.proofs.Laws.{reach-shifted, onward, fewer, next-fits, slot-fits}
+use Rattle.walk.proofs.Laws.{reach-shifted}
+use Rattle.bits.proofs.Counter.{onward, fewer, level-fits, slot-fits}
 use Rattle.walk.proofs.find_table.Statement.{statement}
 use Rattle.walk.proofs.find_table.Tie as tie
 
@@ -58,7 +59,7 @@ addr-requires : tie.Need-addr-requires Inv-loop μ-loop
 addr-requires c κs = search needs
 
 add-level : tie.Need-add-level Inv-loop μ-loop
-add-level c = let i = inside c in next-fits (i .before .loop .level) 3 (i .loop-test .taken) (lit≤ tt)
+add-level c = let i = inside c in level-fits (i .before .loop .level) 3 (i .loop-test .taken) (lit≤ tt)
 
 loop-less : tie.Need-loop-less Inv-loop μ-loop
 loop-less c = let i = inside c in fewer (i .before .loop .level) 3 (i .loop-test .taken)

@@ -13,10 +13,11 @@ use Rattle.frame.proofs.Laws.{passed, failed}
 use Rattle.paging.specs.declared.Walked.the-variants.{At}
 use Rattle.paging.specs.Walk.{reach}
 use Rattle.paging.proofs.Walk.{reach-end}
-use Rattle.pages.proofs.Laws.{onward, fewer, next-fits, slot-fits, named}
-use Rattle.pages.proofs.Gaps.{gap-absent, gap-outside, leaves-found, above-more, further}
-use Rattle.pages.proofs.spans.find_span.Statement.{statement}
-use Rattle.pages.proofs.spans.find_span.Tie as tie
+use Rattle.bits.proofs.Counter.{onward, fewer, next-fits, slot-fits}
+use Rattle.walk.proofs.Laws.{named}
+use Rattle.spans.proofs.Gaps.{gap-absent, gap-outside, leaves-found, above-more, further}
+use Rattle.spans.proofs.find_span.Statement.{statement}
+use Rattle.spans.proofs.find_span.Tie as tie
 
 abbrev Inv-loop : tie.InvT-loop
 Inv-loop words start total virt indices above₀ t₀ level₀ above t level =

@@ -6,11 +6,11 @@ use lib.ListN.{length}
 use borrow.Author.Needs.{needs}
 use Rattle.frame.specs.Frames.{frames as framesOf}
 use Rattle.paging.specs.Map.{memory, Roomy}
-use Rattle.pages.specs.Spans.{freeLeaves}
-use Rattle.pages.proofs.Laws.{onward, fewer, next-fits}
+use Rattle.pages.specs.Freeing.{freeLeaves}
+use Rattle.bits.proofs.Counter.{onward, fewer, next-fits}
 use Rattle.pages.proofs.Leaves.{leaf-left, leaves-on, leaves-end}
-use Rattle.pages.proofs.spans.free_leaves.Statement.{statement}
-use Rattle.pages.proofs.spans.free_leaves.Tie as tie
+use Rattle.pages.proofs.freeing.free_leaves.Statement.{statement}
+use Rattle.pages.proofs.freeing.free_leaves.Tie as tie
 
 abbrev Inv-loop : tie.InvT-loop
 Inv-loop words₀ bitmap₀ t i n left₀ j₀ words bitmap left j =

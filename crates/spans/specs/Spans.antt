@@ -1,34 +1,16 @@
--- Parts of a run of pages that are freed at once: leaves of one table, or pages that are not mapped.
-use Prim.Native.Nat.{ℕ, zero, suc, _+_, _-_, _*_, _/_, _%_, _^_, _<_, _≤_}
+-- What there is at a page: leaves of one table, or pages that are not mapped.
+use Prim.Native.Nat.{ℕ, suc, _+_, _-_, _*_, _/_, _%_, _^_, _<_, _≤_}
 use mathlib.Core.Path.{_≡_}
-use mathlib.Core.Bool.{true, false}
+use mathlib.Core.Bool.{true}
 use mathlib.Core.List.{List}
 use mathlib.Core.Logic.{_⊎_}
 use lib.ListN.{getD, take}
-use Rattle.bits.specs.Bit.{flag}
-use Rattle.bitmap.specs.Bitmap.{marked}
 use Rattle.entry.specs.Entry.{indices}
 use Rattle.frame.specs.Frames.{inside}
 use Rattle.paging.specs.declared.Walked.the-variants.{At, Stop}
 use Rattle.paging.specs.Walk.{reach}
-use Rattle.paging.specs.Map.{Memory, memory, startOf, totalOf, takeLeaf}
-use Rattle.paging.specs.Pages.{freed}
-use Rattle.pages.specs.declared.spans.Span.{Span}
-use Rattle.pages.specs.declared.spans.Span.the-variants.{Leaves, Gap}
-
--- the leaf at entry i of table t, cleared, and its frame freed
-unfoldable pub freeLeaf : Memory → ℕ → ℕ → Memory
-freeLeaf m t i =
-    memory (takeLeaf (m .words) (startOf m) (totalOf m) t i .words) (freed (takeLeaf (m .words) (startOf m) (totalOf m) t i .walked) (m .frames))
-
--- n leaves from entry i on, one after the other
-unfoldable pub freeLeaves : Memory → ℕ → ℕ → ℕ → Memory
-freeLeaves m t i zero = m
-freeLeaves m t i (suc n) = freeLeaves (freeLeaf m t i) t (suc i) n
-
--- of the frames that bm marks, by their place among those lent, no word is a present entry
-pub record Blank (ws bm : List ℕ) : Type 0 where
-  pub absent : (j : ℕ) → marked bm j ≡ 1 → (x : ℕ) → x < 512 → flag 0 (getD ws (j * 512 + x) 0) ≡ false
+use Rattle.spans.specs.declared.Span.{Span}
+use Rattle.spans.specs.declared.Span.the-variants.{Leaves, Gap}
 
 -- the pages from address v on to the end of the span of an entry that has d levels below it
 abbrev pub toEnd : ℕ → ℕ → ℕ

@@ -8,8 +8,8 @@ use Rattle.frame.specs.Frames.{frames}
 use Rattle.paging.specs.Map.{memory}
 use Rattle.frame.proofs.Laws.{inside-from, inside-bit}
 use Rattle.pages.proofs.Blanks.{blank-pass, blank-left, blank-more}
-use Rattle.pages.proofs.spans.free_table.Statement.{statement}
-use Rattle.pages.proofs.spans.free_table.Tie as tie
+use Rattle.pages.proofs.freeing.free_table.Statement.{statement}
+use Rattle.pages.proofs.freeing.free_table.Tie as tie
 
 sub-place : tie.Need-sub-place
 sub-place c = inside-from _ _ _ (c .before .before .pre .1 .1 .0)

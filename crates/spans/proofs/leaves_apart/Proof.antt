@@ -8,9 +8,9 @@ use lib.ListN.{getD}
 use mir.Facts.{fits-lit}
 use borrow.Author.Count.{below-more}
 use borrow.Author.Needs.{needs}
-use Rattle.pages.proofs.Laws.{onward, fewer, next-fits}
-use Rattle.pages.proofs.spans.leaves_apart.Statement.{statement}
-use Rattle.pages.proofs.spans.leaves_apart.Tie as tie
+use Rattle.bits.proofs.Counter.{onward, fewer, next-fits}
+use Rattle.spans.proofs.leaves_apart.Statement.{statement}
+use Rattle.spans.proofs.leaves_apart.Tie as tie
 
 -- the entries on the way down to a level, if they are entries of table t, come before the leaves from `from` to `end`, or are not before the last of them
 abbrev Passed : List ℕ → List ℕ → ℕ → ℕ → ℕ → ℕ → Type 0

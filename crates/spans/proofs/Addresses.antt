@@ -8,7 +8,7 @@ use lib.ListN.{take}
 use lib.Pow.{pow-pos, shr-shr, field, mod-mod-pow}
 use Rattle.entry.specs.Entry.{index, indices}
 use Rattle.tree.proofs.Paths.{upper, last}
-use Rattle.pages.specs.Spans.{toEnd}
+use Rattle.spans.specs.Spans.{toEnd}
 
 -- ---- an address's indices say no more than its page number, modulo the number of pages
 

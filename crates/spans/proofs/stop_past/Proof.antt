@@ -1,8 +1,8 @@
 -- `stop_past`: the end stays where i comes before the leaves or after them.
 use mathlib.Core.Logic.{inl, inr}
 use borrow.Author.Needs.{needs}
-use Rattle.pages.proofs.spans.stop_past.Statement.{statement}
-use Rattle.pages.proofs.spans.stop_past.Tie as tie
+use Rattle.spans.proofs.stop_past.Statement.{statement}
+use Rattle.spans.proofs.stop_past.Tie as tie
 
 returns : tie.Need-returns
 returns c = (search needs, (search needs, inl (c .if1 .taken)))

@@ -7,8 +7,8 @@ use mathlib.Core.List.{List}
 use lib.ListN.{getD}
 use borrow.Author.Needs.{needs}
 use Rattle.pages.proofs.Steps.{is-gap, is-leaves, gap-step, leaves-fit, leaves-step}
-use Rattle.pages.proofs.spans.free_span.Statement.{statement}
-use Rattle.pages.proofs.spans.free_span.Tie as tie
+use Rattle.pages.proofs.freeing.free_span.Statement.{statement}
+use Rattle.pages.proofs.freeing.free_span.Tie as tie
 
 find-span-requires : tie.Need-find-span-requires
 find-span-requires c κs = search needs

@@ -19,8 +19,8 @@ use Rattle.paging.specs.declared.Walked.the-variants.{At, Stop}
 use Rattle.paging.specs.Walk.{entryAt, reach}
 use Rattle.paging.proofs.Walk.{entry-out}
 use Rattle.tree.proofs.Walks.{reach-step, reach-stuck}
-use Rattle.pages.specs.Spans.{toEnd, Off, IsGap, IsLeaves}
-use Rattle.pages.proofs.Addresses.{same-above, span-above, to-end-some}
+use Rattle.spans.specs.Spans.{toEnd, Off, IsGap, IsLeaves}
+use Rattle.spans.proofs.Addresses.{same-above, span-above, to-end-some}
 
 -- ---- a gap
 

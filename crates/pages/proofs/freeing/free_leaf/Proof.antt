@@ -5,8 +5,8 @@ use Rattle.frame.specs.Frames.{frames}
 use Rattle.paging.specs.Map.{memory}
 use Rattle.pages.proofs.Laws.{unmapped, given-back}
 use Rattle.pages.proofs.Leaves.{leaf-none, leaf-freed}
-use Rattle.pages.proofs.spans.free_leaf.Statement.{statement}
-use Rattle.pages.proofs.spans.free_leaf.Tie as tie
+use Rattle.pages.proofs.freeing.free_leaf.Statement.{statement}
+use Rattle.pages.proofs.freeing.free_leaf.Tie as tie
 
 take-leaf-requires : tie.Need-take-leaf-requires
 take-leaf-requires c κs = search needs

@@ -4,9 +4,9 @@ use native.Mathlib.Nat.{mod-lt}
 use native.Mathlib.Omega.{arith}
 use lib.Pow.{pow-pos}
 use borrow.Author.Needs.{needs}
-use Rattle.pages.proofs.Gaps.{width-is, within-is}
-use Rattle.pages.proofs.spans.to_end.Statement.{statement}
-use Rattle.pages.proofs.spans.to_end.Tie as tie
+use Rattle.spans.proofs.Gaps.{width-is, within-is}
+use Rattle.spans.proofs.to_end.Statement.{statement}
+use Rattle.spans.proofs.to_end.Tie as tie
 
 mul-width : tie.Need-mul-width
 mul-width c = search needs
