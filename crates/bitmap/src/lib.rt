@@ -1,20 +1,21 @@
-// A set of 8192 numbers in 128 words: bit i % 64 of word i / 64 is 1 where i is marked.
+// A set of numbers in words, 64 to a word: bit i % 64 of word i / 64 is 1 where i is marked.
 ghost use mathlib.Core.Path.{_≡_};
-ghost use Prim.Native.Nat.{ℕ, _<_, _≤_};
+ghost use mathlib.Core.Bool.{true};
+ghost use Prim.Native.Nat.{ℕ, _+_, _*_, _^_, _<_, _≤_};
 ghost use lib.ListN.{length, getD, replicate};
 ghost use lib.Count.{ones as onesOf};
 ghost use Rattle.bits.specs.Bit.{bit};
 ghost use Rattle.bitmap.specs.Bitmap.{marked, isMarked, freeFrom, mark as marking, unmark as unmarking, count as countBelow};
 
-pub fn is_marked(bitmap: &[u64; 128], i: usize) -> bool
-    requires { ⌜ i < 8192 ⌝ }
+pub fn is_marked(bitmap: &[u64], i: usize) -> bool
+    requires { ⌜ i < 64 * length (now bitmap) ⌝ }
     ensures { λ r. ⌜ r ≡ isMarked (now (bitmap .entry)) i ⌝ }
 {
     bitmap[i / 64] & (1 << (i % 64)) != 0
 }
 
-pub fn mark(bitmap: &mut [u64; 128], i: usize)
-    requires { ⌜ i < 8192 ⌝ }
+pub fn mark(bitmap: &mut [u64], i: usize)
+    requires { ⌜ i < 64 * length (now bitmap) ⌝ }
     requires { ⌜ marked (now bitmap) i ≡ 0 ⌝ }
     ensures { λ _. ⌜ now (bitmap .exit) ≡ marking (now (bitmap .entry)) i ⌝ }
 {
@@ -22,16 +23,16 @@ pub fn mark(bitmap: &mut [u64; 128], i: usize)
     bitmap[k] = bitmap[k] | (1 << (i % 64));
 }
 
-// Word k, by a call: what a call gives is known to fit its type, which a proof does not know of a word behind a reference to an array.
-fn word(bitmap: &[u64; 128], k: usize) -> u64
-    requires { ⌜ k < 128 ⌝ }
+// Word k, by a call: what a call gives is known to fit its type.
+fn word(bitmap: &[u64], k: usize) -> u64
+    requires { ⌜ k < length (now bitmap) ⌝ }
     ensures { λ r. ⌜ r ≡ getD (now (bitmap .entry)) k 0 ⌝ }
 {
     bitmap[k]
 }
 
-pub fn unmark(bitmap: &mut [u64; 128], i: usize)
-    requires { ⌜ i < 8192 ⌝ }
+pub fn unmark(bitmap: &mut [u64], i: usize)
+    requires { ⌜ i < 64 * length (now bitmap) ⌝ }
     requires { ⌜ marked (now bitmap) i ≡ 1 ⌝ }
     ensures { λ _. ⌜ now (bitmap .exit) ≡ unmarking (now (bitmap .entry)) i ⌝ }
 {
@@ -50,8 +51,9 @@ fn marked_run(w: u64) -> usize
 }
 
 // The lowest number below n that is not marked, n if there is none: full words are passed over whole.
-pub fn lowest_free(bitmap: &[u64; 128], n: usize) -> usize
-    requires { ⌜ n ≤ 8192 ⌝ }
+pub fn lowest_free(bitmap: &[u64], n: usize) -> usize
+    requires { ⌜ n ≤ 64 * length (now bitmap) ⌝ }
+    requires { ⌜ n < 2 ^ 63 ⌝ }
     ensures { λ r. ⌜ r ≡ freeFrom (now (bitmap .entry)) 0 n ⌝ }
 {
     let mut k = 0;
@@ -76,21 +78,87 @@ fn ones(w: u64) -> usize
     u64::count_ones(w) as usize
 }
 
+// How many of the first n words have every bit marked before the first that has not.
+fn full_words(bitmap: &[u64], n: usize) -> usize
+    requires { ⌜ n ≤ length (now bitmap) ⌝ }
+    ensures { λ r. ⌜ r ≤ n ⌝ }
+    ensures { λ r. ⌜ countBelow (now (bitmap .entry)) (r * 64) ≡ r * 64 ⌝ }
+{
+    let mut k = 0;
+    while k < n {
+        if word(bitmap, k) != 0xFFFF_FFFF_FFFF_FFFF {
+            return k;
+        }
+        k += 1;
+    }
+    k
+}
+
+// Whether no bit of the words from `from` up to `end` is marked. One flag is tested at the end, since a test for each word takes longer.
+fn is_clear(bitmap: &[u64], from: usize, end: usize) -> bool
+    requires { ⌜ from ≤ end ⌝ }
+    requires { ⌜ end ≤ length (now bitmap) ⌝ }
+    ensures { λ r. ⌜ (r ≡ true → countBelow (now (bitmap .entry)) (end * 64) ≡ countBelow (now (bitmap .entry)) (from * 64)) ⌝ }
+{
+    let mut any: u64 = 0;
+    for k in from..end {
+        any = any | word(bitmap, k);
+    }
+    any == 0
+}
+
+// How many bits of the words from `from` up to `end` are marked.
+fn count_words(bitmap: &[u64], from: usize, end: usize) -> usize
+    requires { ⌜ from ≤ end ⌝ }
+    requires { ⌜ end ≤ length (now bitmap) ⌝ }
+    requires { ⌜ end < 2 ^ 58 ⌝ }
+    ensures { λ r. ⌜ countBelow (now (bitmap .entry)) (from * 64) + r ≡ countBelow (now (bitmap .entry)) (end * 64) ⌝ }
+{
+    let mut sum = 0;
+    for k in from..end {
+        sum += ones(word(bitmap, k));
+    }
+    sum
+}
+
+// Where a count that starts at word `full` stops if nothing is marked behind: eight words on, or at the end.
+fn near(full: usize, end: usize) -> usize
+    requires { ⌜ full ≤ end ⌝ }
+    ensures { λ r. ⌜ full ≤ r ⌝ }
+    ensures { λ r. ⌜ r ≤ end ⌝ }
+{
+    if end - full < 8 {
+        return end;
+    }
+    full + 8
+}
+
+// How many bits of the first n words are marked. Full words at the front and clear ones at the end, which is how frames are taken, are not counted bit by bit.
+fn count_whole(bitmap: &[u64], n: usize) -> usize
+    requires { ⌜ n ≤ length (now bitmap) ⌝ }
+    requires { ⌜ n < 2 ^ 58 ⌝ }
+    ensures { λ r. ⌜ r ≡ countBelow (now (bitmap .entry)) (n * 64) ⌝ }
+{
+    let full = full_words(bitmap, n);
+    let end = near(full, n);
+    if is_clear(bitmap, end, n) {
+        return full * 64 + count_words(bitmap, full, end);
+    }
+    full * 64 + count_words(bitmap, full, n)
+}
+
 // How many numbers below n are marked: whole words first, then the bits of the last one.
-pub fn count(bitmap: &[u64; 128], n: usize) -> usize
-    requires { ⌜ n ≤ 8192 ⌝ }
+pub fn count(bitmap: &[u64], n: usize) -> usize
+    requires { ⌜ n ≤ 64 * length (now bitmap) ⌝ }
     ensures { λ r. ⌜ r ≡ countBelow (now (bitmap .entry)) n ⌝ }
 {
     let whole = n / 64;
     let rest = n % 64;
-    let mut sum = 0;
-    for k in 0..whole {
-        sum += ones(word(bitmap, k));
+    let sum = count_whole(bitmap, whole);
+    if rest == 0 {
+        return sum;
     }
-    if rest != 0 {
-        sum += ones(bitmap[whole] & ((1 << rest) - 1));
-    }
-    sum
+    sum + ones(bitmap[whole] & ((1 << rest) - 1))
 }
 
 pub fn clear_all(bitmap: &mut [u64; 128])

@@ -2,3 +2,4 @@ pub mod Choice
 pub mod Masks
 pub mod Single
 pub mod Counts
+pub mod Counter

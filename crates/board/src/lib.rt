@@ -90,7 +90,7 @@ fn begin(
             records,
         },
         FrameAnswer::AtFrame(root) => {
-            mapper::inner::zero_frame(words, mapper::inner::entry_place(frames.start, root.0, 0));
+            mapper::inner::zero_frame(words, walk::entry_place(frames.start, root.0, 0));
             clear_marked(marked);
             let kernel = VMAllocator::new();
             let user = MemoryMapper::new();

@@ -27,7 +27,7 @@ pub extern "C" fn gadulnos_translate(
 ) -> Line
     ensures { λ r. ⌜ r ≡ physLine (asPhys (translate 3 (now (words .entry)) start total root virt)) ⌝ }
 {
-    address::phys_line(mapper::translate(words, start, total, Frame(root), VirtAddr(virt)))
+    address::phys_line(walk::translate(words, start, total, Frame(root), VirtAddr(virt)))
 }
 
 #[no_mangle]
@@ -41,7 +41,7 @@ pub extern "C" fn gadulnos_user_may(
 ) -> Line
     ensures { λ r. ⌜ r ≡ flagLine (userMay 3 (now (words .entry)) start total root virt write) ⌝ }
 {
-    answer::flag_line(mapper::user_may(words, start, total, Frame(root), VirtAddr(virt), write))
+    answer::flag_line(walk::user_may(words, start, total, Frame(root), VirtAddr(virt), write))
 }
 
 fn map_page_in(

@@ -168,7 +168,7 @@ fn clear_if_mapped(words: &mut [u64], frames: FrameAllocator, root: Frame, virt:
     requires { ⌜ Lent (now words) (frames .start) (frames .total) ⌝ }
     ensures { λ _. ⌜ ((b : List ℕ) → let m = memory (now (words .entry)) (framesOf b frames) in memory (now (words .exit)) (framesOf b frames) ≡ clearedIf (translated 3 m (root .0) (virt .0)) 3 m (root .0) (virt .0)) ⌝ }
 {
-    match mapper::inner::walk(words, frames.start, frames.total, root, virt) {
+    match walk::walk(words, frames.start, frames.total, root, virt) {
         PhysAnswer::AtPhys(_) => {
             pages::clear_page(words, frames, root, virt);
         }
@@ -188,15 +188,15 @@ fn copy_from(
     requires { ⌜ inside (frames .start) (frames .total) f ≡ true ⌝ }
     ensures { λ r. ⌜ ((b : List ℕ) → let m = memory (now (words .entry)) (framesOf b frames) in out r (memory (now (words .exit)) (framesOf b frames)) ≡ copiedFrom m (translated 3 m (root .0) (page .0)) f) ⌝ }
 {
-    match mapper::inner::walk(words, frames.start, frames.total, root, page) {
+    match walk::walk(words, frames.start, frames.total, root, page) {
         PhysAnswer::NoPhys(_) => Walked::Stop(answer::PAGE_TABLE_ERROR),
         PhysAnswer::AtPhys(a) => {
             let old = Frame::containing_address(a.0).0;
             if !frame::inner::is_inside(frames.start, frames.total, old) {
                 return Walked::Stop(answer::PAGE_TABLE_ERROR);
             }
-            let from = mapper::inner::entry_place(frames.start, old, 0);
-            let to = mapper::inner::entry_place(frames.start, f, 0);
+            let from = walk::entry_place(frames.start, old, 0);
+            let to = walk::entry_place(frames.start, f, 0);
             copy_words(words, from, to);
             Walked::At(0)
         }

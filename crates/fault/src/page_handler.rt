@@ -30,9 +30,9 @@ fn put_over(words: &mut [u64], frames: FrameAllocator, t: u64, i: usize, e: u64,
     if !frame::inner::is_inside(frames.start, frames.total, t) {
         return Walked::Stop(answer::OUTSIDE);
     }
-    let at = mapper::inner::entry_place(frames.start, t, i);
+    let at = walk::entry_place(frames.start, t, i);
     words[at] = e;
-    mapper::inner::zero_frame(words, mapper::inner::entry_place(frames.start, f, 0));
+    mapper::inner::zero_frame(words, walk::entry_place(frames.start, f, 0));
     Walked::At(0)
 }
 

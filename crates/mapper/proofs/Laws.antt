@@ -30,39 +30,11 @@ use Rattle.paging.specs.Map.{Memory, memory, startOf, totalOf, Out, out, clear,
 use Rattle.paging.specs.Calls.{asAnswer, changed, whole, sizeOf, tablesAbove, mapAt, mapPage, mapHuge}
 use Rattle.paging.proofs.Map.{roomy-less, taken-inside, create-new, create-full, enter-there, enter-absent, enter-roomy, make-stop, make-on, make-roomy, map-entry-stop, map-entry-put, put-full, put-free, take-leaf-none, take-leaf-there}
 use Rattle.paging.proofs.Calls.{told, told-left, map-is, huge-is}
-
--- a loop's counter below n: the next one, what is left, and the place in bytes of its index
-module _ (i n : ℕ) (h : i < n) where
-  pub onward : i + 1 ≤ n
-  onward = omega arith
-
-  pub fewer : n - (i + 1) < n - i
-  fewer = omega arith
-
-  pub next-fits : n ≤ 4 → Fits w64 (i + 1)
-  next-fits k = record { fits = omega arith }
-
-  pub slot-fits : n ≤ 4 → Fits w64 (i * 8)
-  slot-fits k = record { fits = omega arith }
-
--- what `entry_place` asks of an entry of a lent table
-pub place-asks : (start total t i : ℕ) → total ≤ 8192 → inside start total t ≡ true → i < 512 → (start ≤ t) × ((t - start < 8192) × (i < 512))
-place-asks start total t i few h k = (inside-from start total t h, (inside-bit start total t few h, k))
+use Rattle.walk.proofs.Laws.{shifted}
 
 -- what a call says of an outcome, part by part
 abbrev Told : Changed → List ℕ → List ℕ → Out → Type 0
 Told r ws bm o = (r ≡ changed o) × ((ws ≡ o .mem .words) × (bm ≡ o .mem .frames .bits))
-
--- the frame that an entry names, from its address
-pub shifted : (e : ℕ) {a : ℕ} → a ≡ addrOf e → a / 4096 ≡ frameOf e
-shifted e h = ap (λ (x : ℕ). x / 4096) h ∙ frame-of-addr e
-
-module _ (ws : List ℕ) (start total e : ℕ) {a : ℕ} (h : a ≡ addrOf e) (is : List ℕ) where
-  pub reach-shifted : reach ws start total (frameOf e) is ≡ reach ws start total (a / 4096) is
-  reach-shifted = ap (λ (f : ℕ). reach ws start total f is) (sym (shifted e h))
-
-  pub leaf-shifted : leaf ws start total (frameOf e) is ≡ leaf ws start total (a / 4096) is
-  leaf-shifted = ap (λ (f : ℕ). leaf ws start total f is) (sym (shifted e h))
 
 -- an entry of a lent table, at word p
 module _ (start t i : ℕ) {p : ℕ} (q : p ≡ place start t i) (ws : List ℕ) (total : ℕ) (h : inside start total t ≡ true) where

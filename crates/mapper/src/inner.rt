@@ -2,7 +2,6 @@
 use address::Frame;
 use address::FrameAnswer;
 use address::PhysAddr;
-use address::PhysAnswer;
 use address::VirtAddr;
 use answer::Answer;
 use entry::paging::PageTableEntry;
@@ -10,102 +9,15 @@ use frame::Changed;
 use frame::FrameAllocator;
 use paging::Entered;
 use paging::HugePageSize;
-use paging::Leaf;
 use paging::Walked;
 ghost use mathlib.Core.Path.{_≡_};
-ghost use Prim.Native.Nat.{ℕ, _+_, _-_, _%_, _^_, _<_, _≤_};
+ghost use Prim.Native.Nat.{ℕ, _+_, _<_, _≤_};
 ghost use lib.ListN.{length, getD, take};
 ghost use Rattle.entry.specs.Entry.{indices as indicesOf};
 ghost use Rattle.frame.specs.Frames.{frames as framesOf};
-ghost use Rattle.paging.specs.Walk.{place, entryAt, reach, leaf, address, Lent};
+ghost use Rattle.paging.specs.Walk.{Lent};
 ghost use Rattle.paging.specs.Map.{memory, out, clear, create, enter as entered, make, putEntry, takeLeaf, unmapEntry, Roomy};
-ghost use Rattle.paging.specs.Calls.{asAnswer, asPhys, changed, mapAt, userLeaf, tablesAbove};
-
-// The word number of entry i of table t, which is lent.
-pub fn entry_place(start: u64, t: u64, i: usize) -> usize
-    requires { ⌜ start ≤ t ⌝ }
-    requires { ⌜ t - start < 8192 ⌝ }
-    requires { ⌜ i < 512 ⌝ }
-    ensures { λ r. ⌜ r ≡ place start t i ⌝ }
-{
-    ((t - start) as usize) * 512 + i
-}
-
-// The present word at entry i of table t.
-pub fn entry_at(words: &[u64], start: u64, total: u64, t: u64, i: usize) -> Walked
-    requires { ⌜ Lent (now words) start total ⌝ }
-    requires { ⌜ i < 512 ⌝ }
-    ensures { λ r. ⌜ r ≡ entryAt (now (words .entry)) start total t i ⌝ }
-{
-    if !frame::inner::is_inside(start, total, t) {
-        return Walked::Stop(answer::OUTSIDE);
-    }
-    let e = words[entry_place(start, t, i)];
-    if PageTableEntry(e).is_present() {
-        return Walked::At(e);
-    }
-    Walked::Stop(answer::NOT_MAPPED)
-}
-
-// The entry that a translation ends at. Only the third level looks at HUGE.
-pub fn find_leaf(words: &[u64], start: u64, total: u64, root: Frame, virt: VirtAddr) -> Leaf
-    requires { ⌜ Lent (now words) start total ⌝ }
-    ensures { λ r. ⌜ r ≡ leaf (now (words .entry)) start total (root .0) (indicesOf 4 (virt .0)) ⌝ }
-{
-    let indices = entry::page_indices(virt);
-    let mut t = root.0;
-    for level in 0..4 {
-        match entry_at(words, start, total, t, indices[level]) {
-            Walked::Stop(n) => return Leaf::NoLeaf(n),
-            Walked::At(e) => {
-                if level == 3 {
-                    return Leaf::Page(e);
-                }
-                if level == 2 && PageTableEntry(e).is_huge() {
-                    return Leaf::Large(e);
-                }
-                t = PageTableEntry(e).addr().0 >> 12;
-            }
-        }
-    }
-    Leaf::NoLeaf(answer::NOT_MAPPED)
-}
-
-// An address's place within a large page.
-fn large_offset(virt: VirtAddr) -> u64
-    ensures { λ r. ⌜ r ≡ virt .0 % 2 ^ 21 ⌝ }
-{
-    virt.0 & 0x1F_FFFF
-}
-
-// From a virtual address to the physical one.
-pub fn walk(words: &[u64], start: u64, total: u64, root: Frame, virt: VirtAddr) -> PhysAnswer
-    requires { ⌜ Lent (now words) start total ⌝ }
-    ensures { λ r. ⌜ r ≡ asPhys (address (virt .0) (leaf (now (words .entry)) start total (root .0) (indicesOf 4 (virt .0)))) ⌝ }
-{
-    match find_leaf(words, start, total, root, virt) {
-        Leaf::Page(e) => {
-            PhysAnswer::AtPhys(PhysAddr(PageTableEntry(e).addr().0 + virt.page_offset()))
-        }
-        Leaf::Large(e) => {
-            PhysAnswer::AtPhys(PhysAddr(PageTableEntry(e).addr().0 + large_offset(virt)))
-        }
-        Leaf::NoLeaf(n) => PhysAnswer::NoPhys(n),
-    }
-}
-
-// Whether a leaf lets user code read, or write.
-pub fn user_entry(e: PageTableEntry, write: bool) -> bool
-    ensures { λ r. ⌜ r ≡ userLeaf write (Leaf.Page (e .0)) ⌝ }
-{
-    if !e.is_user() {
-        return false;
-    }
-    if write {
-        return e.is_writable();
-    }
-    true
-}
+ghost use Rattle.paging.specs.Calls.{asAnswer, changed, mapAt, tablesAbove};
 
 // All 512 words of a frame, from word `at` on.
 pub fn zero_frame(words: &mut [u64], at: usize)
@@ -138,7 +50,7 @@ fn create_table(
             frames: left,
         },
         FrameAnswer::AtFrame(f) => {
-            zero_frame(words, entry_place(frames.start, f.0, 0));
+            zero_frame(words, walk::entry_place(frames.start, f.0, 0));
             words[at] = PageTableEntry::set(PhysAddr(f.start_address()), true, user).0;
             Entered {
                 walked: Walked::At(f.0),
@@ -167,7 +79,7 @@ pub fn enter(
             frames,
         };
     }
-    let at = entry_place(frames.start, t, i);
+    let at = walk::entry_place(frames.start, t, i);
     let e = words[at];
     if PageTableEntry(e).is_present() {
         return Entered {
@@ -188,7 +100,7 @@ pub fn put_entry(words: &mut [u64], start: u64, total: u64, t: u64, i: usize, e:
     if !frame::inner::is_inside(start, total, t) {
         return Walked::Stop(answer::OUTSIDE);
     }
-    let at = entry_place(start, t, i);
+    let at = walk::entry_place(start, t, i);
     if PageTableEntry(words[at]).is_present() {
         return Walked::Stop(answer::ALREADY_MAPPED);
     }
@@ -291,24 +203,6 @@ pub fn map_entry(
     }
 }
 
-// The last table on the way to a page.
-pub fn find_table(words: &[u64], start: u64, total: u64, root: Frame, indices: [usize; 4]) -> Walked
-    requires { ⌜ Lent (now words) start total ⌝ }
-    requires { ⌜ ((k : ℕ) → getD indices k 0 < 512) ⌝ }
-    ensures { λ r. ⌜ r ≡ reach (now (words .entry)) start total (root .0) (take 3 indices) ⌝ }
-{
-    let mut t = root.0;
-    for level in 0..3 {
-        match entry_at(words, start, total, t, indices[level]) {
-            Walked::Stop(n) => return Walked::Stop(n),
-            Walked::At(e) => {
-                t = PageTableEntry(e).addr().0 >> 12;
-            }
-        }
-    }
-    Walked::At(t)
-}
-
 // The leaf at entry i of table t, cleared; it comes to the frame that the leaf named.
 pub fn take_leaf(words: &mut [u64], start: u64, total: u64, t: u64, i: usize) -> Walked
     requires { ⌜ Lent (now words) start total ⌝ }
@@ -319,7 +213,7 @@ pub fn take_leaf(words: &mut [u64], start: u64, total: u64, t: u64, i: usize) ->
     if !frame::inner::is_inside(start, total, t) {
         return Walked::Stop(answer::OUTSIDE);
     }
-    let at = entry_place(start, t, i);
+    let at = walk::entry_place(start, t, i);
     let e = words[at];
     if !PageTableEntry(e).is_present() {
         return Walked::Stop(answer::NOT_MAPPED);
@@ -335,7 +229,7 @@ pub fn unmap_leaf(words: &mut [u64], start: u64, total: u64, root: Frame, virt: 
     ensures { λ r. ⌜ now (words .exit) ≡ unmapEntry (now (words .entry)) start total (root .0) (take 3 (indicesOf 4 (virt .0))) (getD (indicesOf 4 (virt .0)) 3 0) .words ⌝ }
 {
     let indices = entry::page_indices(virt);
-    match find_table(words, start, total, root, indices) {
+    match walk::find_table(words, start, total, root, indices) {
         Walked::Stop(n) => Walked::Stop(n),
         Walked::At(t) => take_leaf(words, start, total, t, indices[3]),
     }

@@ -4,76 +4,26 @@ pub mod inner;
 use address::Frame;
 use address::FrameAnswer;
 use address::PhysAddr;
-use address::PhysAnswer;
 use address::VirtAddr;
 use answer::Answer;
-use answer::FlagAnswer;
 use entry::paging::PageTableEntry;
 use frame::Changed;
 use frame::FrameAllocator;
 use paging::HugePageSize;
-use paging::Leaf;
 use paging::Walked;
 ghost use mathlib.Core.Path.{_≡_};
 ghost use Rattle.frame.specs.Frames.{frames as framesOf};
-ghost use Rattle.paging.specs.Walk.{lent};
 ghost use Rattle.paging.specs.Map.{memory};
-ghost use Rattle.paging.specs.Calls.{asPhys, asFrame, changed, whole, translate as translated, userMay, mapPage, mapHuge, unmapPage};
+ghost use Rattle.paging.specs.Calls.{asFrame, changed, whole, mapPage, mapHuge, unmapPage};
 
-// Whether a walk can start: the frames lent are those of a record that is not broken.
-pub fn is_lent(len: usize, start: u64, total: u64, root: Frame) -> bool
-    ensures { λ r. ⌜ r ≡ lent len start total (root .0) ⌝ }
-{
-    if total > frame::MAX_FRAMES {
-        return false;
-    }
-    if (total as usize) * 512 > len {
-        return false;
-    }
-    if start > frame::LAST_FRAME - total {
-        return false;
-    }
-    frame::inner::is_inside(start, total, root.0)
-}
-
-// The same of all that a call which takes frames is lent.
+// Whether all that a call which takes frames is lent is sound: what a walk needs, and the frame record.
 pub fn is_whole(words: &[u64], bitmap: &[u64; 128], frames: FrameAllocator, root: Frame) -> bool
     ensures { λ r. ⌜ r ≡ whole (memory (now (words .entry)) (framesOf (now (bitmap .entry)) frames)) (root .0) ⌝ }
 {
-    if !is_lent(words.len(), frames.start, frames.total, root) {
+    if !walk::is_lent(words.len(), frames.start, frames.total, root) {
         return false;
     }
     frames.is_sound(bitmap)
-}
-
-pub fn translate(words: &[u64], start: u64, total: u64, root: Frame, virt: VirtAddr) -> PhysAnswer
-    ensures { λ r. ⌜ r ≡ asPhys (translated 3 (now (words .entry)) start total (root .0) (virt .0)) ⌝ }
-{
-    if !is_lent(words.len(), start, total, root) {
-        return PhysAnswer::NoPhys(answer::BROKEN_RECORD);
-    }
-    inner::walk(words, start, total, root, virt)
-}
-
-// Whether user code may read an address, or write it.
-pub fn user_may(
-    words: &[u64],
-    start: u64,
-    total: u64,
-    root: Frame,
-    virt: VirtAddr,
-    write: bool,
-) -> FlagAnswer
-    ensures { λ r. ⌜ r ≡ userMay 3 (now (words .entry)) start total (root .0) (virt .0) write ⌝ }
-{
-    if !is_lent(words.len(), start, total, root) {
-        return FlagAnswer::NoFlag(answer::BROKEN_RECORD);
-    }
-    match inner::find_leaf(words, start, total, root, virt) {
-        Leaf::Page(e) => FlagAnswer::Flag(inner::user_entry(PageTableEntry(e), write)),
-        Leaf::Large(_) => FlagAnswer::Flag(false),
-        Leaf::NoLeaf(_) => FlagAnswer::Flag(false),
-    }
 }
 
 pub fn map_page(
@@ -158,7 +108,7 @@ pub fn unmap_page(
     ensures { λ r. ⌜ r ≡ asFrame (unmapPage 3 (now (words .entry)) start total (root .0) (virt .0) .walked) ⌝ }
     ensures { λ r. ⌜ now (words .exit) ≡ unmapPage 3 (now (words .entry)) start total (root .0) (virt .0) .words ⌝ }
 {
-    if !is_lent(words.len(), start, total, root) {
+    if !walk::is_lent(words.len(), start, total, root) {
         return FrameAnswer::NoFrame(answer::BROKEN_RECORD);
     }
     match inner::unmap_leaf(words, start, total, root, virt) {

@@ -18,7 +18,7 @@ use Rattle.paging.specs.Map.{Memory, memory, startOf, totalOf, Left, takeLeaf}
 use Rattle.paging.specs.Pages.{freed}
 use Rattle.paging.proofs.Map.{take-leaf-none}
 use Rattle.tree.proofs.Ordered.{insideIn}
-use Rattle.pages.specs.Spans.{freeLeaf, freeLeaves, Blank}
+use Rattle.pages.specs.Freeing.{freeLeaf, freeLeaves, Blank}
 use Rattle.pages.proofs.Fewer.{Fewer, set-own}
 use Rattle.pages.proofs.Less.{Less, less-refl, less-trans, leaf-less}
 

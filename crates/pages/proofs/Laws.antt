@@ -31,26 +31,6 @@ use Rattle.paging.proofs.Pages.{map-pages-none, map-pages-on, map-pages-stop, c
 use Rattle.mapper.proofs.Laws.{stepped}
 use Rattle.pages.specs.Answers.{asWalked}
 
--- ---- a loop's counter below n: the next one, what is left, and the place in bytes of an index
-
-module _ (i n : ℕ) (h : i < n) where
-  pub onward : i + 1 ≤ n
-  onward = omega arith
-
-  pub fewer : n - (i + 1) < n - i
-  fewer = omega arith
-
-  pub next-fits : Fits w64 n → Fits w64 (i + 1)
-  next-fits f = record { fits = omega (arith, f .fits) }
-
-  pub slot-fits : n ≤ 4 → Fits w64 (i * 8)
-  slot-fits k = record { fits = omega arith }
-
--- ---- the frame that an entry names, from its address
-
-pub named : (e : ℕ) {a : ℕ} → a ≡ addrOf e → At (frameOf e) ≡ At (a / 4096)
-named e h = ap At (sym (ap (λ (x : ℕ). x / 4096) h ∙ frame-of-addr e))
-
 -- ---- a fresh frame, after `take_frame`
 
 module _ (m : Memory) (r : Allocated) (bm : List ℕ) (e : r ≡ allocated (takeFrame (m .frames))) (b : bm ≡ takeFrame (m .frames) .frames .bits) where

@@ -10,7 +10,7 @@ use Rattle.paging.specs.Map.{Memory, memory, startOf, totalOf, left, takeLeaf, 
 use Rattle.paging.specs.Pages.{freed}
 use Rattle.paging.proofs.Map.{take-leaf-length}
 use Rattle.paging.proofs.Pages.{give-roomy}
-use Rattle.pages.specs.Spans.{freeLeaf, freeLeaves}
+use Rattle.pages.specs.Freeing.{freeLeaf, freeLeaves}
 
 -- after `take_leaf`
 module _ (m : Memory) (t i : ℕ) (ws : List ℕ) where

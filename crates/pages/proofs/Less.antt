@@ -19,7 +19,7 @@ use Rattle.paging.proofs.Map.{take-leaf-there, unmap-entry-take}
 use Rattle.tree.proofs.Paths.{path, upper, last, path-split}
 use Rattle.tree.proofs.Walks.{entry-cases, reach-back}
 use Rattle.tree.proofs.Ordered.{reachIn}
-use Rattle.pages.specs.Spans.{freeLeaf}
+use Rattle.pages.specs.Freeing.{freeLeaf}
 use Rattle.pages.proofs.Fewer.{Fewer, fewer-refl, fewer-trans, fewer-set, set-own, fewer-entry, fewer-reach, fewer-stop}
 
 pub record Less (m m′ : Memory) : Type 0 where

@@ -1,9 +1,7 @@
 pub mod Laws
-pub mod Addresses
 pub mod Fewer
 pub mod Less
 pub mod Runs
-pub mod Gaps
 pub mod Leaves
 pub mod Steps
 pub mod Blanks

@@ -24,8 +24,9 @@ use Rattle.tree.proofs.Paths.{path, upper, last, last-small}
 use Rattle.tree.proofs.Walks.{place-table, place-index, same-reach, same-along}
 use Rattle.tree.proofs.Ordered.{reachIn, insideIn}
 use Rattle.tree.proofs.Freeing.{free-none}
-use Rattle.pages.specs.Spans.{freeLeaf, freeLeaves, Off}
-use Rattle.pages.proofs.Addresses.{page-again, last-next, upper-next}
+use Rattle.pages.specs.Freeing.{freeLeaf, freeLeaves}
+use Rattle.spans.specs.Spans.{Off}
+use Rattle.spans.proofs.Addresses.{page-again, last-next, upper-next}
 use Rattle.pages.proofs.Less.{Less, less-refl, less-trans, less-reach, less-stop, leaf-less, free-less, free-gone}
 
 -- ---- one part after the other

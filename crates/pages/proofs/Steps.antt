@@ -14,9 +14,10 @@ use Rattle.paging.specs.Pages.{freePages}
 use Rattle.paging.proofs.Pages.{free-pages-roomy}
 use Rattle.tree.proofs.Paths.{last, length-upper}
 use Rattle.tree.proofs.Ordered.{reachIn}
-use Rattle.pages.specs.declared.spans.Span.{Span}
-use Rattle.pages.specs.declared.spans.Span.the-variants.{Leaves, Gap}
-use Rattle.pages.specs.Spans.{freeLeaves, IsGap, IsLeaves, IsSpan}
+use Rattle.spans.specs.declared.Span.{Span}
+use Rattle.spans.specs.declared.Span.the-variants.{Leaves, Gap}
+use Rattle.pages.specs.Freeing.{freeLeaves}
+use Rattle.spans.specs.Spans.{IsGap, IsLeaves, IsSpan}
 use Rattle.pages.proofs.Runs.{free-pages-add, pass-over, free-all, Apart, leaves-are}
 
 -- ---- one span: r of n pages

@@ -1,5 +1,5 @@
 // Runs of pages on a record that was tested, shared by vmalloc, mmap and the faults: fresh frames mapped one page after the other, and pages unmapped.
-mod spans;
+mod freeing;
 
 use address::Frame;
 use address::FrameAnswer;
@@ -43,7 +43,7 @@ pub fn fresh_frame(words: &mut [u64], bitmap: &mut [u64; 128], frames: FrameAllo
             frames: left,
         },
         FrameAnswer::AtFrame(f) => {
-            mapper::inner::zero_frame(words, mapper::inner::entry_place(frames.start, f.0, 0));
+            mapper::inner::zero_frame(words, walk::entry_place(frames.start, f.0, 0));
             Entered {
                 walked: Walked::At(f.0),
                 frames: left,
@@ -184,12 +184,12 @@ pub fn free_pages(
     requires { ⌜ virt .0 + n * 4096 < 2 ^ 64 ⌝ }
     ensures { λ r. ⌜ memory (now (words .exit)) (framesOf (now (bitmap .exit)) r) ≡ freePages 3 (memory (now (words .entry)) (framesOf (now (bitmap .entry)) frames)) (root .0) (virt .0) n ⌝ }
 {
-    let most = spans::at_most(n, ALL_PAGES);
+    let most = freeing::at_most(n, ALL_PAGES);
     let mut empty: [u64; 128] = [0; 128];
     let mut left = frames;
     let mut done = 0;
     while done < most {
-        let step = spans::free_span(
+        let step = freeing::free_span(
             words,
             bitmap,
             &mut empty,

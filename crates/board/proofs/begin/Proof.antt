@@ -2,7 +2,7 @@
 use mathlib.Core.Path.{_≡_}
 use mathlib.Core.Bool.{true}
 use Rattle.frame.specs.Frames.{inside}
-use Rattle.mapper.proofs.Laws.{place-asks}
+use Rattle.walk.proofs.Laws.{place-asks}
 use Rattle.paging.specs.Walk.{Lent}
 use Rattle.paging.proofs.Walk.{frame-lent}
 use Rattle.board.specs.Board.{Board, boardOf}

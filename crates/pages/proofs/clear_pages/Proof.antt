@@ -8,7 +8,8 @@ use borrow.Author.Needs.{needs}
 use Rattle.frame.specs.Frames.{frames as framesOf}
 use Rattle.paging.specs.Map.{memory}
 use Rattle.paging.specs.Pages.{clearPages}
-use Rattle.pages.proofs.Laws.{onward, fewer, next-fits, clear-on, clear-end, lent-still}
+use Rattle.bits.proofs.Counter.{onward, fewer, next-fits}
+use Rattle.pages.proofs.Laws.{clear-on, clear-end, lent-still}
 use Rattle.pages.proofs.clear_pages.Statement.{statement}
 use Rattle.pages.proofs.clear_pages.Tie as tie
 

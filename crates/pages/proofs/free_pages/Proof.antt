@@ -7,7 +7,7 @@ use borrow.Author.Needs.{needs}
 use Rattle.frame.specs.Frames.{frames as framesOf}
 use Rattle.paging.specs.Map.{memory, Roomy}
 use Rattle.paging.specs.Pages.{freePages}
-use Rattle.pages.specs.Spans.{Blank}
+use Rattle.pages.specs.Freeing.{Blank}
 use Rattle.pages.proofs.Laws.{free-end}
 use Rattle.pages.proofs.Steps.{span-start, span-on, span-some, span-within, span-fits, span-less, span-roomy}
 use Rattle.pages.proofs.Blanks.{blank-start}

@@ -10,7 +10,8 @@ use Rattle.paging.specs.Map.{memory, Roomy}
 use Rattle.paging.specs.declared.Walked.the-variants.{At}
 use Rattle.paging.specs.Pages.{ran, mapPages}
 use Rattle.paging.proofs.Map.{roomy-less}
-use Rattle.pages.proofs.Laws.{onward, fewer, next-fits, turn-left, turn-on, turn-stop, run-end}
+use Rattle.bits.proofs.Counter.{onward, fewer, next-fits}
+use Rattle.pages.proofs.Laws.{turn-left, turn-on, turn-stop, run-end}
 use Rattle.pages.proofs.map_pages.Statement.{statement}
 use Rattle.pages.proofs.map_pages.Tie as tie
 

@@ -7,7 +7,7 @@ use Rattle.frame.specs.Frames.{frames as framesOf, inside}
 use Rattle.frame.proofs.Laws.{passed, failed}
 use Rattle.paging.specs.declared.Walked.the-variants.{At}
 use Rattle.paging.specs.Map.{memory, out}
-use Rattle.mapper.proofs.Laws.{place-asks}
+use Rattle.walk.proofs.Laws.{place-asks}
 use Rattle.paging.proofs.Walk.{frame-lent}
 use Rattle.fault.specs.Faults.{translated}
 use Rattle.fault.proofs.Steps.{phys-at, phys-none, copied-none, copied-out, copied-in}

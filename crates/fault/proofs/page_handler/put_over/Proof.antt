@@ -6,7 +6,7 @@ use mathlib.Core.List.{List}
 use lib.ListN.{length, length-set}
 use Rattle.frame.specs.Frames.{frames as framesOf, inside}
 use Rattle.frame.proofs.Laws.{passed, failed}
-use Rattle.mapper.proofs.Laws.{place-asks}
+use Rattle.walk.proofs.Laws.{place-asks}
 use Rattle.paging.specs.declared.Walked.the-variants.{At}
 use Rattle.paging.specs.Map.{memory, out}
 use Rattle.paging.proofs.Walk.{place-lent, frame-lent}

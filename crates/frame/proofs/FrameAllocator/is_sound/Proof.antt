@@ -19,7 +19,7 @@ count-requires : tie.Need-count-requires
 count-requires c κs = search needs
 
 returns-3 : tie.Need-returns-3
-returns-3 c = rw (c .before .count .ensures) (sym (sound-counted _ (c .before .before .before .before .if1 .left) (omega arith)))
+returns-3 c = rw (c .before .count .ensures) (sym (sound-counted _ (c .before .before .before .before .before .if1 .left) (omega arith)))
 
 pub is-sound-spec : {M : Type 1} → statement M
 is-sound-spec = tie.close (tie.spec returns sub-if2 returns-2 count-requires returns-3)

@@ -1,4 +1,5 @@
 -- `frame_marked`: a frame outside reads as marked, any other by its bit.
+use Prim.Native.Nat.{_-_, _<_}
 use mathlib.Core.Path.{_≡_, sym, _∙_}
 use mathlib.Core.Bool.{true}
 use borrow.Author.Needs.{needs}
@@ -17,14 +18,17 @@ returns c = sym (reads-outside _ _ (failed (c .before .is-inside .ensures) (c .i
 within : (c : tie.Else1) → inside (c .before .before .args .frames .start) (c .before .before .args .frames .total) (c .before .before .args .number) ≡ true
 within c = passed (c .before .is-inside .ensures) (c .if1 .left)
 
+low : (c : tie.Else1) → c .before .before .args .number - c .before .before .args .frames .start < 8192
+low c = inside-bit _ _ _ (c .before .before .pre .few) (within c)
+
 sub-is-marked : tie.Need-sub-is-marked
-sub-is-marked c = inside-from _ _ _ (within (c .before))
+sub-is-marked c = inside-from _ _ _ (within (c .before .before))
 
 is-marked-requires : tie.Need-is-marked-requires
-is-marked-requires c κs = inside-bit _ _ _ (c .before .before .before .pre .few) (within (c .before))
+is-marked-requires c κs = search (needs, low (c .before .before))
 
 returns-2 : tie.Need-returns-2
-returns-2 c = c .is-marked .ensures ∙ sym (reads-inside _ _ (within (c .before .before)))
+returns-2 c = c .is-marked .ensures ∙ sym (reads-inside _ _ (within (c .before .before .before)))
 
 pub frame-marked-spec : {M : Type 1} → statement M
 frame-marked-spec = tie.close (tie.spec is-inside-requires returns sub-is-marked is-marked-requires returns-2)

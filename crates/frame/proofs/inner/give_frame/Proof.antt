@@ -1,5 +1,5 @@
 -- `give_frame`: a frame that is not here or is free is left alone; a marked one is freed and no longer counted.
-use Prim.Native.Nat.{_-_}
+use Prim.Native.Nat.{_-_, _<_}
 use mathlib.Core.Path.{_≡_, _∙_}
 use mathlib.Core.Bool.{true}
 use borrow.Author.Needs.{needs}
@@ -13,7 +13,7 @@ use Rattle.frame.proofs.inner.give_frame.Tie as tie
 
 -- the function's entry, and the first test, from behind the second
 abbrev else-of : tie.Else2 → tie.Else1
-else-of c = c .before .before .before .before .before
+else-of c = c .before .before .before .before .before .before
 
 abbrev start-of : tie.Else2 → tie.Start
 start-of c = else-of c .before .before
@@ -28,14 +28,17 @@ returns c = parts given (give-outside _ _ (failed (c .before .is-inside .ensures
 within : (c : tie.Else1) → inside (c .before .before .args .frames .start) (c .before .before .args .frames .total) (c .before .before .args .frame .0) ≡ true
 within c = passed (c .before .is-inside .ensures) (c .if1 .left)
 
+low : (c : tie.Else1) → c .before .before .args .frame .0 - c .before .before .args .frames .start < 8192
+low c = inside-bit _ _ _ (c .before .before .pre .few) (within c)
+
 sub-i : tie.Need-sub-i
 sub-i c = inside-from _ _ _ (within (c .before .before))
 
 is-marked-requires : tie.Need-is-marked-requires
-is-marked-requires c κs = inside-bit _ _ _ (c .before .before .before .before .before .pre .few) (within (c .before .before .before))
+is-marked-requires c κs = search (needs, low (c .before .before .before .before))
 
 returns-2 : tie.Need-returns-2
-returns-2 c = parts given (give-free _ _ (within (c .before .before .before .before .before)) (failed (c .before .is-marked .ensures) (c .if2 .taken)))
+returns-2 c = parts given (give-free _ _ (within (c .before .before .before .before .before .before)) (failed (c .before .is-marked .ensures) (c .if2 .taken)))
 
 -- past the second its bit is set
 there : (c : tie.Else2) → isMarked (start-of c .args .bitmap .now) (start-of c .args .frame .0 - start-of c .args .frames .start) ≡ true
@@ -43,7 +46,7 @@ there c = passed (c .before .is-marked .ensures) (c .if2 .left)
 
 unmark-requires : tie.Need-unmark-requires
 unmark-requires c κs =
-    (inside-bit _ _ _ (start-of (c .before) .pre .few) (within (else-of (c .before))), marked-true _ _ (there (c .before)))
+    (search (needs, low (else-of (c .before))), marked-true _ _ (there (c .before)))
 
 one-less-requires : tie.Need-one-less-requires
 one-less-requires c κs = search needs

@@ -13,13 +13,13 @@ lowest-free-requires c κs = search needs
 returns : tie.Need-returns
 returns c = parts allocated (take-none _ (rw (c .before .lowest-free .ensures) at (c .if1 .taken)))
 
-add-t9 : tie.Need-add-t9
-add-t9 c = search needs
+add-t10 : tie.Need-add-t10
+add-t10 c = search needs
 
 mark-slot-requires : tie.Need-mark-slot-requires
 mark-slot-requires c κs =
     let e = c .before .before in
-    (omega arith, (lowest-free _ _ _ (e .before .lowest-free .ensures) (e .if1 .left), e .before .before .before .pre))
+    (omega arith, (lowest-free _ _ _ (e .before .lowest-free .ensures) (e .if1 .left), e .before .before .before .before .pre))
 
 returns-2 : tie.Need-returns-2
 returns-2 c =
@@ -28,4 +28,4 @@ returns-2 c =
     (rw (c .mark-slot .ensures .0) (found .0), c .mark-slot .ensures .1 ∙ found .1)
 
 pub take-frame-spec : {M : Type 1} → statement M
-take-frame-spec = tie.close (tie.spec lowest-free-requires returns add-t9 mark-slot-requires returns-2)
+take-frame-spec = tie.close (tie.spec lowest-free-requires returns add-t10 mark-slot-requires returns-2)

@@ -7,7 +7,8 @@ use Rattle.frame.specs.Frames.{frames, inside}
 use Rattle.paging.specs.Map.{memory}
 use Rattle.paging.proofs.Walk.{frame-lent}
 use Rattle.paging.proofs.Map.{roomy-lent}
-use Rattle.mapper.proofs.Laws.{place-asks, taken-lent, create-made, create-none}
+use Rattle.walk.proofs.Laws.{place-asks}
+use Rattle.mapper.proofs.Laws.{taken-lent, create-made, create-none}
 use borrow.Author.Needs.{needs}
 use Rattle.mapper.proofs.inner.create_table.Statement.{statement}
 use Rattle.mapper.proofs.inner.create_table.Tie as tie

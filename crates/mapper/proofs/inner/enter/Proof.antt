@@ -8,7 +8,8 @@ use Rattle.paging.specs.Map.{memory}
 use Rattle.frame.proofs.Laws.{passed, failed}
 use Rattle.paging.proofs.Walk.{place-lent}
 use Rattle.paging.proofs.Map.{roomy-lent, enter-out}
-use Rattle.mapper.proofs.Laws.{place-asks, entered-there, entered-new}
+use Rattle.walk.proofs.Laws.{place-asks}
+use Rattle.mapper.proofs.Laws.{entered-there, entered-new}
 use borrow.Author.Needs.{needs}
 use Rattle.mapper.proofs.inner.enter.Statement.{statement}
 use Rattle.mapper.proofs.inner.enter.Tie as tie

@@ -10,7 +10,8 @@ use Rattle.frame.specs.Frames.{frames as framesOf}
 use Rattle.paging.specs.Map.{memory, make, Roomy}
 use Rattle.paging.proofs.Walk.{next-upper, none-upper}
 use Rattle.paging.proofs.Map.{roomy-less, make-end}
-use Rattle.mapper.proofs.Laws.{onward, fewer, next-fits, slot-fits, entered-left, made-stop, made-on}
+use Rattle.bits.proofs.Counter.{onward, fewer, level-fits, slot-fits}
+use Rattle.mapper.proofs.Laws.{entered-left, made-stop, made-on}
 use borrow.Author.Needs.{needs}
 use Rattle.mapper.proofs.inner.make_tables.Statement.{statement}
 use Rattle.mapper.proofs.inner.make_tables.Tie as tie
@@ -76,7 +77,7 @@ abbrev inside : (c : tie.After-known-told2 Inv-loop μ-loop) → tie.In-loop Inv
 inside c = c .before .before .before .before .before .before .before .before .before
 
 add-level : tie.Need-add-level Inv-loop μ-loop
-add-level c = let i = inside c in next-fits (i .before .loop .level) (i .before .before .before .args .k) (i .loop-test .taken) (few (i .before))
+add-level c = let i = inside c in level-fits (i .before .loop .level) (i .before .before .before .args .k) (i .loop-test .taken) (few (i .before))
 
 loop-less : tie.Need-loop-less Inv-loop μ-loop
 loop-less c = let i = inside c in fewer (i .before .loop .level) (i .before .before .before .args .k) (i .loop-test .taken)

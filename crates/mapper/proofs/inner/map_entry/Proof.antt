@@ -7,7 +7,8 @@ use Rattle.frame.specs.Frames.{frames as framesOf}
 use Rattle.paging.specs.Map.{memory}
 use Rattle.paging.proofs.Map.{roomy-lent}
 use Rattle.paging.proofs.Calls.{told}
-use Rattle.mapper.proofs.Laws.{slot-fits, made-left, map-at-stop, map-at-put}
+use Rattle.bits.proofs.Counter.{slot-fits}
+use Rattle.mapper.proofs.Laws.{made-left, map-at-stop, map-at-put}
 use borrow.Author.Needs.{needs}
 use Rattle.mapper.proofs.inner.map_entry.Statement.{statement}
 use Rattle.mapper.proofs.inner.map_entry.Tie as tie

@@ -9,7 +9,8 @@ use Rattle.paging.proofs.Walk.{place-lent}
 use Rattle.paging.proofs.Map.{put-out}
 use Rattle.paging.proofs.Calls.{told-left}
 use Rattle.frame.proofs.Laws.{passed, failed}
-use Rattle.mapper.proofs.Laws.{place-asks, put-there, put-new}
+use Rattle.walk.proofs.Laws.{place-asks}
+use Rattle.mapper.proofs.Laws.{put-there, put-new}
 use Rattle.mapper.proofs.inner.put_entry.Statement.{statement}
 use Rattle.mapper.proofs.inner.put_entry.Tie as tie
 

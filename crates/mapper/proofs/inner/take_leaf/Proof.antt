@@ -9,7 +9,8 @@ use Rattle.paging.proofs.Walk.{place-lent}
 use Rattle.paging.proofs.Map.{take-leaf-out}
 use Rattle.paging.proofs.Calls.{told-left}
 use Rattle.frame.proofs.Laws.{passed, failed}
-use Rattle.mapper.proofs.Laws.{place-asks, take-none, take-there}
+use Rattle.walk.proofs.Laws.{place-asks}
+use Rattle.mapper.proofs.Laws.{take-none, take-there}
 use Rattle.mapper.proofs.inner.take_leaf.Statement.{statement}
 use Rattle.mapper.proofs.inner.take_leaf.Tie as tie
 

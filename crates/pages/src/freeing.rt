@@ -1,0 +1,132 @@
+// Parts of a run of pages freed at once: the leaves of one table, and the pages below an entry that is absent or leads outside.
+use address::Frame;
+use address::VirtAddr;
+use frame::FrameAllocator;
+use paging::Walked;
+use spans::Span;
+ghost use mathlib.Core.Path.{_≡_};
+ghost use mathlib.Core.Bool.{true};
+ghost use Prim.Native.Nat.{ℕ, _+_, _≤_, _<_, min};
+ghost use Rattle.frame.specs.Frames.{frames as framesOf, inside};
+ghost use Rattle.paging.specs.Map.{memory, Roomy};
+ghost use Rattle.paging.specs.Pages.{freePages};
+ghost use Rattle.pages.specs.Freeing.{freeLeaf, freeLeaves, Blank};
+
+// How many pages were freed.
+pub struct Freed {
+    pub done: u64,
+    pub frames: FrameAllocator,
+}
+
+pub fn at_most(n: u64, most: u64) -> u64
+    ensures { λ r. ⌜ r ≡ min n most ⌝ }
+{
+    if n < most {
+        return n;
+    }
+    most
+}
+
+// The leaf at entry i of table t, cleared, and its frame freed.
+fn free_leaf(
+    words: &mut [u64],
+    bitmap: &mut [u64; 128],
+    frames: FrameAllocator,
+    t: u64,
+    i: usize,
+) -> FrameAllocator
+    requires { ⌜ Roomy (memory (now words) (framesOf (now bitmap) frames)) 0 ⌝ }
+    requires { ⌜ i < 512 ⌝ }
+    ensures { λ r. ⌜ memory (now (words .exit)) (framesOf (now (bitmap .exit)) r) ≡ freeLeaf (memory (now (words .entry)) (framesOf (now (bitmap .entry)) frames)) t i ⌝ }
+{
+    match mapper::inner::take_leaf(words, frames.start, frames.total, t, i) {
+        Walked::Stop(_) => frames,
+        Walked::At(f) => {
+            let given = frame::inner::give_frame(bitmap, frames, Frame(f));
+            given.frames
+        }
+    }
+}
+
+// The same of n leaves from entry i on.
+fn free_leaves(
+    words: &mut [u64],
+    bitmap: &mut [u64; 128],
+    frames: FrameAllocator,
+    t: u64,
+    i: usize,
+    n: u64,
+) -> FrameAllocator
+    requires { ⌜ Roomy (memory (now words) (framesOf (now bitmap) frames)) 0 ⌝ }
+    requires { ⌜ i + n ≤ 512 ⌝ }
+    ensures { λ r. ⌜ memory (now (words .exit)) (framesOf (now (bitmap .exit)) r) ≡ freeLeaves (memory (now (words .entry)) (framesOf (now (bitmap .entry)) frames)) t i n ⌝ }
+{
+    let mut left = frames;
+    for j in 0..n {
+        left = free_leaf(words, bitmap, left, t, i + j as usize);
+    }
+    left
+}
+
+// The same where `empty` marks tables without a present entry, which are passed over; a table that was gone through whole is one of them.
+fn free_table(
+    words: &mut [u64],
+    bitmap: &mut [u64; 128],
+    empty: &mut [u64; 128],
+    frames: FrameAllocator,
+    t: u64,
+    i: usize,
+    n: u64,
+) -> FrameAllocator
+    requires { ⌜ Roomy (memory (now words) (framesOf (now bitmap) frames)) 0 ⌝ }
+    requires { ⌜ Blank (now words) (now empty) ⌝ }
+    requires { ⌜ inside (frames .start) (frames .total) t ≡ true ⌝ }
+    requires { ⌜ i + n ≤ 512 ⌝ }
+    ensures { λ r. ⌜ memory (now (words .exit)) (framesOf (now (bitmap .exit)) r) ≡ freeLeaves (memory (now (words .entry)) (framesOf (now (bitmap .entry)) frames)) t i n ⌝ }
+    ensures { λ _. ⌜ Blank (now (words .exit)) (now (empty .exit)) ⌝ }
+{
+    let place = (t - frames.start) as usize;
+    if bitmap::is_marked(empty, place) {
+        return frames;
+    }
+    let left = free_leaves(words, bitmap, frames, t, i, n);
+    if n == 512 {
+        bitmap::mark(empty, place);
+        return left;
+    }
+    left
+}
+
+// Some of n pages from `virt` on, at least one: those that are freed at once.
+pub fn free_span(
+    words: &mut [u64],
+    bitmap: &mut [u64; 128],
+    empty: &mut [u64; 128],
+    frames: FrameAllocator,
+    root: Frame,
+    virt: VirtAddr,
+    n: u64,
+) -> Freed
+    requires { ⌜ Roomy (memory (now words) (framesOf (now bitmap) frames)) 0 ⌝ }
+    requires { ⌜ Blank (now words) (now empty) ⌝ }
+    requires { ⌜ 0 < n ⌝ }
+    ensures { λ r. ⌜ Blank (now (words .exit)) (now (empty .exit)) ⌝ }
+    ensures { λ r. ⌜ 0 < r .done ⌝ }
+    ensures { λ r. ⌜ r .done ≤ n ⌝ }
+    ensures { λ r. ⌜ memory (now (words .exit)) (framesOf (now (bitmap .exit)) (r .frames)) ≡ freePages 3 (memory (now (words .entry)) (framesOf (now (bitmap .entry)) frames)) (root .0) (virt .0) (r .done) ⌝ }
+{
+    match spans::find_span(words, frames.start, frames.total, root, virt) {
+        Span::Gap(k) => Freed {
+            done: at_most(k, n),
+            frames,
+        },
+        Span::Leaves(t, k) => {
+            let indices = entry::page_indices(virt);
+            let done = at_most(k, n);
+            Freed {
+                done,
+                frames: free_table(words, bitmap, empty, frames, t, indices[3], done),
+            }
+        }
+    }
+}
