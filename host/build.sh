@@ -6,7 +6,7 @@
 #   target/host/oracle-{checked,wrapping}                 the program that plays a tape
 #   target/host/oracle-self                               the oracle's own tests
 #   target/host/oracle/libgadulnos.rlib                   the port for a Rust host (gadulnos.rs)
-#   target/host/{layers,beside,anything,keys,header}      the port's tests
+#   target/host/{layers,beside,release,anything,keys,header}  the port's tests
 #   target/host/bench                                     the benchmark, if asked for: build.sh bench
 set -eu
 cd "$(dirname "$0")/.."
@@ -64,7 +64,7 @@ for build in checked wrapping; do
 done
 
 if changed "$out/oracle-self" "$lib/checked/librinux.rlib" "$lib/wrapping/librinux.rlib" docs/src \
-    host/oracle/substitutions.rs host/tests/oracle_self.rs host/tests/oracle_self; then
+    host/oracle/substitutions.rs host/tests/oracle_self.rs host/tests/oracle_self host/tests/shared; then
     compile -o "$out/oracle-self" -L "$lib" --extern paper="$lib/libpaper.rlib" \
         --extern rinux_checked="$lib/checked/librinux.rlib" \
         --extern rinux_wrapping="$lib/wrapping/librinux.rlib" host/tests/oracle_self.rs
@@ -89,7 +89,7 @@ beside_rust() {
     fi
 }
 
-for program in layers beside anything keys; do
+for program in layers beside release anything keys; do
     beside_rust $program host/tests/$program
 done
 if changed "$out/header" "$archive" host/gadulnos.h host/tests/header.c; then

@@ -99,6 +99,9 @@ impl State<'_> {
             "marked": self.marked, other.marked;
             "number of words": self.words.len(), other.words.len();
         }
+        if self.words == other.words {
+            return None;
+        }
         let mut pairs = self.words.iter().zip(other.words).enumerate();
         let (index, (word, of_other)) = pairs.find(|(_, (a, b))| a != b)?;
         Some(format!("word {index}: {word:x} and {of_other:x}"))

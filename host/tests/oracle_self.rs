@@ -25,6 +25,8 @@ mod wrapping {
     pub mod run;
 }
 
+#[path = "shared/guard.rs"]
+mod guard;
 #[path = "oracle_self/judge.rs"]
 mod judge;
 #[path = "oracle_self/random.rs"]
@@ -38,6 +40,7 @@ mod text;
 
 fn main() {
     let tapes = std::env::args().nth(1).map_or(2000, |word| word.parse().expect("a number"));
+    guard::watch();
     let mut report = report::Report::default();
     text::check(&mut report);
     tapes::check(&mut report);

@@ -36,6 +36,8 @@ pub struct Reader<'a> {
     pub free_table: bool,
     /// Whether a page was copied that the domain leaves out.
     pub bad_copy: bool,
+    /// With which number a call that backs pages is turned away: 11 or 13.
+    pub turned_away: Option<u32>,
 }
 
 /// The four indices of a page address.
@@ -51,6 +53,7 @@ impl<'a> Reader<'a> {
             changed: HashMap::new(),
             free_table: false,
             bad_copy: false,
+            turned_away: None,
         }
     }
 
