@@ -5,6 +5,8 @@
 //!
 //! Usage: oracle-self [TAPES] (random tapes of each profile, 2000 if not given)
 
+#![allow(clippy::duplicate_mod)] // the same checks run on two builds
+
 /// Checks on the build that panics where a sum overflows.
 #[path = "oracle_self"]
 mod checked {

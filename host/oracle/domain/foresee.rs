@@ -112,7 +112,7 @@ fn copy(reader: &mut Reader, page: u64) -> Result<(), OffBoard> {
         return Ok(());
     }
     let source = reader.translate(page)?.map(|phys| phys / PAGE);
-    let marked = source.is_some_and(|source| reader.state.is_marked(source));
+    let marked = source.map_or(false, |source| reader.state.is_marked(source));
     reader.bad_copy = !marked || indices(page) == indices(TEMPORARY);
     let index = match source.and_then(|source| reader.state.lent(source)) {
         Some(index) => index,

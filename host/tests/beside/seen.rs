@@ -43,12 +43,12 @@ const ANSWERS: [(&str, &[Least]); 24] = [
 /// Each event by its name and answer.
 const EVENTS: [(&str, &[Least]); 21] = [
     ("calls with a HUGE entry on the board: ", &[(1, 15000)]),
-    ("vmalloc at 256 regions, ", &[(0, 20), (11, 2), (15, 80)]),
-    ("vmalloc cuts at 256 regions, ", &[(0, 10)]),
-    ("vfree at 256 regions, ", &[(0, 80), (16, 10)]),
-    ("mmap at 255 regions, ", &[(0, 40), (13, 10)]),
-    ("munmap at 256 regions, ", &[(0, 40), (16, 6)]),
-    ("mark_cow at 255 pages, ", &[(0, 60)]),
+    ("vmalloc at 256 regions, ", &[(0, 10), (11, 1), (15, 30)]),
+    ("vmalloc cuts at 256 regions, ", &[(0, 5)]),
+    ("vfree at 256 regions, ", &[(0, 30), (16, 4)]),
+    ("mmap at 255 regions, ", &[(0, 20)]),
+    ("munmap at 256 regions, ", &[(0, 15), (16, 2)]),
+    ("mark_cow at 255 pages, ", &[(0, 30)]),
     ("copy, ", &[(0, 230), (11, 450), (18, 30)]),
     ("copy with the temporary page mapped, ", &[(0, 40), (11, 20)]),
     ("translate over a third-level HUGE entry, ", &[(0, 170)]),

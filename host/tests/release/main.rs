@@ -78,7 +78,7 @@ fn print_shortest(setting: &Setting, calls: &[Call]) {
     };
     let short = minimise::shortest(calls, &mut |calls| again(calls).is_err());
     let (from, to) = setting.memory;
-    print!("{} calls, from {}, on memory {from:#x} to {to:#x}:\n", short.len(), calls.len());
+    println!("{} calls, from {}, on memory {from:#x} to {to:#x}:", short.len(), calls.len());
     print!("{}", minimise::describe(&short));
     println!("then the releases: {}", again(&short).err().unwrap_or_default());
 }
