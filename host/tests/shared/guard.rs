@@ -22,7 +22,7 @@ const SIGSEGV: i32 = 11;
 const OUTSIDE: &str = "FAILED an access outside what is lent ended the program";
 const HANGING: &str = "FAILED no end within the time allowed";
 
-/// The longest that a check, or a sequence of one, may take, in seconds.
+/// The longest that a check, or a sequence of one, may go without a call of the port, in seconds.
 const PATIENCE: u32 = 300;
 
 extern "C" {
@@ -110,12 +110,13 @@ impl<T: Copy> Drop for Guarded<T> {
     }
 }
 
-/// Where the program is, and until when it may be there.
+/// Where the program is, and how long it may be there.
 struct Place {
     name: String,
     /// The call that the port was given last.
     call: Option<Call>,
-    until: Instant,
+    since: Instant,
+    patience: Duration,
 }
 
 static PLACE: Mutex<Option<Place>> = Mutex::new(None);
@@ -127,7 +128,7 @@ pub fn watch() {
     unsafe { signal(SIGSEGV, outside) };
     thread::spawn(|| loop {
         thread::sleep(Duration::from_millis(500));
-        if with_place(|place| place.until < Instant::now()) == Some(true) {
+        if with_place(|place| place.since.elapsed() > place.patience) == Some(true) {
             end_with(HANGING);
         }
     });
@@ -135,18 +136,25 @@ pub fn watch() {
 
 /// Names the check, sequence or list that begins, which may take as long as any.
 pub fn at(name: impl Into<String>) {
-    let until = Instant::now() + Duration::from_secs(PATIENCE.into());
-    *lock() = Some(Place { name: name.into(), call: None, until });
+    let patience = Duration::from_secs(PATIENCE.into());
+    *lock() = Some(Place { name: name.into(), call: None, since: Instant::now(), patience });
 }
 
-/// Names the call that the port is given.
+/// Names the call that the port is given, which may take as long again.
 pub fn calling(call: &Call) {
-    with_place(|place| place.call = Some(*call));
+    with_place(|place| {
+        place.call = Some(*call);
+        place.since = Instant::now();
+    });
 }
 
-/// Has the program end with a failed check unless this or `at` is called again within so many seconds.
+/// Has the program end with a failed check unless the next step comes within so many seconds, a step being
+/// this, `at` or a call of the port.
 pub fn within(seconds: u32) {
-    with_place(|place| place.until = Instant::now() + Duration::from_secs(seconds.into()));
+    with_place(|place| {
+        place.since = Instant::now();
+        place.patience = Duration::from_secs(seconds.into());
+    });
 }
 
 fn lock() -> std::sync::MutexGuard<'static, Option<Place>> {
