@@ -6,15 +6,29 @@
 #   target/host/oracle-{checked,wrapping}                 the program that plays a tape
 #   target/host/oracle-self                               the oracle's own tests
 #   target/host/oracle/libgadulnos.rlib                   the port for a Rust host (gadulnos.rs)
-#   target/host/{layers,beside,anything,keys,header}      the port's tests
+#   target/host/{layers,beside,release,anything,keys,header}  the port's tests
 #   target/host/bench                                     the benchmark, if asked for: build.sh bench
+#
+# RUSTC is the compiler, RUST_FLAGS are its flags (-O), and HOST_OUT is the folder instead of target/host.
 set -eu
 cd "$(dirname "$0")/.."
 
 RUSTC=${RUSTC:-rustc}
-out=target/host
+out=${HOST_OUT:-target/host}
 lib=$out/oracle
+
+if ! sha256sum --check --quiet --strict host/oracle/originals.sha256; then
+    echo "docs/src is not the original: its files are pinned in host/oracle/originals.sha256" >&2
+    exit 1
+fi
+
+# What another compiler built is built again.
+version=$("$RUSTC" -vV)
+if [ "$(cat "$out/compiler" 2>/dev/null)" != "$version" ]; then
+    rm -rf "$out"
+fi
 mkdir -p "$lib/checked" "$lib/wrapping"
+echo "$version" >"$out/compiler"
 
 # changed OUTPUT INPUT...: whether the output is missing or older than an input (a folder
 # stands for its files).
@@ -26,7 +40,8 @@ changed() {
 
 compile() {
     echo "build $2"
-    "$RUSTC" --edition 2021 -O "$@"
+    # shellcheck disable=SC2086
+    "$RUSTC" --edition 2021 ${RUST_FLAGS:--O} "$@"
 }
 
 if changed "$lib/prepare" host/oracle/prepare.rs host/oracle/substitutions.rs; then
@@ -47,14 +62,25 @@ if changed "$lib/libpaper.rlib" $paper; then
     compile -o "$lib/libpaper.rlib" --crate-type rlib --crate-name paper host/oracle/paper.rs
 fi
 
+# What the original asks of the compiler's age: before 1.80 there is no --check-cfg, and before 1.66 an empty BTreeMap in a static
+# is a feature that has to be named.
+minor=$(echo "$version" | sed -n 's/^release: 1\.\([0-9]*\)\..*/\1/p')
+age=
+if [ "$minor" -ge 80 ]; then
+    age="--check-cfg cfg(checked,wrapping,test)"
+elif [ "$minor" -lt 66 ]; then
+    export RUSTC_BOOTSTRAP=1
+    age="-Z crate-attr=feature(const_btree_new)"
+fi
 # The two builds are one crate with two names in the linker, so that a program can hold both.
 for build in checked wrapping; do
     checks=$([ $build = checked ] && echo on || echo off)
     rinux=$lib/$build/librinux.rlib
     if changed "$rinux" "$lib/src" "$lib/libpaper.rlib" "$lib/libspin.rlib" "$lib/libbitflags.rlib" \
         host/oracle/lib.rs host/oracle/stand_in.rs host/oracle/oracle.rs host/oracle/oracle; then
+        # shellcheck disable=SC2086
         compile -o "$rinux" --crate-type rlib --crate-name rinux -C metadata=$build \
-            -C overflow-checks="$checks" --cfg $build --check-cfg 'cfg(checked, wrapping, test)' -L "$lib" \
+            -C overflow-checks="$checks" --cfg $build $age -L "$lib" \
             --extern spin="$lib/libspin.rlib" --extern bitflags="$lib/libbitflags.rlib" \
             --extern paper="$lib/libpaper.rlib" host/oracle/lib.rs
     fi
@@ -64,7 +90,7 @@ for build in checked wrapping; do
 done
 
 if changed "$out/oracle-self" "$lib/checked/librinux.rlib" "$lib/wrapping/librinux.rlib" docs/src \
-    host/oracle/substitutions.rs host/tests/oracle_self.rs host/tests/oracle_self; then
+    host/oracle/substitutions.rs host/tests/oracle_self.rs host/tests/oracle_self host/tests/shared; then
     compile -o "$out/oracle-self" -L "$lib" --extern paper="$lib/libpaper.rlib" \
         --extern rinux_checked="$lib/checked/librinux.rlib" \
         --extern rinux_wrapping="$lib/wrapping/librinux.rlib" host/tests/oracle_self.rs
@@ -89,7 +115,7 @@ beside_rust() {
     fi
 }
 
-for program in layers beside anything keys; do
+for program in layers beside release anything keys; do
     beside_rust $program host/tests/$program
 done
 if changed "$out/header" "$archive" host/gadulnos.h host/tests/header.c; then
@@ -97,5 +123,7 @@ if changed "$out/header" "$archive" host/gadulnos.h host/tests/header.c; then
     cc -std=c99 -O1 -Wall -Wextra -Werror -pedantic -o "$out/header" host/tests/header.c "$archive"
 fi
 if [ "${1:-}" = bench ]; then
+    # It needs 1.66, for black_box.
+    RUST_FLAGS="${RUST_FLAGS:--O} -A clippy::incompatible_msrv"
     beside_rust bench host/bench
 fi

@@ -1,12 +1,39 @@
 #!/usr/bin/env bash
-# What the tests need beside rt: rustc 1.90 or newer, and a C linker for it. What Debian ships is installed if it is missing.
+# What the tests need beside rt: rustc 1.63 or newer, and a C linker for it. What Debian ships is installed if it is missing or too old.
 set -euo pipefail
+oldest=63
+
+# The minor number of a compiler's version, or of a package's.
+minor() {
+    sed -n -E 's/^(release: |  Candidate: )1\.([0-9]+)\..*/\2/p'
+}
+
+has_rustc() {
+    local found
+    command -v rustc >/dev/null && found=$(rustc -vV | minor) && [ "${found:-0}" -ge $oldest ]
+}
+
+# Debian's rustc, or its newer compiler for browsers.
+package() {
+    local name found
+    for name in rustc rustc-web rustc-mozilla; do
+        found=$(apt-cache policy $name 2>/dev/null | minor)
+        [ "${found:-0}" -ge $oldest ] && echo $name && return
+    done
+}
+
 command -v rt >/dev/null || { echo "rt, the Rattle toolchain, is not on the PATH" >&2; exit 1; }
 need=()
 command -v cc >/dev/null || need+=(gcc libc6-dev)
-command -v rustc >/dev/null || need+=(rustc)
-if [ ${#need[@]} -gt 0 ]; then
-    apt-get update -qq && apt-get install -y -qq "${need[@]}"
+if [ ${#need[@]} -gt 0 ] || ! has_rustc; then
+    if command -v apt-get >/dev/null && [ "$(id -u)" -eq 0 ]; then
+        apt-get update -qq
+        has_rustc || mapfile -t -O ${#need[@]} need < <(package)
+        [ ${#need[@]} -eq 0 ] || apt-get install -y -qq "${need[@]}"
+    fi
 fi
-minor=$(rustc --version | sed -E 's/^rustc 1\.([0-9]+)\..*/\1/')
-[ "$minor" -ge 90 ] || { echo "rustc 1.90 or newer is needed: the original Rust uses u64::is_multiple_of" >&2; exit 1; }
+command -v cc >/dev/null || { echo "a C compiler is needed: install gcc and libc6-dev" >&2; exit 1; }
+has_rustc || {
+    echo "rustc 1.$oldest or newer is needed, and $(rustc --version 2>/dev/null || echo none) was found: install Debian's rustc or rustc-web, or one from https://rustup.rs, first on the PATH" >&2
+    exit 1
+}

@@ -24,8 +24,14 @@ counted() {
     fi
 }
 
-for program in oracle-self layers header beside anything keys; do
+for program in oracle-self layers header beside release anything keys; do
     counted target/host/$program
+done
+
+# Besides their fixed seed the programs get one drawn from the commit. Each prints it: the same seed repeats a run.
+seed=$((16#$(git rev-parse --short=12 HEAD 2>/dev/null || echo 5eed)))
+for program in layers beside release anything keys; do
+    counted target/host/$program --seed $seed
 done
 echo "$passed passed, $failed failed"
 [ "$failed" -eq 0 ]

@@ -268,9 +268,12 @@ fn draw_mmap(p: &mut Picker, size: u64) -> Call {
 
 /// Mostly a live region with a size that rounds to its own.
 fn draw_munmap(p: &mut Picker) -> Call {
-    let Some(region) = p.live_region() else {
-        let unaligned = if p.random.chance(1, 6) { 1 } else { 0 };
-        return Call::Munmap { addr: p.address() & !(PAGE - 1) | unaligned, size: p.size() };
+    let region = match p.live_region() {
+        Some(region) => region,
+        None => {
+            let unaligned = if p.random.chance(1, 6) { 1 } else { 0 };
+            return Call::Munmap { addr: p.address() & !(PAGE - 1) | unaligned, size: p.size() };
+        }
     };
     let addr = if p.random.chance(1, 10) { p.near(region.start) } else { region.start };
     let size = match p.random.below(10) {

@@ -7,7 +7,7 @@ macro_rules! original {
     ($($path:literal $name:ident),*) => {
         $(
             #[path = $path]
-            #[allow(dead_code, unused_unsafe)]
+            #[allow(dead_code, unused_unsafe, unstable_name_collisions, clippy::all)]
             pub mod $name;
         )*
     };

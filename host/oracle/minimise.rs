@@ -2,16 +2,22 @@
 
 use crate::call::Call;
 use crate::tape;
+use std::time::{Duration, Instant};
+
+/// The search ends after this time with what it has found.
+const TIME: Duration = Duration::from_secs(60);
 
 /// The shortest tape found on which `differs` still holds, with small numbers: calls are
 /// dropped, long runs first, then each field is lowered as far as it goes, until neither
 /// helps. `differs` must hold on `calls`.
 pub fn shortest(calls: &[Call], differs: &mut dyn FnMut(&[Call]) -> bool) -> Vec<Call> {
     let mut best = calls.to_vec();
+    let begun = Instant::now();
+    let mut differs = |calls: &[Call]| begun.elapsed() < TIME && differs(calls);
     loop {
         let before = best.clone();
-        drop_calls(&mut best, differs);
-        lower_fields(&mut best, differs);
+        drop_calls(&mut best, &mut differs);
+        lower_fields(&mut best, &mut differs);
         if best == before {
             return best;
         }

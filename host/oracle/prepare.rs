@@ -1,5 +1,6 @@
 //! Writes the oracle's modules: each original text with its substitutions, and below it
-//! an accessor module, which as a child may read and set what the original keeps private.
+//! an accessor module, which as a child may read and set what the original keeps private,
+//! and a stand-in for what an older compiler's numbers lack.
 //!
 //! Usage: prepare ORIGINALS ACCESSORS OUTPUT (three folders)
 
@@ -10,8 +11,9 @@ use std::{env, fs, process};
 
 fn main() {
     let folders: Vec<String> = env::args().skip(1).collect();
-    let [originals, accessors, output] = folders.as_slice() else {
-        fail("usage: prepare ORIGINALS ACCESSORS OUTPUT");
+    let (originals, accessors, output) = match folders.as_slice() {
+        [originals, accessors, output] => (originals, accessors, output),
+        _ => fail("usage: prepare ORIGINALS ACCESSORS OUTPUT"),
     };
     if let Err(why) = fs::create_dir_all(output) {
         fail(&format!("{output}: {why}"));
@@ -20,7 +22,7 @@ fn main() {
         let original = read(&Path::new(originals).join(substitutions::file_name(module)));
         let accessor = read(&Path::new(accessors).join(format!("{module}.rs")));
         let prepared = match substitutions::apply(module, &original) {
-            Ok(text) => format!("{text}\npub mod access {{\n{accessor}}}\n"),
+            Ok(text) => format!("{text}{}{accessor}}}\n", substitutions::BELOW),
             Err(why) => fail(&why),
         };
         write_if_changed(&Path::new(output).join(format!("{module}.rs")), &prepared);
@@ -33,7 +35,7 @@ fn read(path: &Path) -> String {
 
 /// Leaves an equal file alone, so that its time stamp tells when the text last changed.
 fn write_if_changed(path: &Path, text: &str) {
-    if fs::read_to_string(path).is_ok_and(|old| old == text) {
+    if matches!(fs::read_to_string(path), Ok(old) if old == text) {
         return;
     }
     if let Err(why) = fs::write(path, text) {

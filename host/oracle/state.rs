@@ -60,7 +60,7 @@ impl State<'_> {
 
     /// Whether a lent frame is marked.
     pub fn is_marked(&self, frame: u64) -> bool {
-        self.lent(frame).is_some_and(|index| bit(&self.bitmap, index))
+        self.lent(frame).map_or(false, |index| bit(&self.bitmap, index))
     }
 
     /// The number of lent frames that are marked.
@@ -99,6 +99,9 @@ impl State<'_> {
             "marked": self.marked, other.marked;
             "number of words": self.words.len(), other.words.len();
         }
+        if self.words == other.words {
+            return None;
+        }
         let mut pairs = self.words.iter().zip(other.words).enumerate();
         let (index, (word, of_other)) = pairs.find(|(_, (a, b))| a != b)?;
         Some(format!("word {index}: {word:x} and {of_other:x}"))
@@ -130,6 +133,11 @@ impl State<'_> {
 /// One bit of a bitmap.
 pub fn bit(bitmap: &[u64; BITMAP_WORDS], index: usize) -> bool {
     bitmap[index / 64] >> (index % 64) & 1 == 1
+}
+
+/// Whether a number is a multiple of a power of two.
+pub fn is_multiple(number: u64, power: u64) -> bool {
+    number & (power - 1) == 0
 }
 
 /// The page that holds an address.

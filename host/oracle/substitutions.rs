@@ -74,6 +74,10 @@ pub const TABLE: [Substitution; 8] = [
     },
 ];
 
+/// What stands between an original text and its accessors.
+pub const BELOW: &str =
+    "\n#[allow(unused_imports)]\nuse crate::stand_in::Multiple as _;\npub mod access {\n";
+
 /// The original's file name in docs/src.
 pub fn file_name(module: &str) -> String {
     format!("src--mm--src--{module}.rs.txt")

@@ -5,6 +5,8 @@
 //!
 //! Usage: oracle-self [TAPES] (random tapes of each profile, 2000 if not given)
 
+#![allow(clippy::duplicate_mod)] // the same checks run on two builds
+
 /// Checks on the build that panics where a sum overflows.
 #[path = "oracle_self"]
 mod checked {
@@ -25,6 +27,8 @@ mod wrapping {
     pub mod run;
 }
 
+#[path = "shared/guard.rs"]
+mod guard;
 #[path = "oracle_self/judge.rs"]
 mod judge;
 #[path = "oracle_self/random.rs"]
@@ -38,6 +42,7 @@ mod text;
 
 fn main() {
     let tapes = std::env::args().nth(1).map_or(2000, |word| word.parse().expect("a number"));
+    guard::watch();
     let mut report = report::Report::default();
     text::check(&mut report);
     tapes::check(&mut report);

@@ -10,6 +10,7 @@ pub struct Foresight {
     pub free_table: bool,
     pub bad_copy: bool,
     pub bitmap: [u64; BITMAP_WORDS],
+    pub turned_away: Option<u32>,
 }
 
 pub fn foresee(state: &State, steps: &Steps) -> Foresight {
@@ -20,6 +21,7 @@ pub fn foresee(state: &State, steps: &Steps) -> Foresight {
         free_table: reader.free_table,
         bad_copy: reader.bad_copy,
         bitmap: reader.bitmap,
+        turned_away: reader.turned_away,
     }
 }
 
@@ -59,9 +61,16 @@ fn page(start: u64, i: u64) -> u64 {
 
 fn back(reader: &mut Reader, start: u64, pages: u64, clean_up: bool) -> Result<(), OffBoard> {
     for i in 0..pages {
-        let Some(frame) = reader.take() else { break };
+        let frame = match reader.take() {
+            Some(frame) => frame,
+            None => {
+                reader.turned_away = Some(11);
+                break;
+            }
+        };
         reader.zero(frame);
         if !reader.map(page(start, i), frame * PAGE, 0, 3)? {
+            reader.turned_away = Some(13);
             for j in 0..if clean_up { i } else { 0 } {
                 reader.unmap(page(start, j))?;
             }
@@ -92,7 +101,10 @@ fn overwrite(reader: &mut Reader, page: u64) -> Result<(), OffBoard> {
 /// The page is judged if it comes to be copied at all: not without a frame for it, nor
 /// where the temporary page cannot be mapped.
 fn copy(reader: &mut Reader, page: u64) -> Result<(), OffBoard> {
-    let Some(frame) = reader.take() else { return Ok(()) };
+    let frame = match reader.take() {
+        Some(frame) => frame,
+        None => return Ok(()),
+    };
     if reader.translate(TEMPORARY)?.is_some() {
         reader.unmap(TEMPORARY)?;
     }
@@ -100,10 +112,11 @@ fn copy(reader: &mut Reader, page: u64) -> Result<(), OffBoard> {
         return Ok(());
     }
     let source = reader.translate(page)?.map(|phys| phys / PAGE);
-    let marked = source.is_some_and(|source| reader.state.is_marked(source));
+    let marked = source.map_or(false, |source| reader.state.is_marked(source));
     reader.bad_copy = !marked || indices(page) == indices(TEMPORARY);
-    let Some(index) = source.and_then(|source| reader.state.lent(source)) else {
-        return Ok(());
+    let index = match source.and_then(|source| reader.state.lent(source)) {
+        Some(index) => index,
+        None => return Ok(()),
     };
     reader.copy(index, frame);
     reader.unmap(TEMPORARY)?;

@@ -3,7 +3,7 @@
 //! are foreseen also where one does not.
 
 use crate::call::Call;
-use crate::state::{page_of, State, SLOTS};
+use crate::state::{is_multiple, page_of, State, SLOTS};
 use crate::{LAST, PAGE, USER_WINDOW};
 
 const MAP_FIXED: i32 = 0x10;
@@ -93,7 +93,7 @@ pub fn plan(state: &State, call: &Call) -> Plan {
         Call::Vfree { addr } => vfree(state, addr),
         Call::Mmap { given, addr, size, flags, .. } => {
             let range = mmap_range(state, given.then_some(addr), size, flags, &mut sums);
-            over_limit = range.is_some_and(|(start, _)| no_room_for_region(state, start));
+            over_limit = range.map_or(false, |(start, _)| no_room_for_region(state, start));
             match range {
                 Some((start, size)) => Steps::Back { start, pages: size / PAGE, clean_up: true },
                 None => Steps::None,
@@ -140,7 +140,7 @@ fn vfree(state: &State, addr: u64) -> Steps {
 }
 
 fn munmap(state: &State, addr: u64, size: u64, sums: &mut Sums) -> Steps {
-    if size == 0 || !addr.is_multiple_of(PAGE) {
+    if size == 0 || !is_multiple(addr, PAGE) {
         return Steps::None;
     }
     let size = sums.round_up(size);
@@ -167,7 +167,7 @@ fn mmap_range(
         return None;
     }
     let size = sums.round_up(size);
-    let aligned = |addr: &u64| addr.is_multiple_of(PAGE);
+    let aligned = |addr: &u64| is_multiple(*addr, PAGE);
     let start = match requested {
         Some(addr) if flags & MAP_FIXED != 0 => Some(addr).filter(aligned)?,
         Some(addr) if aligned(&addr) => {
@@ -224,7 +224,7 @@ fn fault(state: &State, addr: u64, code: u64) -> Steps {
 
 fn map_huge(virt: u64, phys: u64, gigabyte: bool) -> Steps {
     let (size, levels) = if gigabyte { (1 << 30, 2) } else { (1 << 21, 3) };
-    if !virt.is_multiple_of(size) || !phys.is_multiple_of(size) {
+    if !is_multiple(virt, size) || !is_multiple(phys, size) {
         return Steps::None;
     }
     Steps::MapHuge { virt, phys, levels }

@@ -36,6 +36,8 @@ pub struct Reader<'a> {
     pub free_table: bool,
     /// Whether a page was copied that the domain leaves out.
     pub bad_copy: bool,
+    /// With which number a call that backs pages is turned away: 11 or 13.
+    pub turned_away: Option<u32>,
 }
 
 /// The four indices of a page address.
@@ -51,6 +53,7 @@ impl<'a> Reader<'a> {
             changed: HashMap::new(),
             free_table: false,
             bad_copy: false,
+            turned_away: None,
         }
     }
 
@@ -83,10 +86,11 @@ impl<'a> Reader<'a> {
 
     /// Copies a lent frame's words into another.
     pub fn copy(&mut self, from: usize, to: u64) {
-        let Some(to) = self.state.lent(to) else { return };
-        let words = (0..512).map(|index| (index, self.word(Place { table: from, index })));
-        let words = words.collect();
-        self.changed.insert(to, Changed { zeroed: true, words });
+        if let Some(to) = self.state.lent(to) {
+            let words = (0..512).map(|index| (index, self.word(Place { table: from, index })));
+            let words = words.collect();
+            self.changed.insert(to, Changed { zeroed: true, words });
+        }
     }
 
     /// Enters `phys` with `bits` below `levels` tables. False if a table's frame could not
@@ -153,8 +157,9 @@ impl<'a> Reader<'a> {
         for &index in &indices[..levels] {
             let place = Place { table, index };
             if self.word(place) & PRESENT == 0 {
-                let Some(frame) = make.then(|| self.take()).flatten() else {
-                    return Ok(None);
+                let frame = match make.then(|| self.take()).flatten() {
+                    Some(frame) => frame,
+                    None => return Ok(None),
                 };
                 self.zero(frame);
                 self.write(place, (frame * PAGE) | PRESENT);
@@ -176,7 +181,7 @@ impl<'a> Reader<'a> {
         let frame = (self.word(place) & ADDR_MASK) / PAGE;
         let index = self.state.lent(frame).ok_or(OffBoard)?;
         let fresh =
-            self.changed.get(&place.table).is_some_and(|c| c.words.contains_key(&place.index));
+            self.changed.get(&place.table).map_or(false, |c| c.words.contains_key(&place.index));
         self.free_table |= !bit(&self.bitmap, index) || !(bit(&self.state.bitmap, index) || fresh);
         Ok(index)
     }
@@ -185,7 +190,7 @@ impl<'a> Reader<'a> {
         let changed = self.changed.get(&place.table);
         match changed.and_then(|changed| changed.words.get(&place.index)) {
             Some(word) => *word,
-            None if changed.is_some_and(|changed| changed.zeroed) => 0,
+            None if changed.map_or(false, |changed| changed.zeroed) => 0,
             None => self.state.words[place.table * 512 + place.index],
         }
     }

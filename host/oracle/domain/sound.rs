@@ -1,6 +1,6 @@
 //! Which records document 01 does not answer with 10.
 
-use crate::state::{State, BITMAP_WORDS, SLOTS};
+use crate::state::{is_multiple, State, BITMAP_WORDS, SLOTS};
 use crate::{LAST, PAGE};
 
 /// The highest frame number plus one: physical addresses have 52 bits.
@@ -17,21 +17,21 @@ pub fn has_shape(state: &State) -> bool {
 /// that they are zero is an addition, and the Rust leaves old regions there.
 pub fn is_sound(state: &State) -> bool {
     has_shape(state)
-        && state.start_frame.checked_add(state.total).is_some_and(|end| end <= FRAMES_END)
+        && state.start_frame.checked_add(state.total).map_or(false, |end| end <= FRAMES_END)
         && state.lent(state.root).is_some()
         && state.allocated == state.marked_frames()
         && state.vmalloc().iter().all(|slot| is_region(slot.start, slot.size))
         && state.regions.len() <= SLOTS
-        && state.regions.is_sorted_by(|a, b| a.start < b.start)
+        && state.regions.windows(2).all(|pair| pair[0].start < pair[1].start)
         && state.regions.iter().all(|region| is_region(region.start, region.size))
-        && state.next_addr.is_multiple_of(PAGE)
+        && is_multiple(state.next_addr, PAGE)
         && state.marked.len() <= SLOTS
-        && state.marked.is_sorted_by(|a, b| a < b)
+        && state.marked.windows(2).all(|pair| pair[0] < pair[1])
 }
 
 /// Aligned, not empty, and ending at or below the last page address.
 fn is_region(start: u64, size: u64) -> bool {
     let end = start.checked_add(size);
-    let aligned = start.is_multiple_of(PAGE) && size.is_multiple_of(PAGE);
-    aligned && size > 0 && end.is_some_and(|end| end <= LAST)
+    let aligned = is_multiple(start, PAGE) && is_multiple(size, PAGE);
+    aligned && size > 0 && end.map_or(false, |end| end <= LAST)
 }

@@ -26,14 +26,14 @@ pub fn catch<T>(piece: impl FnOnce() -> T + UnwindSafe) -> Result<T, String> {
     HOOK.call_once(|| {
         let loud = panic::take_hook();
         panic::set_hook(Box::new(move |info| {
-            if !PLAYING.get() {
+            if !PLAYING.with(Cell::get) {
                 loud(info);
             }
         }));
     });
-    PLAYING.set(true);
+    PLAYING.with(|playing| playing.set(true));
     let outcome = panic::catch_unwind(piece);
-    PLAYING.set(false);
+    PLAYING.with(|playing| playing.set(false));
     outcome.map_err(|payload| message(&*payload))
 }
 

@@ -124,7 +124,10 @@ fn any_word(random: &mut Random, one_in: u64, start: u64, total: u64) -> u64 {
 
 /// Other marks, also past the frames; the counter follows.
 fn marks(random: &mut Random, board: &mut Board) {
-    let Some(mut bitmap) = gadulnos::unpack_bitmap(&board.bits) else { return };
+    let mut bitmap = match gadulnos::unpack_bitmap(&board.bits) {
+        Some(bitmap) => bitmap,
+        None => return,
+    };
     let mut record = board.frames();
     match random.below(4) {
         0 => bitmap.fill_with(|| random.word()),
@@ -305,7 +308,10 @@ fn misplaced(random: &mut Random, start: u64, size: u64) -> (u64, u64) {
 }
 
 fn broken_kernel(random: &mut Random, board: &mut Board) {
-    let Some(mut list) = Kernel::unpack(&board.kernel) else { return };
+    let mut list = match Kernel::unpack(&board.kernel) {
+        Some(list) => list,
+        None => return,
+    };
     let count = list.count.min(256);
     let at = random.below(count.max(1)) as usize;
     match random.below(4) {
@@ -332,7 +338,10 @@ fn broken_kernel(random: &mut Random, board: &mut Board) {
 }
 
 fn broken_user(random: &mut Random, board: &mut Board) {
-    let Some(mut list) = User::unpack(&board.user) else { return };
+    let mut list = match User::unpack(&board.user) {
+        Some(list) => list,
+        None => return,
+    };
     let count = list.count.min(256);
     let at = random.below(count.max(1)) as usize;
     match random.below(5) {
@@ -352,7 +361,10 @@ fn broken_user(random: &mut Random, board: &mut Board) {
 }
 
 fn broken_marked(random: &mut Random, board: &mut Board) {
-    let Some(mut list) = Marked::unpack(&board.marked) else { return };
+    let mut list = match Marked::unpack(&board.marked) {
+        Some(list) => list,
+        None => return,
+    };
     let count = list.count.min(256) as usize;
     match random.below(3) {
         1 if count > 1 => list.pages.swap(0, count - 1),

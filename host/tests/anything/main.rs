@@ -54,7 +54,7 @@ fn main() {
 
 /// As many rounds of a kind: a board, some copies of it, each changed and then played on.
 fn run(options: &Options, stream: u64, kind: damage::Kind, seen: &mut Seen) -> Checked {
-    let rounds = (options.amount * kind.share()).div_ceil(100);
+    let rounds = (options.amount * kind.share() + 99) / 100;
     let mut told = Instant::now();
     let mut calls = 0;
     for i in options.from..options.from + rounds {

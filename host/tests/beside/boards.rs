@@ -1,12 +1,13 @@
 //! The boards that sequences run on, and where their calls are drawn from.
 
+use crate::churn::Churn;
 use crate::draw::Draw;
 use crate::guard::Against;
 use paper::call::Call;
 use paper::domain::{self, Verdict};
 use paper::generate::{Generator, Parts, Profile, Random};
-use paper::state::State;
-use paper::PAGE;
+use paper::state::{Region, Slot, State};
+use paper::{KERNEL_WINDOW, PAGE, TEMPORARY, USER_WINDOW};
 use rinux::oracle::Board;
 
 /// What a sequence runs on.
@@ -20,6 +21,12 @@ pub enum Kind {
     FewFree,
     /// Lists that are filled to their 256 entries.
     Crowded,
+    /// Regions of up to 2^30 bytes, of which few pages are mapped.
+    Far,
+    /// Thousands of calls on one board.
+    Churn,
+    /// Copies, at times with the temporary page mapped before.
+    Copies,
     /// Calls on the mapper, on boards of 1 to 64 frames anywhere in memory.
     Mapper,
     /// The same from a state near a fresh one.
@@ -29,7 +36,7 @@ pub enum Kind {
 }
 
 impl Kind {
-    pub const ALL: [Kind; 10] = [
+    pub const ALL: [Kind; 13] = [
         Kind::Fresh(Profile::Release),
         Kind::Fresh(Profile::Faults),
         Kind::Fresh(Profile::Frames),
@@ -37,6 +44,9 @@ impl Kind {
         Kind::Near,
         Kind::FewFree,
         Kind::Crowded,
+        Kind::Far,
+        Kind::Churn,
+        Kind::Copies,
         Kind::Mapper,
         Kind::MapperNear,
         Kind::MapperLarge,
@@ -48,6 +58,9 @@ impl Kind {
             Kind::Near => "from states near those that calls lead to",
             Kind::FewFree => "boards of 65 to 8192 frames, few of them free",
             Kind::Crowded => "lists of up to 256 entries",
+            Kind::Far => "regions far larger than their frames",
+            Kind::Churn => "thousands of calls on one board",
+            Kind::Copies => "copies, the temporary page mapped or not",
             Kind::Mapper => "the mapper's calls, 1 to 64 frames anywhere",
             Kind::MapperNear => "the mapper's calls, from states near a fresh one",
             Kind::MapperLarge => "the mapper's calls, 65 to 8193 frames",
@@ -55,17 +68,36 @@ impl Kind {
         name.to_string()
     }
 
-    /// How many of a hundred sequences are of this kind.
-    pub fn share(self) -> u64 {
+    /// How many of ten thousand sequences are of this kind.
+    fn share(self) -> u64 {
         match self {
-            Kind::Fresh(Profile::Frames) => 8,
-            Kind::Fresh(_) => 20,
-            Kind::Near => 14,
-            Kind::FewFree | Kind::Crowded => 2,
-            Kind::Mapper => 8,
-            Kind::MapperNear => 5,
-            Kind::MapperLarge => 1,
+            Kind::Fresh(Profile::Frames) => 800,
+            Kind::Fresh(_) => 2000,
+            Kind::Near => 1400,
+            Kind::FewFree | Kind::Crowded => 180,
+            Kind::Far => 150,
+            Kind::Copies => 300,
+            Kind::Churn => 6,
+            Kind::Mapper => 800,
+            Kind::MapperNear => 500,
+            Kind::MapperLarge => 100,
         }
+    }
+
+    /// How many of a hundred calls lie inside the domain of equality, at the least: the others are passed
+    /// over.
+    pub fn least_inside(self) -> u64 {
+        match self {
+            Kind::MapperNear => 45,
+            Kind::Near | Kind::Far => 70,
+            Kind::Churn | Kind::Mapper | Kind::MapperLarge => 80,
+            _ => 90,
+        }
+    }
+
+    /// How many of so many sequences are of this kind, at least one.
+    pub fn sequences(self, amount: u64) -> u64 {
+        (amount * self.share() + 9999) / 10000
     }
 }
 
@@ -73,6 +105,9 @@ impl Kind {
 pub enum Source {
     Paper(Generator),
     Mapper(Draw),
+    Churn(Churn),
+    /// At times one of these calls, the last first.
+    Mixed(Random, Vec<Call>, Generator),
 }
 
 impl Source {
@@ -80,6 +115,11 @@ impl Source {
         match self {
             Source::Paper(generator) => generator.next(state),
             Source::Mapper(draw) => draw.call(state),
+            Source::Churn(churn) => churn.call(state),
+            Source::Mixed(random, calls, generator) => match random.chance(1, 2) {
+                true => calls.pop().unwrap_or_else(|| generator.next(state)),
+                false => generator.next(state),
+            },
         }
     }
 }
@@ -101,10 +141,14 @@ pub fn settle(random: &mut Random, kind: Kind) -> Result<(Setting, Source, usize
     let mut generator = match kind {
         Kind::Fresh(profile) => Generator::new(random.word(), profile),
         Kind::Crowded => Generator::crowded(random.word()),
+        Kind::Far => Generator::new(random.word(), Profile::Release),
+        Kind::Copies => Generator::new(random.word(), Profile::Faults),
         _ => Generator::new(random.word(), Profile::Everything),
     };
     let memory = match kind {
-        Kind::Fresh(_) | Kind::Near | Kind::Crowded => generator.board(),
+        Kind::Fresh(_) | Kind::Near | Kind::Crowded | Kind::Far => generator.board(),
+        Kind::Copies => anywhere(random, 16, 64),
+        Kind::Churn => anywhere(random, 100, 300),
         Kind::FewFree => anywhere(random, 65, 8192),
         Kind::Mapper | Kind::MapperNear => anywhere(random, 1, 64),
         Kind::MapperLarge => anywhere(random, 65, 8193),
@@ -116,7 +160,9 @@ pub fn settle(random: &mut Random, kind: Kind) -> Result<(Setting, Source, usize
     });
     let mut board = board.map_err(|why| format!("{memory:x?}: {why:?}"))?;
     let mut length = generator.length();
+    let mut releases = Vec::new();
     let near = match kind {
+        Kind::Far => Some(far(random, &mut generator, &mut board, &mut releases)),
         Kind::Near => Some(near(&mut generator, &mut board, length / 3)),
         Kind::MapperNear => Some(near(&mut generator, &mut board, 0)),
         Kind::FewFree => Some(few_free(random, &board)),
@@ -126,6 +172,19 @@ pub fn settle(random: &mut Random, kind: Kind) -> Result<(Setting, Source, usize
         Kind::Mapper | Kind::MapperNear | Kind::MapperLarge => {
             length = 20 + random.below(60) as usize;
             Source::Mapper(Draw::new(Random::new(random.word())))
+        }
+        Kind::Churn => {
+            length = 2000 + random.below(2000) as usize;
+            Source::Churn(Churn::new(Random::new(random.word())))
+        }
+        Kind::Far => {
+            length = 4 + random.below(6) as usize;
+            Source::Mixed(Random::new(random.word()), releases, generator)
+        }
+        Kind::Copies => {
+            length = 14 + random.below(10) as usize;
+            let calls = copies(random);
+            Source::Mixed(Random::new(random.word()), calls, generator)
         }
         _ => Source::Paper(generator),
     };
@@ -154,14 +213,32 @@ fn anywhere(random: &mut Random, least: u64, most: u64) -> (u64, u64) {
     (start, start + frames * PAGE)
 }
 
-/// A state near the one that some calls lead to.
-fn near(generator: &mut Generator, board: &mut Board, calls: usize) -> (Vec<u64>, Parts) {
+fn play(generator: &mut Generator, board: &mut Board, calls: usize) {
     for _ in 0..calls {
         let call = generator.next(&board.state());
         if domain::read(&board.state(), &call).verdict == Verdict::Inside {
             board.play(&call);
         }
     }
+}
+
+/// The records of a state.
+fn parts_of(state: &State) -> Parts {
+    Parts {
+        words: Vec::new(),
+        bitmap: state.bitmap,
+        allocated: state.marked_frames(),
+        root: state.root,
+        slots: state.vmalloc().to_vec(),
+        regions: state.regions.clone(),
+        next_addr: state.next_addr,
+        marked: state.marked.clone(),
+    }
+}
+
+/// A state near the one that some calls lead to.
+fn near(generator: &mut Generator, board: &mut Board, calls: usize) -> (Vec<u64>, Parts) {
+    play(generator, board, calls);
     let parts = generator.perturb(&board.state());
     (board.words().to_vec(), parts)
 }
@@ -175,15 +252,53 @@ fn few_free(random: &mut Random, board: &Board) -> (Vec<u64>, Parts) {
         let index = (state.total - 1 - random.below(near)) as usize;
         state.bitmap[index / 64] &= !(1 << (index % 64));
     }
-    let parts = Parts {
-        words: Vec::new(),
-        bitmap: state.bitmap,
-        allocated: state.marked_frames(),
-        root: state.root,
-        slots: state.vmalloc().to_vec(),
-        regions: Vec::new(),
-        next_addr: state.next_addr,
-        marked: Vec::new(),
-    };
+    (board.words().to_vec(), parts_of(&state))
+}
+
+/// Regions of 2^21 to 2^30 bytes put over what some calls led to, one of each list, and the calls that
+/// release them. Few of their pages are mapped.
+fn far(
+    random: &mut Random,
+    generator: &mut Generator,
+    board: &mut Board,
+    releases: &mut Vec<Call>,
+) -> (Vec<u64>, Parts) {
+    play(generator, board, 12);
+    let mut parts = parts_of(&board.state());
+    let start = parts.regions.first().map_or(parts.next_addr, |region| region.start);
+    let user = Region { start, size: far_size(random), prot: 2, flags: 0x22 };
+    parts.regions.retain(|region| region.start != user.start);
+    parts.regions.push(user);
+    parts.regions.sort_by_key(|region| region.start);
+    releases.push(Call::Munmap { addr: user.start, size: user.size });
+    let start = random.one_of(&[KERNEL_WINDOW.0, KERNEL_WINDOW.0 + 4 * PAGE, user.start]);
+    let kernel = Slot { start, size: far_size(random), used: true };
+    parts.slots.retain(|slot| slot.start != kernel.start);
+    let at = random.below(parts.slots.len().min(200) as u64 + 1) as usize;
+    parts.slots.insert(at, kernel);
+    releases.push(Call::Vfree { addr: kernel.start });
     (board.words().to_vec(), parts)
+}
+
+fn far_size(random: &mut Random) -> u64 {
+    let more = random.one_of(&[22, 26, 30]);
+    match random.below(4) {
+        0 => 1 << 30,
+        _ => ((1 << 21) + random.below(1 << more)).min(1 << 30) & !(PAGE - 1),
+    }
+}
+
+/// A page that is mapped, marked and written to, the last call first. Mostly the temporary page is
+/// mapped before: as a region, to a frame, or by a fault.
+fn copies(random: &mut Random) -> Vec<Call> {
+    let addr = USER_WINDOW.0;
+    let mmap = |given, addr| Call::Mmap { given, addr, size: PAGE, prot: 2, flags: 0x22 };
+    let temporary = match random.below(4) {
+        0 => mmap(true, TEMPORARY),
+        1 => Call::MapPage { virt: TEMPORARY, phys: random.word(), flags: 3 },
+        2 => Call::SecondFault { addr: TEMPORARY + random.below(PAGE), code: 2 },
+        _ => Call::Translate { addr: TEMPORARY },
+    };
+    let write = Call::Fault { addr: addr + random.below(PAGE), code: random.one_of(&[3, 7, 0x23]) };
+    vec![write, Call::MarkCow { addr }, write, temporary, Call::MarkCow { addr }, mmap(false, 0)]
 }

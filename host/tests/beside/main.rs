@@ -8,6 +8,7 @@
 //! Usage: beside [--seed S] [--sequences N] [--from I]
 
 mod boards;
+mod churn;
 mod draw;
 #[path = "../shared/guard.rs"]
 mod guard;
@@ -16,6 +17,7 @@ mod options;
 mod play;
 #[path = "../shared/port.rs"]
 mod port;
+mod rare;
 #[path = "../shared/report.rs"]
 mod report;
 mod seen;
@@ -52,7 +54,7 @@ impl Progress {
 }
 
 fn main() {
-    let options = Options::read("beside", "sequences", 8000);
+    let options = Options::read("beside", "sequences", 6000);
     guard::watch();
     let mut report = Report::default();
     let now = Instant::now();
@@ -68,7 +70,7 @@ fn main() {
     report.finish();
 }
 
-/// A kind's share of the sequences, at least one.
+/// A kind's share of the sequences.
 fn run(
     options: &Options,
     stream: u64,
@@ -76,13 +78,19 @@ fn run(
     seen: &mut Seen,
     progress: &mut Progress,
 ) -> Checked {
-    let share = (options.amount * kind.share()).div_ceil(100);
     let mut played = 0;
-    for i in options.from..options.from + share {
+    let outside_before = seen::outside(seen);
+    for i in options.from..options.from + kind.sequences(options.amount) {
+        guard::at(format!("beside: {}, sequence {i}", kind.name()));
         let calls = play::sequence(&mut options.nth(stream, i), kind, seen)
             .map_err(|why| format!("sequence {i}: {why}"))?;
         progress.add(calls);
         played += calls;
     }
+    let percent = played * 100 / (played + seen::outside(seen) - outside_before).max(1);
+    println!("  {percent} of 100 calls inside the domain");
+    let least = if options.amount < seen::ENOUGH { 0 } else { kind.least_inside() };
+    let enough = format!("{least} of 100 calls inside the domain, not {percent}");
+    report::holds(percent >= least, &enough)?;
     Ok(played)
 }

@@ -2,14 +2,14 @@
 
 use crate::boards::{self, Kind, Setting};
 use crate::port::{self, Port};
+use crate::rare::{self, leaf};
 use crate::report::{equal, holds, Checked};
 use gadulnos::Line;
 use paper::call::Call;
 use paper::domain::{self, Verdict};
 use paper::generate::Random;
 use paper::minimise;
-use paper::state::{page_of, State, SLOTS};
-use paper::PAGE;
+use paper::state::State;
 use rinux::oracle::Board;
 use std::collections::BTreeMap;
 
@@ -55,20 +55,27 @@ fn play(
         Ok(both) => both,
         Err(why) => return (calls, Err(format!("the start: {why}"))),
     };
+    let mut huge = false;
     while let Some(call) = next(&board.state()) {
-        match domain::read(&board.state(), &call).verdict {
-            Verdict::Inside | Verdict::Edge => {}
-            Verdict::Outside(reason) => {
-                *seen.entry(format!("outside: {reason:?}")).or_default() += 1;
-                continue;
-            }
+        let reading = domain::read(&board.state(), &call);
+        if let Verdict::Outside(reason) = reading.verdict {
+            count(seen, &format!("outside: {reason:?}"));
+            continue;
         }
         calls.push(call);
-        if let Err(why) = play_one(&mut board, &mut port, &call, seen) {
-            return (calls, Err(format!("{call}: {why}")));
+        if huge {
+            count(seen, "calls with a HUGE entry on the board: 1");
+        }
+        match play_one(&mut board, &mut port, &call, reading.turned_away, seen) {
+            Ok(line) => huge |= matches!(call, Call::MapHugePage { .. }) && line == Line::met(0),
+            Err(why) => return (calls, Err(format!("{call}: {why}"))),
         }
     }
     (calls, Ok(()))
+}
+
+fn count(seen: &mut Seen, what: &str) {
+    *seen.entry(what.to_string()).or_default() += 1;
 }
 
 /// The Rust's board and the port's, both started on the same words, the port's records holding
@@ -94,36 +101,49 @@ fn compare(board: &Board, port: &Port) -> Result<(), String> {
     board.state().difference(&ours).map_or(Ok(()), Err)
 }
 
-/// One call on both.
+/// One call on both. `turned_away` is which of 11 and 13 was foreseen, if one was: the Rust's vmalloc
+/// says `None` for either.
 fn play_one(
     board: &mut Board,
     port: &mut Port,
     call: &Call,
+    turned_away: Option<u32>,
     seen: &mut Seen,
-) -> Result<(), String> {
-    let rare = rare(&board.state(), call);
+) -> Result<Line, String> {
+    let rare = rare::names(&board.state(), call);
     let outcome = board.play(call);
     let line = port::play(port, call);
     let number = u32::try_from(line.number).unwrap_or(u32::MAX);
     let Line { number: ours, value } = line;
     let theirs = outcome.key_line(call.kind());
-    holds(
-        outcome.agrees(number, line.value),
-        &format!("`{theirs}`, got number {ours} value {value:x}"),
-    )?;
-    for name in [call.shape().name].into_iter().chain(rare) {
-        *seen.entry(format!("{name} {number}")).or_default() += 1;
+    let got = format!("got number {ours} value {value:x}");
+    holds(outcome.agrees(number, line.value), &format!("`{theirs}`, {got}"))?;
+    if matches!(call, Call::Vmalloc { .. } | Call::Mmap { .. }) {
+        let ours = Some(number).filter(|number| [11, 13].contains(number));
+        holds(ours == turned_away, &format!("{turned_away:?} as foreseen, {got}"))?;
+        if outcome.numbers.iter().count() > 1 {
+            count(seen, &format!("vmalloc by foresight alone, {number}"));
+        }
     }
+    count(seen, "inside");
+    count(seen, &format!("{} {number}", call.shape().name));
+    rare.iter().for_each(|name| count(seen, &format!("{name}, {number}")));
     compare(board, port)?;
-    let state = board.state();
+    ask(&board.state(), port, call, seen)?;
+    Ok(line)
+}
+
+/// The questions beside a call: after a translation whether user code may read or write there, which the
+/// Rust does not have, and the three counts.
+fn ask(state: &State, port: &Port, call: &Call, seen: &mut Seen) -> Result<(), String> {
     match *call {
         Call::Translate { addr } => {
-            let leaf = leaf(&state, addr);
+            let leaf = leaf(state, addr);
             let level = leaf.map_or("nowhere".to_string(), |(_, level)| format!("level {level}"));
-            *seen.entry(format!("translate to {level}")).or_default() += 1;
+            count(seen, &format!("translate to {level}"));
             let answers = user_may(leaf);
             for (answer, what) in answers.iter().zip(["read", "write"]) {
-                *seen.entry(format!("user may {what}: {}", answer.value)).or_default() += 1;
+                count(seen, &format!("user may {what}: {}", answer.value));
             }
             equal(port::user_may(port, addr), answers)
         }
@@ -133,36 +153,6 @@ fn play_one(
         }
         _ => Ok(()),
     }
-}
-
-/// A name for calls that seldom come about.
-fn rare(state: &State, call: &Call) -> Option<&'static str> {
-    match *call {
-        Call::Vmalloc { .. } if state.vmalloc_count == SLOTS => Some("vmalloc at 256 regions,"),
-        Call::Vfree { .. } if state.vmalloc_count == SLOTS => Some("vfree at 256 regions,"),
-        Call::Mmap { .. } if state.regions.len() == SLOTS - 1 => Some("mmap at 255 regions,"),
-        Call::Mmap { .. } if state.regions.len() == SLOTS => Some("mmap at 256 regions,"),
-        Call::Munmap { .. } if state.regions.len() == SLOTS => Some("munmap at 256 regions,"),
-        Call::MarkCow { .. } if state.marked.len() == SLOTS - 1 => Some("mark_cow at 255 pages,"),
-        Call::Fault { addr, code } if code & 11 == 3 && state.marked.contains(&page_of(addr)) => {
-            Some("copy")
-        }
-        _ => None,
-    }
-}
-
-/// The entry that a translation ends at, read directly, and its level from the root.
-fn leaf(state: &State, virt: u64) -> Option<(u64, usize)> {
-    let mut table = state.root;
-    for (level, shift) in [39, 30, 21, 12].into_iter().enumerate() {
-        let word = state.words[state.lent(table)? * 512 + (virt >> shift) as usize % 512];
-        match word & 1 {
-            0 => return None,
-            _ if level == 3 || level == 2 && word & 128 != 0 => return Some((word, level)),
-            _ => table = (word & 0x000F_FFFF_FFFF_F000) / PAGE,
-        }
-    }
-    None
 }
 
 /// Whether user code may read an address, and write it: the last level's entry alone decides.

@@ -1,54 +1,94 @@
-//! What random sequences must come upon, or they show little.
+//! What random sequences must come upon, and how often, or they show little.
 
 use crate::play::Seen;
-use crate::report::{holds, Report};
+use crate::report::Report;
 
-const WANTED: [(&str, &[u64]); 29] = [
-    ("vmalloc", &[0, 1, 11, 13, 15]),
-    ("vfree", &[0, 16]),
-    ("mmap", &[0, 1, 2, 11, 13, 15]),
-    ("munmap", &[0, 1, 2, 16]),
-    ("fault", &[0, 5, 6, 7, 8, 11, 17, 18]),
-    ("copy", &[0, 11, 18]),
-    ("translate", &[0, 14]),
-    ("translate to level", &[2, 3]),
-    ("user may read:", &[0, 1]),
-    ("user may write:", &[0, 1]),
-    ("second_fault", &[0, 5, 7, 8, 11, 17]),
-    ("map_page", &[0, 11, 12]),
-    ("unmap_page", &[0, 14]),
-    ("map_huge_page", &[0, 4, 11, 12]),
-    ("mark_cow", &[0]),
-    ("unmark_cow", &[0]),
-    ("is_cow", &[0]),
-    ("allocate_frame", &[0, 11]),
-    ("deallocate_frame", &[0]),
-    ("mark_allocated", &[0]),
-    ("is_allocated", &[0]),
-    ("is_vmalloc_addr", &[0]),
-    ("mprotect", &[9]),
-    ("counts", &[0]),
-    ("vmalloc at 256 regions,", &[0, 15]),
-    ("vfree at 256 regions,", &[0]),
-    ("mmap at 255 regions,", &[0]),
-    ("munmap at 256 regions,", &[0]),
-    ("mark_cow at 255 pages,", &[0]),
+/// A run of fewer sequences need not come upon everything.
+pub const ENOUGH: u64 = 3000;
+
+/// An answer, and how often it must come in 6000 sequences.
+type Least = (u32, u64);
+
+/// Every answer to every call, those to the questions beside them included.
+const ANSWERS: [(&str, &[Least]); 24] = [
+    ("vmalloc ", &[(0, 6000), (1, 90), (11, 5000), (13, 250), (15, 400)]),
+    ("vmalloc by foresight alone, ", &[(11, 5000), (13, 90)]),
+    ("vfree ", &[(0, 1800), (16, 4000)]),
+    ("mmap ", &[(0, 5000), (1, 150), (2, 40), (11, 2500), (13, 900), (15, 1500)]),
+    ("munmap ", &[(0, 1800), (1, 150), (2, 600), (16, 2800)]),
+    (
+        "fault ",
+        &[(0, 900), (5, 1200), (6, 1500), (7, 150), (8, 150), (11, 900), (17, 400), (18, 400)],
+    ),
+    ("translate ", &[(0, 1100), (14, 3500)]),
+    ("translate to level ", &[(2, 170), (3, 900)]),
+    ("user may read: ", &[(0, 4000), (1, 500)]),
+    ("user may write: ", &[(0, 4000), (1, 250)]),
+    ("second_fault ", &[(0, 800), (5, 500), (7, 60), (8, 60), (11, 430), (17, 700)]),
+    ("map_page ", &[(0, 2000), (11, 3000), (12, 1300)]),
+    ("unmap_page ", &[(0, 1200), (14, 2700)]),
+    ("map_huge_page ", &[(0, 1000), (4, 900), (11, 900), (12, 550)]),
+    ("mark_cow ", &[(0, 6000)]),
+    ("unmark_cow ", &[(0, 1300)]),
+    ("is_cow ", &[(0, 1300)]),
+    ("allocate_frame ", &[(0, 1200), (11, 500)]),
+    ("deallocate_frame ", &[(0, 2000)]),
+    ("mark_allocated ", &[(0, 1100)]),
+    ("is_allocated ", &[(0, 1100)]),
+    ("is_vmalloc_addr ", &[(0, 600)]),
+    ("mprotect ", &[(9, 600)]),
+    ("counts ", &[(0, 1200)]),
 ];
+
+/// Each event by its name and answer.
+const EVENTS: [(&str, &[Least]); 21] = [
+    ("calls with a HUGE entry on the board: ", &[(1, 15000)]),
+    ("vmalloc at 256 regions, ", &[(0, 10), (11, 1), (15, 30)]),
+    ("vmalloc cuts at 256 regions, ", &[(0, 5)]),
+    ("vfree at 256 regions, ", &[(0, 30), (16, 4)]),
+    ("mmap at 255 regions, ", &[(0, 20)]),
+    ("munmap at 256 regions, ", &[(0, 15), (16, 2)]),
+    ("mark_cow at 255 pages, ", &[(0, 30)]),
+    ("copy, ", &[(0, 230), (11, 450), (18, 30)]),
+    ("copy with the temporary page mapped, ", &[(0, 40), (11, 20)]),
+    ("translate over a third-level HUGE entry, ", &[(0, 170)]),
+    ("map_page over a third-level HUGE entry, ", &[(0, 5), (12, 35)]),
+    ("unmap_page over a third-level HUGE entry, ", &[(0, 12), (14, 2)]),
+    ("map_huge_page over a third-level HUGE entry, ", &[(0, 2), (12, 120), (4, 50)]),
+    ("fault over a third-level HUGE entry, ", &[(5, 10), (6, 10), (11, 8), (17, 2)]),
+    ("second_fault over a third-level HUGE entry, ", &[(5, 8), (11, 5), (17, 10)]),
+    ("vfree of a far larger region, ", &[(0, 30)]),
+    ("vfree of 2^29 bytes or more, ", &[(0, 8)]),
+    ("vfree of 2^30 bytes, ", &[(0, 4)]),
+    ("munmap of a far larger region, ", &[(0, 30)]),
+    ("munmap of 2^29 bytes or more, ", &[(0, 8)]),
+    ("munmap of 2^30 bytes, ", &[(0, 5)]),
+];
+
+/// How many calls were passed over.
+pub fn outside(seen: &Seen) -> u64 {
+    seen.iter().filter(|(what, _)| what.starts_with("outside: ")).map(|(_, times)| times).sum()
+}
 
 /// Prints what was seen, and checks that nothing wanted is missing, unless the run was a short one.
 pub fn check(report: &mut Report, seen: &Seen, sequences: u64) {
     let counts: Vec<String> = seen.iter().map(|(what, times)| format!("{what}: {times}")).collect();
     println!("  {}", counts.join("; "));
-    if sequences >= 4000 {
-        report.check("beside: every answer of the Rust was met with", all(seen));
+    if sequences >= ENOUGH {
+        let often = |wanted: &[(&str, &[Least])]| often(seen, wanted, sequences);
+        report.check("beside: every answer of the Rust often enough", often(&ANSWERS));
+        report.check("beside: every event often enough", often(&EVENTS));
     }
 }
 
-fn all(seen: &Seen) -> Result<(), String> {
-    for (name, answers) in WANTED {
-        for answer in answers {
-            let what = format!("{name} {answer}");
-            holds(seen.contains_key(&what), &what)?;
+fn often(seen: &Seen, wanted: &[(&str, &[Least])], sequences: u64) -> Result<(), String> {
+    for (name, answers) in wanted {
+        for (answer, least) in *answers {
+            let what = format!("{name}{answer}");
+            let (times, least) = (seen.get(&what).copied().unwrap_or(0), least * sequences / 6000);
+            if times < least.max(1) {
+                return Err(format!("{what}: {times} times, not {}", least.max(1)));
+            }
         }
     }
     Ok(())

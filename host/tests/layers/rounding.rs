@@ -55,7 +55,8 @@ fn powers(options: &Options) -> Checked {
         let align = 1 << shift;
         for addr in addresses(&mut random, align, options.amount) {
             both(addr, align)?;
-            let multiple = u128::from(addr).div_ceil(u128::from(align)) * u128::from(align);
+            let (wide, step) = (u128::from(addr), u128::from(align));
+            let multiple = (wide + step - 1) / step * step;
             let wanted = u64::try_from(multiple).map_or(TOO_LARGE, Line::met);
             equal_at((addr, align), gadulnos::align_up(addr, align), wanted)?;
             cases += 1;

@@ -2,6 +2,7 @@
 //! are those that were foreseen, and both builds agree.
 
 use crate::checked::rinux::oracle::Board;
+use crate::guard;
 use crate::report::{holds, Report};
 use crate::wrapping::rinux::oracle::Board as WrappingBoard;
 use paper::answer::Outcome;
@@ -49,6 +50,7 @@ fn play_and_replay(
     seen: &mut Seen,
 ) -> Result<(), String> {
     let mut generator = Generator::new(seed, profile);
+    guard::at(generator.label());
     let played = play(&mut generator, perturbed, seen)
         .map_err(|why| format!("{}: {why}", generator.label()))?;
     replay(&played).map_err(|why| format!("{}: {why}", generator.label()))

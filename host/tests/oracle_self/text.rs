@@ -44,7 +44,7 @@ fn is_original(name: &str, original: &str, compiled: &str) -> Result<(), String>
     let prepared = substitutions::apply(name, original)?;
     let below =
         compiled.strip_prefix(&prepared).ok_or("the compiled text is not the prepared one")?;
-    holds(below.starts_with("\npub mod access {\n"), "the accessors")?;
+    holds(below.starts_with(substitutions::BELOW), "the accessors")?;
     equal(substitutions::undo(name, &prepared).as_str(), original)
 }
 

@@ -1,23 +1,29 @@
 //! Memory between two pages that nothing may touch, so that an access outside what is lent
-//! ends the program.
+//! ends the program, and a watchdog that ends a program that hangs. Both say where it was.
 
 #![allow(dead_code)] // no program uses all of it
 
 use crate::report::{equal, Report};
+use paper::call::Call;
 use std::ffi::c_void;
+use std::mem::size_of_val;
 use std::ops::{Deref, DerefMut};
 use std::process::Command;
-use std::{env, process};
+use std::sync::Mutex;
+use std::time::{Duration, Instant};
+use std::{env, process, thread};
 
 const PAGE: usize = 4096;
 const PROT_NONE: i32 = 0;
 const PROT_READ_WRITE: i32 = 3;
 /// MAP_PRIVATE and MAP_ANONYMOUS.
 const ANONYMOUS: i32 = 0x2 | 0x20;
-const SIGALRM: i32 = 14;
 const SIGSEGV: i32 = 11;
-const OUTSIDE: &str = "FAILED an access outside what is lent ended the program\n";
-const HANGING: &str = "FAILED a call did not end\n";
+const OUTSIDE: &str = "FAILED an access outside what is lent ended the program";
+const HANGING: &str = "FAILED no end within the time allowed";
+
+/// The longest that a check, or a sequence of one, may go without a call of the port, in seconds.
+const PATIENCE: u32 = 300;
 
 extern "C" {
     fn mmap(
@@ -31,7 +37,6 @@ extern "C" {
     fn mprotect(addr: *mut c_void, length: usize, prot: i32) -> i32;
     fn munmap(addr: *mut c_void, length: usize) -> i32;
     fn signal(number: i32, handler: extern "C" fn(i32)) -> usize;
-    fn alarm(seconds: u32) -> u32;
     fn write(file: i32, bytes: *const u8, count: usize) -> isize;
     fn _exit(status: i32) -> !;
 }
@@ -55,7 +60,7 @@ impl<T: Copy> Guarded<T> {
     /// A guarded copy.
     pub fn copy(items: &[T], against: Against) -> Guarded<T> {
         let used = size_of_val(items);
-        let filled = used.next_multiple_of(PAGE);
+        let filled = (used + PAGE - 1) / PAGE * PAGE;
         let bytes = filled + 2 * PAGE;
         // SAFETY: a new mapping that replaces none; its middle is then opened.
         let mapping = unsafe {
@@ -105,49 +110,104 @@ impl<T: Copy> Drop for Guarded<T> {
     }
 }
 
-/// Has an access to a guard reported as a failed check.
+/// Where the program is, and how long it may be there.
+struct Place {
+    name: String,
+    /// The call that the port was given last.
+    call: Option<Call>,
+    since: Instant,
+    patience: Duration,
+}
+
+static PLACE: Mutex<Option<Place>> = Mutex::new(None);
+
+/// Has an access to a guard reported as a failed check, and a check that does not end.
 pub fn watch() {
+    at("the beginning");
     // SAFETY: the handler only writes and ends the program.
     unsafe { signal(SIGSEGV, outside) };
+    thread::spawn(|| loop {
+        thread::sleep(Duration::from_millis(500));
+        if with_place(|place| place.since.elapsed() > place.patience) == Some(true) {
+            end_with(HANGING);
+        }
+    });
 }
 
-/// Has the program end with a failed check unless this is called again within so many seconds.
+/// Names the check, sequence or list that begins, which may take as long as any.
+pub fn at(name: impl Into<String>) {
+    let patience = Duration::from_secs(PATIENCE.into());
+    *lock() = Some(Place { name: name.into(), call: None, since: Instant::now(), patience });
+}
+
+/// Names the call that the port is given, which may take as long again.
+pub fn calling(call: &Call) {
+    with_place(|place| {
+        place.call = Some(*call);
+        place.since = Instant::now();
+    });
+}
+
+/// Has the program end with a failed check unless the next step comes within so many seconds, a step being
+/// this, `at` or a call of the port.
 pub fn within(seconds: u32) {
-    // SAFETY: the handler only writes and ends the program.
-    unsafe {
-        signal(SIGALRM, hanging);
-        alarm(seconds);
-    }
+    with_place(|place| {
+        place.since = Instant::now();
+        place.patience = Duration::from_secs(seconds.into());
+    });
 }
 
-/// That the word before lent ones and the word behind them cannot be read: a program of its
-/// own tries it, since it ends there.
+fn lock() -> std::sync::MutexGuard<'static, Option<Place>> {
+    PLACE.lock().unwrap_or_else(|poisoned| poisoned.into_inner())
+}
+
+fn with_place<T>(see: impl FnOnce(&mut Place) -> T) -> Option<T> {
+    lock().as_mut().map(see)
+}
+
+/// That the word before lent ones and the word behind them cannot be read, and that a program that
+/// hangs is ended: programs of their own try it, since they end there.
 pub fn check(report: &mut Report) {
     for word in ["-1", "3"] {
         let name = format!("guards: word {word} of three lent ones cannot be read");
-        report.check(&name, touched(word));
+        report.check(&name, ended(&["--touch", word], OUTSIDE));
     }
+    report.check("guards: a program that hangs is ended", ended(&["--hang", "1"], HANGING));
 }
 
-fn touched(word: &str) -> Result<(), String> {
+/// That a program of its own ends with this message, and says where it was.
+fn ended(words: &[&str], message: &str) -> Result<(), String> {
     let program = env::current_exe().map_err(|why| why.to_string())?;
-    let output = Command::new(program).args(["--touch", word]).output();
+    let output = Command::new(program).args(words).output();
     let output = output.map_err(|why| why.to_string())?;
     let text = String::from_utf8_lossy(&output.stdout).into_owned();
-    equal((output.status.code(), text), (Some(1), OUTSIDE.to_string()))
+    equal((output.status.code(), text), (Some(1), format!("{message}: a trial, at counts\n")))
 }
 
-/// If the program was started by `check`: reads a word beside three lent ones, and does not come
-/// back.
+/// If the program was started by `check`: reads a word beside three lent ones, or hangs, and does not
+/// come back.
 pub fn touch_if_told() {
     let words: Vec<String> = env::args().skip(1).collect();
-    let [touch, word] = words.as_slice() else { return };
-    let ("--touch", Ok(word)) = (touch.as_str(), word.parse::<isize>()) else { return };
+    let (told, number) = match words.as_slice() {
+        [told, number] => (told.as_str(), number.parse::<isize>()),
+        _ => return,
+    };
+    let number = match (told, number) {
+        ("--touch" | "--hang", Ok(number)) => number,
+        _ => return,
+    };
     watch();
-    let against = if word < 0 { Against::Before } else { Against::Behind };
+    at("a trial");
+    calling(&Call::Counts);
+    if told == "--hang" {
+        within(number as u32);
+        thread::sleep(Duration::from_secs(60));
+        process::exit(0)
+    }
+    let against = if number < 0 { Against::Before } else { Against::Behind };
     let lent = Guarded::copy(&[0u64; 3], against);
     // SAFETY: inside the mapping, whose guards end the program.
-    let read = unsafe { lent.start.offset(word).read_volatile() };
+    let read = unsafe { lent.start.offset(number).read_volatile() };
     println!("read {read:x}");
     process::exit(0)
 }
@@ -156,11 +216,14 @@ extern "C" fn outside(_: i32) {
     end_with(OUTSIDE)
 }
 
-extern "C" fn hanging(_: i32) {
-    end_with(HANGING)
-}
-
+/// Ends the program with a failed check. The place is left out if it is being written just now.
 fn end_with(message: &str) -> ! {
+    let place = match PLACE.try_lock().as_deref() {
+        Ok(Some(Place { name, call: Some(call), .. })) => format!(": {name}, at {call}"),
+        Ok(Some(Place { name, .. })) => format!(": {name}"),
+        _ => String::new(),
+    };
+    let message = format!("{message}{place}\n");
     // SAFETY: both calls are allowed in a signal handler.
     unsafe {
         write(1, message.as_ptr(), message.len());

@@ -2,7 +2,7 @@
 
 #![allow(dead_code)] // no program uses all of it
 
-use crate::guard::{Against, Guarded};
+use crate::guard::{self, Against, Guarded};
 use gadulnos::{Board, Frames, Kernel, Line, Marked, User};
 use paper::call::{user, writable, Call};
 use paper::generate::Random;
@@ -20,6 +20,19 @@ pub fn guarded(board: &Board, against: Against) -> Port {
         kernel: Guarded::copy(&board.kernel, against),
         user: Guarded::copy(&board.user, against),
         marked: Guarded::copy(&board.marked, against),
+    }
+}
+
+/// A copy of the parts without guards.
+pub fn unguarded(port: &Port) -> Board {
+    Board {
+        words: port.words.to_vec(),
+        fields: port.fields.to_vec(),
+        bits: port.bits.to_vec(),
+        root: port.root,
+        kernel: port.kernel.to_vec(),
+        user: port.user.to_vec(),
+        marked: port.marked.to_vec(),
     }
 }
 
@@ -62,6 +75,7 @@ pub fn packed(state: &State) -> Board {
 
 /// Makes a call. The bool of a question that nothing can refuse is its value.
 pub fn play(port: &mut Port, call: &Call) -> Line {
+    guard::calling(call);
     match *call {
         Call::Vmalloc { size } => port.vmalloc(size),
         Call::Vfree { addr } => port.vfree(addr),

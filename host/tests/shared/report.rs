@@ -2,6 +2,7 @@
 
 #![allow(dead_code)] // no program uses all of it
 
+use crate::guard;
 use std::fmt::Debug;
 use std::process;
 
@@ -19,6 +20,7 @@ pub struct Report {
 
 impl Report {
     pub fn check(&mut self, name: &str, result: Result<(), String>) {
+        guard::at(format!("after `{name}`"));
         match result {
             Ok(()) => {
                 self.passed += 1;

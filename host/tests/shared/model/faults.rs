@@ -12,7 +12,7 @@ impl Model {
         let marked = self.marked.as_ref().ok_or(BROKEN)?;
         let count = usize::try_from(marked.count).ok().filter(|&n| n <= SLOTS).ok_or(BROKEN)?;
         let listed = &marked.pages[..count];
-        match listed.is_sorted_by(|a, b| a < b) {
+        match listed.windows(2).all(|pair| pair[0] < pair[1]) {
             true => Ok(listed.to_vec()),
             false => Err(BROKEN),
         }

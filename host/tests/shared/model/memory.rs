@@ -2,6 +2,7 @@
 
 use super::Answer;
 use gadulnos::{Bitmap, Frames};
+use paper::state::is_multiple;
 use paper::PAGE;
 
 pub const PRESENT: u64 = 1;
@@ -45,7 +46,7 @@ impl Memory<'_> {
     }
 
     pub fn is_marked(&self, frame: u64) -> bool {
-        self.lent(frame).is_none_or(|i| self.bitmap[i / 64] >> (i % 64) & 1 == 1)
+        self.lent(frame).map_or(true, |i| self.bitmap[i / 64] >> (i % 64) & 1 == 1)
     }
 
     /// Marks a frame; 'only a bit that changes moves the counter'.
@@ -111,7 +112,7 @@ impl Memory<'_> {
 
     pub fn map_huge(&mut self, virt: u64, phys: u64, gigabyte: bool, entry: u64) -> Answer {
         let (size, depth): (u64, u32) = if gigabyte { (1 << 30, 2) } else { (1 << 21, 3) };
-        if !virt.is_multiple_of(size) || !phys.is_multiple_of(size) {
+        if !is_multiple(virt, size) || !is_multiple(phys, size) {
             return Err(4);
         }
         self.map(virt, depth, entry)

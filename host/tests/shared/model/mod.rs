@@ -10,6 +10,7 @@ mod regions;
 use gadulnos::{Bitmap, Board, Frames, Kernel, Line, Marked, User, SLOTS};
 use memory::Memory;
 use paper::call::{user, writable, Call};
+use paper::state::is_multiple;
 use paper::{KERNEL_WINDOW, LAST, PAGE, USER_WINDOW};
 use std::ops::Deref;
 
@@ -135,8 +136,9 @@ impl Model {
 
     /// The start, on parts that have the right lengths if `fits`.
     pub fn start(&mut self, fits: bool, from: u64, to: u64) -> Line {
-        let Some(frames) = fresh_frames(from, to).filter(|_| fits) else {
-            return Line::refused(BROKEN);
+        let frames = match fresh_frames(from, to).filter(|_| fits) {
+            Some(frames) => frames,
+            None => return Line::refused(BROKEN),
         };
         if (self.words.len() as u64) < frames.total * 512 {
             return Line::refused(BROKEN);
@@ -216,7 +218,10 @@ fn fresh_frames(from: u64, to: u64) -> Option<Frames> {
 
 /// 'total above 8192, .. frames ending above 2^52, .. a counter other than the set bits below total'.
 fn frames_are_broken(frames: Option<Frames>, bitmap: Option<Bitmap>) -> bool {
-    let (Some(frames), Some(bitmap)) = (frames, bitmap) else { return true };
+    let (frames, bitmap) = match (frames, bitmap) {
+        (Some(frames), Some(bitmap)) => (frames, bitmap),
+        _ => return true,
+    };
     let ends_high = u128::from(frames.start_frame) + u128::from(frames.total) > 1 << 40;
     if frames.total > 8192 || ends_high {
         return true;
@@ -228,6 +233,6 @@ fn frames_are_broken(frames: Option<Frames>, bitmap: Option<Bitmap>) -> bool {
 /// Whether a recorded region 'is unaligned, .. is empty or ends above 2^64-4096'.
 fn is_misplaced(start: u64, size: u64) -> bool {
     let end = u128::from(start) + u128::from(size);
-    let aligned = start.is_multiple_of(PAGE) && size.is_multiple_of(PAGE);
+    let aligned = is_multiple(start, PAGE) && is_multiple(size, PAGE);
     !aligned || size == 0 || end > u128::from(LAST)
 }

@@ -3,6 +3,7 @@
 use super::memory::{entry, Memory};
 use super::{is_misplaced, Answer, Model, BROKEN};
 use gadulnos::{Kernel, Region, Slot, SLOTS};
+use paper::state::is_multiple;
 use paper::{LAST, PAGE, USER_WINDOW};
 
 pub const NO_SLOT: Slot = Slot { start: 0, size: 0, used: false };
@@ -65,7 +66,7 @@ impl Model {
         let user = self.user.as_ref().filter(|_| whole).ok_or(BROKEN)?;
         let count = usize::try_from(user.count).ok().filter(|&n| n <= SLOTS).ok_or(BROKEN)?;
         let listed = &user.slots[..count];
-        let sound = listed.is_sorted_by(|a, b| a.start < b.start)
+        let sound = listed.windows(2).all(|pair| pair[0].start < pair[1].start)
             && !listed.iter().any(|region| is_misplaced(region.start, region.size))
             && user.next_addr % PAGE == 0;
         match sound {
@@ -114,7 +115,7 @@ impl Model {
 
     pub fn munmap(&mut self, addr: u64, size: u64) -> Answer {
         let (mut list, next_addr) = self.sound_user()?;
-        if size != 0 && !addr.is_multiple_of(PAGE) {
+        if size != 0 && !is_multiple(addr, PAGE) {
             return Err(2);
         }
         let size = rounded(size)?;
@@ -132,7 +133,7 @@ fn rounded(size: u64) -> Answer {
     match size {
         0 => Err(1),
         _ if size > LAST => Err(3),
-        _ => Ok(size.div_ceil(PAGE) * PAGE),
+        _ => Ok((size + (PAGE - 1)) / PAGE * PAGE),
     }
 }
 
@@ -170,7 +171,10 @@ fn merge(list: &mut Vec<Slot>) {
 
 /// Where a region goes: '2, 3 for the range, 15'.
 fn choose(list: &[Region], next_addr: u64, wish: Option<u64>, size: u64, flags: i32) -> Answer {
-    let Some(addr) = wish else { return search(list, next_addr, size) };
+    let addr = match wish {
+        Some(addr) => addr,
+        None => return search(list, next_addr, size),
+    };
     let fixed = flags & MAP_FIXED != 0;
     if addr % PAGE != 0 {
         return if fixed { Err(2) } else { search(list, next_addr, size) };

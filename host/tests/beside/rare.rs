@@ -1,0 +1,91 @@
+//! Names for calls that seldom come about, told from the state before them.
+
+use paper::call::Call;
+use paper::state::{page_of, State, SLOTS};
+use paper::{PAGE, TEMPORARY};
+
+const HUGE: u64 = 128;
+
+/// The entry that a translation ends at, read directly, and its level from the root.
+pub fn leaf(state: &State, virt: u64) -> Option<(u64, usize)> {
+    let mut table = state.root;
+    for (level, shift) in [39, 30, 21, 12].into_iter().enumerate() {
+        let word = state.words[state.lent(table)? * 512 + (virt >> shift) as usize % 512];
+        match word & 1 {
+            0 => return None,
+            _ if level == 3 || level == 2 && word & HUGE != 0 => return Some((word, level)),
+            _ => table = (word & 0x000F_FFFF_FFFF_F000) / PAGE,
+        }
+    }
+    None
+}
+
+/// What is seldom about a call on this state, as names to count it under.
+pub fn names(state: &State, call: &Call) -> Vec<String> {
+    let mut names = Vec::new();
+    match *call {
+        Call::Vmalloc { size } if state.vmalloc_count == SLOTS => {
+            names.push("vmalloc at 256 regions".to_string());
+            let fits = state.vmalloc().iter().find(|slot| !slot.used && slot.size >= size);
+            if size > 0 && fits.map_or(false, |slot| slot.size - size >= PAGE) {
+                names.push("vmalloc cuts at 256 regions".to_string());
+            }
+        }
+        Call::Vfree { addr } => {
+            if state.vmalloc_count == SLOTS {
+                names.push("vfree at 256 regions".to_string());
+            }
+            let region = state.vmalloc().iter().find(|slot| slot.used && slot.start == addr);
+            names.extend(far("vfree", state, region.map(|slot| slot.size)));
+        }
+        Call::Mmap { .. } if state.regions.len() >= SLOTS - 1 => {
+            names.push(format!("mmap at {} regions", state.regions.len()));
+        }
+        Call::Munmap { addr, .. } => {
+            if state.regions.len() == SLOTS {
+                names.push("munmap at 256 regions".to_string());
+            }
+            let region = state.regions.iter().find(|region| region.start == addr);
+            names.extend(far("munmap", state, region.map(|region| region.size)));
+        }
+        Call::MarkCow { .. } if state.marked.len() == SLOTS - 1 => {
+            names.push("mark_cow at 255 pages".to_string());
+        }
+        Call::Fault { addr, code } if code & 11 == 3 && state.marked.contains(&page_of(addr)) => {
+            names.push("copy".to_string());
+            if leaf(state, TEMPORARY).is_some() {
+                names.push("copy with the temporary page mapped".to_string());
+            }
+        }
+        _ => {}
+    }
+    if let Some(addr) = walked(call) {
+        if leaf(state, addr).map_or(false, |(word, level)| level == 2 && word & HUGE != 0) {
+            names.push(format!("{} over a third-level HUGE entry", call.shape().name));
+        }
+    }
+    names
+}
+
+/// A release of a region far larger than the board, and one of 2^29 bytes or more.
+fn far(name: &str, state: &State, size: Option<u64>) -> Vec<String> {
+    let size = size.unwrap_or(0);
+    let names = [
+        (size / PAGE > 4 * state.total, format!("{name} of a far larger region")),
+        (size >= 1 << 29, format!("{name} of 2^29 bytes or more")),
+        (size == 1 << 30, format!("{name} of 2^30 bytes")),
+    ];
+    names.into_iter().filter(|(holds, _)| *holds).map(|(_, name)| name).collect()
+}
+
+/// The address that a call walks to first, where its arguments tell.
+fn walked(call: &Call) -> Option<u64> {
+    match *call {
+        Call::MapPage { virt, .. } | Call::UnmapPage { virt } => Some(virt),
+        Call::MapHugePage { virt, .. } => Some(virt),
+        Call::Munmap { addr, .. } | Call::Translate { addr } => Some(addr),
+        Call::Fault { addr, .. } | Call::SecondFault { addr, .. } => Some(addr),
+        Call::Mmap { given: true, addr, .. } => Some(addr),
+        _ => None,
+    }
+}

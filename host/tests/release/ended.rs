@@ -1,0 +1,82 @@
+//! What holds where all regions are released: document 01's clauses one by one.
+
+use crate::account::{Account, Run};
+use crate::report::{equal_at, holds};
+use paper::generate::Random;
+use paper::state::{Slot, State};
+use paper::{KERNEL_WINDOW, LAST, PAGE, TEMPORARY, USER_WINDOW};
+use std::collections::{BTreeMap, BTreeSet};
+
+const PRESENT: u64 = 1;
+const HUGE: u64 = 128;
+const ADDR_MASK: u64 = 0x000F_FFFF_FFFF_F000;
+
+/// The state that a list and its releases left, told by the account of all of them.
+pub fn check(state: &State, account: &Account) -> Result<(), String> {
+    holds(account.live.is_empty(), "no region live")?;
+    account.check(state)?;
+    equal_at("the root", state.root, state.start_frame)?;
+    let tables = tables(state)?;
+    let runs: BTreeSet<Run> = tables.keys().copied().collect();
+    equal_at("the tables and the leading runs of pages ever live", &runs, &account.runs)?;
+    let frames: BTreeSet<u64> = tables.values().copied().collect();
+    equal_at("tables that share no frame", frames.len(), tables.len())?;
+    holds(!frames.contains(&state.root), "the root to be no page table")?;
+    let marked = (0..state.total).map(|i| state.start_frame + i).filter(|f| state.is_marked(*f));
+    let wanted: BTreeSet<u64> = frames.into_iter().chain([state.root]).collect();
+    equal_at("the marked frames", marked.collect::<BTreeSet<u64>>(), wanted)?;
+    equal_at("the counter", state.allocated, 1 + tables.len() as u64)?;
+    if account.cuts == 0 {
+        let size = KERNEL_WINDOW.1 - KERNEL_WINDOW.0;
+        let window = Slot { start: KERNEL_WINDOW.0, size, used: false };
+        equal_at("one free window", state.vmalloc(), &[window][..])?;
+    }
+    holds(state.vmalloc().iter().all(|part| !part.used), "free parts alone")
+}
+
+/// 'The frames that present entries above the last level reach from the root', each by its run. No
+/// entry that would make an address translate is present: neither a leaf nor a third-level HUGE entry.
+fn tables(state: &State) -> Result<BTreeMap<Run, u64>, String> {
+    let mut tables = BTreeMap::new();
+    let mut open = vec![((0, 0), state.root)];
+    while let Some(((length, bits), table)) = open.pop() {
+        let at = state.lent(table).ok_or(format!("table {table:x} is not lent"))? * 512;
+        for (index, word) in (0..).zip(&state.words[at..at + 512]) {
+            if word & PRESENT == 0 {
+                continue;
+            }
+            let run = (length + 1, bits << 9 | index);
+            holds(length < 3, &format!("no leaf at {run:x?}, {word:x}"))?;
+            holds(length < 2 || word & HUGE == 0, &format!("no HUGE entry at {run:x?}, {word:x}"))?;
+            let below = (word & ADDR_MASK) / PAGE;
+            tables.insert(run, below);
+            holds(tables.len() as u64 <= state.total, "fewer tables than frames")?;
+            open.push((run, below));
+        }
+    }
+    Ok(tables)
+}
+
+/// That no address translates: pages ever live, addresses beside them or under the same tables, limits
+/// and random ones. `translate` answers a number.
+pub fn nowhere(
+    random: &mut Random,
+    account: &Account,
+    translate: &mut dyn FnMut(u64) -> u64,
+) -> Result<u64, String> {
+    let limits = [0, USER_WINDOW.0, 1 << 47, KERNEL_WINDOW.0, KERNEL_WINDOW.1, TEMPORARY, LAST];
+    let mut addresses: Vec<u64> = limits.into_iter().chain([u64::MAX]).collect();
+    addresses.extend((0..32).map(|i| random.word() >> i));
+    for live in &account.ever_live {
+        addresses.extend(live.pages().map(|page| page + random.below(PAGE)));
+        let ends = [live.start().wrapping_sub(1), live.start() + live.size()];
+        addresses.extend(ends);
+        let under = [12, 21, 30, 39].map(|bits| live.start() ^ random.below(1 << bits));
+        addresses.extend(under);
+        addresses.push(live.start() ^ random.word() << 48);
+    }
+    for addr in &addresses {
+        equal_at(addr, translate(*addr), 14)?;
+    }
+    Ok(addresses.len() as u64)
+}

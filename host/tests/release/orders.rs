@@ -1,0 +1,151 @@
+//! Releases all live regions in several orders, one call each, and holds the ends against each other
+//! and against document 01's clauses.
+
+use crate::account::{Account, Live};
+use crate::ended;
+use crate::guard::Against;
+use crate::list::{Played, Setting};
+use crate::port;
+use crate::report::{equal, equal_at, holds};
+use crate::seen::Seen;
+use gadulnos::{Board as Parts, Line};
+use paper::call::Call;
+use paper::generate::Random;
+use paper::PAGE;
+
+/// All orders are tried of at most so many regions.
+const FEW: usize = 4;
+
+/// Tries the orders of a list that was played; `on_rust` are the calls that the Rust was given.
+pub fn check(
+    setting: &Setting,
+    mut played: Played,
+    on_rust: &[Call],
+    seen: &mut Seen,
+) -> Result<(), String> {
+    let mut random = Random::new(setting.orders);
+    let before = port::unguarded(&played.port);
+    let account = played.account.clone();
+    let mut first: Option<Parts> = None;
+    for (i, order) in orders(&mut random, &account.live).into_iter().enumerate() {
+        if i > 0 {
+            drop(played);
+            played = replayed(setting, &before, &account, on_rust)?;
+        }
+        let at = |why| format!("order {order:x?}: {why}");
+        let end = release(&mut random, &mut played, &order, i == 0).map_err(at)?;
+        if let Some(first) = &first {
+            same(first, &end)
+                .map_err(|why| format!("orders {:x?} and {order:x?}: {why}", account.live))?;
+        }
+        first.get_or_insert(end);
+        seen.count("orders");
+    }
+    seen.list(&account, before.frames().total);
+    Ok(())
+}
+
+/// The boards before the releases again: the port's copied, the Rust's played again.
+fn replayed(
+    setting: &Setting,
+    before: &Parts,
+    account: &Account,
+    on_rust: &[Call],
+) -> Result<Played, String> {
+    let mut rust = setting.rust()?;
+    for call in on_rust {
+        rust.play(call);
+    }
+    let port = port::guarded(before, Against::Behind);
+    let played = Played { port, rust, account: account.clone() };
+    played.compare()?;
+    Ok(played)
+}
+
+/// The orders to try: all of them where there are few, else as born, the other way round, by address,
+/// and shuffled.
+fn orders(random: &mut Random, live: &[Live]) -> Vec<Vec<Live>> {
+    if live.len() <= FEW {
+        return all(live);
+    }
+    let born = live.to_vec();
+    let back = live.iter().rev().copied().collect();
+    let mut rising = live.to_vec();
+    rising.sort_by_key(|region| region.start());
+    let mut orders = vec![born, back, rising];
+    let more = if live.len() > 100 { 1 } else { 4 };
+    orders.extend((0..more).map(|_| shuffled(random, live)));
+    orders
+}
+
+fn all(live: &[Live]) -> Vec<Vec<Live>> {
+    if live.is_empty() {
+        return vec![Vec::new()];
+    }
+    let mut orders = Vec::new();
+    for i in 0..live.len() {
+        let mut rest = live.to_vec();
+        let first = rest.remove(i);
+        orders.extend(all(&rest).into_iter().map(|rest| [vec![first], rest].concat()));
+    }
+    orders
+}
+
+fn shuffled(random: &mut Random, live: &[Live]) -> Vec<Live> {
+    let mut order = live.to_vec();
+    for i in (1..order.len()).rev() {
+        order.swap(i, random.below(i as u64 + 1) as usize);
+    }
+    order
+}
+
+/// Releases in this order, each release met, and checks the end on both; `closely` compares every word
+/// after each release too. The port's parts at the end.
+fn release(
+    random: &mut Random,
+    played: &mut Played,
+    order: &[Live],
+    closely: bool,
+) -> Result<Parts, String> {
+    for region in order {
+        let call = match *region {
+            Live::Kernel { start, .. } => Call::Vfree { addr: start },
+            Live::User(r) => Call::Munmap { addr: r.start, size: r.size - random.below(PAGE) },
+        };
+        let line = port::play(&mut played.port, &call);
+        equal_at(call, line, Line::met(0))?;
+        holds(played.rust.play(&call).met, &format!("{call} to be met by the Rust"))?;
+        played.account.note(&call, line)?;
+        match closely {
+            true => played.compare()?,
+            false => played.account.check(&port::state(&played.port)?)?,
+        }
+    }
+    played.compare()?;
+    let Played { port, rust, account } = played;
+    ended::check(&port::state(port)?, account)?;
+    ended::check(&rust.state(), account).map_err(|why| format!("the Rust: {why}"))?;
+    ended::nowhere(random, account, &mut |addr| port.translate(addr).number)?;
+    ended::nowhere(random, account, &mut |addr| {
+        let outcome = rust.play(&Call::Translate { addr });
+        if outcome.numbers.contains(14) {
+            14
+        } else {
+            0
+        }
+    })
+    .map_err(|why| format!("the Rust: {why}"))?;
+    Ok(port::unguarded(port))
+}
+
+/// 'one and the same state, every lent word and record equal': every byte of every part.
+fn same(one: &Parts, other: &Parts) -> Result<(), String> {
+    let parts =
+        |b: &Parts| [&b.fields, &b.bits, &b.kernel, &b.user, &b.marked].map(|part| part.to_vec());
+    let names = ["fields", "bitmap", "vmalloc list", "mmap list", "marked pages"];
+    for ((name, a), b) in names.iter().zip(parts(one)).zip(parts(other)) {
+        holds(a == b, &format!("one and the same {name}"))?;
+    }
+    equal(one.root, other.root)?;
+    holds(one.words == other.words, "one and the same words")
+}
