@@ -34,6 +34,6 @@ if [ ${#need[@]} -gt 0 ] || ! has_rustc; then
 fi
 command -v cc >/dev/null || { echo "a C compiler is needed: install gcc and libc6-dev" >&2; exit 1; }
 has_rustc || {
-    echo "rustc 1.$oldest or newer is needed, and $(rustc --version 2>/dev/null || echo none) was found: install Debian's rustc or rustc-web, or one from https://rustup.rs, first on the PATH" >&2
+    echo "rustc 1.$oldest or newer is needed, and $(rustc --version 2>/dev/null || echo none) was found: install a newer one, first on the PATH" >&2
     exit 1
 }
