@@ -1,2 +1,4 @@
 pub mod Board
+pub mod Left
+pub mod Refused
 pub mod Same

@@ -1,4 +1,5 @@
 // Copy-on-write pages and both fault paths: the frames are lent as words; the frame record, its bitmap and the marked pages are packed bytes.
+use crate::lengths;
 use address::Frame;
 use address::VirtAddr;
 use answer::Line;
@@ -6,7 +7,7 @@ use layout::lists;
 use layout::parts;
 ghost use mathlib.Core.Path.{_≡_};
 ghost use lib.ListN.{length};
-ghost use Rattle.bits.specs.Bit.{unless, both};
+ghost use Rattle.bits.specs.Bit.{unless};
 ghost use Rattle.answer.specs.Numbers.{brokenRecord, answerLine, flagLine};
 ghost use Rattle.answer.specs.declared.Answer.the-variants.{Refused};
 ghost use Rattle.answer.specs.declared.FlagAnswer.the-variants.{NoFlag};
@@ -14,9 +15,10 @@ ghost use Rattle.packed.specs.Words.{pack};
 ghost use Rattle.paging.specs.Map.{memory};
 ghost use Rattle.paging.specs.Calls.{asAnswer};
 ghost use Rattle.fault.specs.Marked.{markCow, unmarkCow, isCow};
-ghost use Rattle.fault.specs.Faults.{faulting, handleFault, handleFaultSecond};
+ghost use Rattle.fault.specs.Faults.{handleFaultSecond};
 ghost use Rattle.layout.specs.Parts.{framesIn, framesFit, fieldsOut};
 ghost use Rattle.layout.specs.Lists.{markedIn, markedOut, markedFit};
+ghost use Rattle.desk.specs.Left.{left, faultParts, packedFault};
 
 fn mark_cow_in(marked: &mut [u8], addr: u64) -> Line
     requires { ⌜ length (now marked) ≡ 2056 ⌝ }
@@ -77,17 +79,9 @@ pub extern "C" fn gadulnos_is_cow(marked: &[u8], addr: u64) -> Line
     answer::flag_line(fault::is_cow(&pages, lists::marked_count(marked), VirtAddr(addr)))
 }
 
-// Whether all three parts stand for records.
-fn fits(fields: &[u8], bits: &[u8], marked: &[u8]) -> bool
-    ensures { λ r. ⌜ r ≡ both (framesFit (now (fields .entry)) (now (bits .entry))) (markedFit (now (marked .entry))) ⌝ }
-{
-    if !parts::frames_fit(fields, bits) {
-        return false;
-    }
-    lists::marked_fits(marked)
-}
-
-fn handle_in(
+// The first path.
+#[no_mangle]
+pub extern "C" fn gadulnos_handle_page_fault(
     words: &mut [u64],
     fields: &mut [u8],
     bits: &mut [u8],
@@ -96,15 +90,12 @@ fn handle_in(
     addr: u64,
     code: u64,
 ) -> Line
-    requires { ⌜ length (now fields) ≡ 24 ⌝ }
-    requires { ⌜ length (now bits) ≡ 1024 ⌝ }
-    requires { ⌜ length (now marked) ≡ 2056 ⌝ }
-    ensures { λ r. ⌜ r ≡ answerLine (asAnswer (handleFault 3 (faulting (memory (now (words .entry)) (framesIn (now (fields .entry)) (now (bits .entry)))) (markedIn (now (marked .entry)))) root addr code .answer)) ⌝ }
-    ensures { λ _. ⌜ now (words .exit) ≡ handleFault 3 (faulting (memory (now (words .entry)) (framesIn (now (fields .entry)) (now (bits .entry)))) (markedIn (now (marked .entry)))) root addr code .state .mem .words ⌝ }
-    ensures { λ _. ⌜ now (fields .exit) ≡ fieldsOut (handleFault 3 (faulting (memory (now (words .entry)) (framesIn (now (fields .entry)) (now (bits .entry)))) (markedIn (now (marked .entry)))) root addr code .state .mem .frames .fa) ⌝ }
-    ensures { λ _. ⌜ now (bits .exit) ≡ pack (handleFault 3 (faulting (memory (now (words .entry)) (framesIn (now (fields .entry)) (now (bits .entry)))) (markedIn (now (marked .entry)))) root addr code .state .mem .frames .bits) ⌝ }
-    ensures { λ _. ⌜ now (marked .exit) ≡ markedOut (handleFault 3 (faulting (memory (now (words .entry)) (framesIn (now (fields .entry)) (now (bits .entry)))) (markedIn (now (marked .entry)))) root addr code .state .marked) ⌝ }
+    ensures { λ r. ⌜ left r (faultParts (now (words .exit)) (now (fields .exit)) (now (bits .exit)) (now (marked .exit)))
+        ≡ packedFault (faultParts (now (words .entry)) (now (fields .entry)) (now (bits .entry)) (now (marked .entry))) root addr code ⌝ }
 {
+    if !lengths::three(fields.len(), bits.len(), marked.len(), 2056) {
+        return parts::broken();
+    }
     let mut bitmap = parts::get_bits(bits);
     let frames = parts::get_fields(fields);
     let mut pages = lists::get_marked(marked);
@@ -126,29 +117,6 @@ fn handle_in(
     parts::put_bits(bits, &bitmap);
     lists::put_marked(marked, &pages, count);
     answer::answer_line(a)
-}
-
-// The first path.
-#[no_mangle]
-pub extern "C" fn gadulnos_handle_page_fault(
-    words: &mut [u64],
-    fields: &mut [u8],
-    bits: &mut [u8],
-    root: u64,
-    marked: &mut [u8],
-    addr: u64,
-    code: u64,
-) -> Line
-    ensures { λ r. ⌜ r ≡ answerLine (unless (both (framesFit (now (fields .entry)) (now (bits .entry))) (markedFit (now (marked .entry)))) (Refused brokenRecord) (asAnswer (handleFault 3 (faulting (memory (now (words .entry)) (framesIn (now (fields .entry)) (now (bits .entry)))) (markedIn (now (marked .entry)))) root addr code .answer))) ⌝ }
-    ensures { λ _. ⌜ now (words .exit) ≡ unless (both (framesFit (now (fields .entry)) (now (bits .entry))) (markedFit (now (marked .entry)))) (now (words .entry)) (handleFault 3 (faulting (memory (now (words .entry)) (framesIn (now (fields .entry)) (now (bits .entry)))) (markedIn (now (marked .entry)))) root addr code .state .mem .words) ⌝ }
-    ensures { λ _. ⌜ now (fields .exit) ≡ unless (both (framesFit (now (fields .entry)) (now (bits .entry))) (markedFit (now (marked .entry)))) (now (fields .entry)) (fieldsOut (handleFault 3 (faulting (memory (now (words .entry)) (framesIn (now (fields .entry)) (now (bits .entry)))) (markedIn (now (marked .entry)))) root addr code .state .mem .frames .fa)) ⌝ }
-    ensures { λ _. ⌜ now (bits .exit) ≡ unless (both (framesFit (now (fields .entry)) (now (bits .entry))) (markedFit (now (marked .entry)))) (now (bits .entry)) (pack (handleFault 3 (faulting (memory (now (words .entry)) (framesIn (now (fields .entry)) (now (bits .entry)))) (markedIn (now (marked .entry)))) root addr code .state .mem .frames .bits)) ⌝ }
-    ensures { λ _. ⌜ now (marked .exit) ≡ unless (both (framesFit (now (fields .entry)) (now (bits .entry))) (markedFit (now (marked .entry)))) (now (marked .entry)) (markedOut (handleFault 3 (faulting (memory (now (words .entry)) (framesIn (now (fields .entry)) (now (bits .entry)))) (markedIn (now (marked .entry)))) root addr code .state .marked)) ⌝ }
-{
-    if !fits(fields, bits, marked) {
-        return parts::broken();
-    }
-    handle_in(words, fields, bits, root, marked, addr, code)
 }
 
 fn handle_second_in(

@@ -1,35 +1,29 @@
 // vmalloc and vfree: the frames are lent as words; the frame record, its bitmap and the list are packed bytes.
+use crate::lengths;
 use address::Frame;
 use address::VirtAddr;
 use answer::Line;
 use layout::lists;
 use layout::parts;
 ghost use mathlib.Core.Path.{_≡_};
-ghost use lib.ListN.{length};
-ghost use Rattle.bits.specs.Bit.{unless, both};
-ghost use Rattle.answer.specs.Numbers.{brokenRecord, answerLine};
-ghost use Rattle.answer.specs.declared.Answer.the-variants.{Refused};
-ghost use Rattle.address.specs.Address.{virtLine};
-ghost use Rattle.address.specs.declared.VirtAnswer.the-variants.{NoVirt};
-ghost use Rattle.packed.specs.Words.{pack};
-ghost use Rattle.paging.specs.Map.{memory};
-ghost use Rattle.paging.specs.Calls.{asAnswer};
-ghost use Rattle.vmalloc.specs.Calls.{kernel, vmalloc as vmallocOf, vfree as vfreeOf, isVmallocAddr};
-ghost use Rattle.vmalloc.specs.Results.{asVirt};
-ghost use Rattle.layout.specs.Parts.{framesIn, framesFit, fieldsOut};
-ghost use Rattle.layout.specs.Lists.{vmIn, vmOut, vmFit};
+ghost use Rattle.bits.specs.Bit.{both};
+ghost use Rattle.vmalloc.specs.Calls.{isVmallocAddr};
+ghost use Rattle.layout.specs.Lists.{vmFit};
+ghost use lib.Dec.{eqb};
+ghost use Rattle.desk.specs.Left.{left, kernelParts, packedVfree, packedVmalloc};
 
 // Whether all three parts stand for records.
-fn fits(fields: &[u8], bits: &[u8], list: &[u8]) -> bool
-    ensures { λ r. ⌜ r ≡ both (framesFit (now (fields .entry)) (now (bits .entry))) (vmFit (now (list .entry))) ⌝ }
+fn fits(fields: usize, bits: usize, list: &[u8]) -> bool
+    ensures { λ r. ⌜ r ≡ both (both (eqb fields 24) (eqb bits 1024)) (vmFit (now (list .entry))) ⌝ }
 {
-    if !parts::frames_fit(fields, bits) {
+    if !lengths::two(fields, bits) {
         return false;
     }
     lists::vm_fits(list)
 }
 
-fn vmalloc_in(
+#[no_mangle]
+pub extern "C" fn gadulnos_vmalloc(
     words: &mut [u64],
     fields: &mut [u8],
     bits: &mut [u8],
@@ -37,15 +31,12 @@ fn vmalloc_in(
     list: &mut [u8],
     size: u64,
 ) -> Line
-    requires { ⌜ length (now fields) ≡ 24 ⌝ }
-    requires { ⌜ length (now bits) ≡ 1024 ⌝ }
-    requires { ⌜ length (now list) ≡ 6152 ⌝ }
-    ensures { λ r. ⌜ r ≡ virtLine (asVirt (vmallocOf 3 (kernel (memory (now (words .entry)) (framesIn (now (fields .entry)) (now (bits .entry)))) (vmIn (now (list .entry)))) root size .answer)) ⌝ }
-    ensures { λ _. ⌜ now (words .exit) ≡ vmallocOf 3 (kernel (memory (now (words .entry)) (framesIn (now (fields .entry)) (now (bits .entry)))) (vmIn (now (list .entry)))) root size .kernel .mem .words ⌝ }
-    ensures { λ _. ⌜ now (fields .exit) ≡ fieldsOut (vmallocOf 3 (kernel (memory (now (words .entry)) (framesIn (now (fields .entry)) (now (bits .entry)))) (vmIn (now (list .entry)))) root size .kernel .mem .frames .fa) ⌝ }
-    ensures { λ _. ⌜ now (bits .exit) ≡ pack (vmallocOf 3 (kernel (memory (now (words .entry)) (framesIn (now (fields .entry)) (now (bits .entry)))) (vmIn (now (list .entry)))) root size .kernel .mem .frames .bits) ⌝ }
-    ensures { λ _. ⌜ now (list .exit) ≡ vmOut (vmallocOf 3 (kernel (memory (now (words .entry)) (framesIn (now (fields .entry)) (now (bits .entry)))) (vmIn (now (list .entry)))) root size .kernel .regions) ⌝ }
+    ensures { λ r. ⌜ left r (kernelParts (now (words .exit)) (now (fields .exit)) (now (bits .exit)) (now (list .exit)))
+        ≡ packedVmalloc (kernelParts (now (words .entry)) (now (fields .entry)) (now (bits .entry)) (now (list .entry))) root size ⌝ }
 {
+    if !fits(fields.len(), bits.len(), list) {
+        return parts::broken();
+    }
     let mut bitmap = parts::get_bits(bits);
     let frames = parts::get_fields(fields);
     let did = vmalloc::vmalloc(
@@ -66,27 +57,7 @@ fn vmalloc_in(
 }
 
 #[no_mangle]
-pub extern "C" fn gadulnos_vmalloc(
-    words: &mut [u64],
-    fields: &mut [u8],
-    bits: &mut [u8],
-    root: u64,
-    list: &mut [u8],
-    size: u64,
-) -> Line
-    ensures { λ r. ⌜ r ≡ virtLine (unless (both (framesFit (now (fields .entry)) (now (bits .entry))) (vmFit (now (list .entry)))) (NoVirt brokenRecord) (asVirt (vmallocOf 3 (kernel (memory (now (words .entry)) (framesIn (now (fields .entry)) (now (bits .entry)))) (vmIn (now (list .entry)))) root size .answer))) ⌝ }
-    ensures { λ _. ⌜ now (words .exit) ≡ unless (both (framesFit (now (fields .entry)) (now (bits .entry))) (vmFit (now (list .entry)))) (now (words .entry)) (vmallocOf 3 (kernel (memory (now (words .entry)) (framesIn (now (fields .entry)) (now (bits .entry)))) (vmIn (now (list .entry)))) root size .kernel .mem .words) ⌝ }
-    ensures { λ _. ⌜ now (fields .exit) ≡ unless (both (framesFit (now (fields .entry)) (now (bits .entry))) (vmFit (now (list .entry)))) (now (fields .entry)) (fieldsOut (vmallocOf 3 (kernel (memory (now (words .entry)) (framesIn (now (fields .entry)) (now (bits .entry)))) (vmIn (now (list .entry)))) root size .kernel .mem .frames .fa)) ⌝ }
-    ensures { λ _. ⌜ now (bits .exit) ≡ unless (both (framesFit (now (fields .entry)) (now (bits .entry))) (vmFit (now (list .entry)))) (now (bits .entry)) (pack (vmallocOf 3 (kernel (memory (now (words .entry)) (framesIn (now (fields .entry)) (now (bits .entry)))) (vmIn (now (list .entry)))) root size .kernel .mem .frames .bits)) ⌝ }
-    ensures { λ _. ⌜ now (list .exit) ≡ unless (both (framesFit (now (fields .entry)) (now (bits .entry))) (vmFit (now (list .entry)))) (now (list .entry)) (vmOut (vmallocOf 3 (kernel (memory (now (words .entry)) (framesIn (now (fields .entry)) (now (bits .entry)))) (vmIn (now (list .entry)))) root size .kernel .regions)) ⌝ }
-{
-    if !fits(fields, bits, list) {
-        return parts::broken();
-    }
-    vmalloc_in(words, fields, bits, root, list, size)
-}
-
-fn vfree_in(
+pub extern "C" fn gadulnos_vfree(
     words: &mut [u64],
     fields: &mut [u8],
     bits: &mut [u8],
@@ -94,15 +65,12 @@ fn vfree_in(
     list: &mut [u8],
     addr: u64,
 ) -> Line
-    requires { ⌜ length (now fields) ≡ 24 ⌝ }
-    requires { ⌜ length (now bits) ≡ 1024 ⌝ }
-    requires { ⌜ length (now list) ≡ 6152 ⌝ }
-    ensures { λ r. ⌜ r ≡ answerLine (asAnswer (vfreeOf 3 (kernel (memory (now (words .entry)) (framesIn (now (fields .entry)) (now (bits .entry)))) (vmIn (now (list .entry)))) root addr .answer)) ⌝ }
-    ensures { λ _. ⌜ now (words .exit) ≡ vfreeOf 3 (kernel (memory (now (words .entry)) (framesIn (now (fields .entry)) (now (bits .entry)))) (vmIn (now (list .entry)))) root addr .kernel .mem .words ⌝ }
-    ensures { λ _. ⌜ now (fields .exit) ≡ fieldsOut (vfreeOf 3 (kernel (memory (now (words .entry)) (framesIn (now (fields .entry)) (now (bits .entry)))) (vmIn (now (list .entry)))) root addr .kernel .mem .frames .fa) ⌝ }
-    ensures { λ _. ⌜ now (bits .exit) ≡ pack (vfreeOf 3 (kernel (memory (now (words .entry)) (framesIn (now (fields .entry)) (now (bits .entry)))) (vmIn (now (list .entry)))) root addr .kernel .mem .frames .bits) ⌝ }
-    ensures { λ _. ⌜ now (list .exit) ≡ vmOut (vfreeOf 3 (kernel (memory (now (words .entry)) (framesIn (now (fields .entry)) (now (bits .entry)))) (vmIn (now (list .entry)))) root addr .kernel .regions) ⌝ }
+    ensures { λ r. ⌜ left r (kernelParts (now (words .exit)) (now (fields .exit)) (now (bits .exit)) (now (list .exit)))
+        ≡ packedVfree (kernelParts (now (words .entry)) (now (fields .entry)) (now (bits .entry)) (now (list .entry))) root addr ⌝ }
 {
+    if !fits(fields.len(), bits.len(), list) {
+        return parts::broken();
+    }
     let mut bitmap = parts::get_bits(bits);
     let frames = parts::get_fields(fields);
     let did = vmalloc::vfree(
@@ -120,27 +88,6 @@ fn vfree_in(
     parts::put_bits(bits, &bitmap);
     lists::put_vm(list, next);
     answer::answer_line(a)
-}
-
-#[no_mangle]
-pub extern "C" fn gadulnos_vfree(
-    words: &mut [u64],
-    fields: &mut [u8],
-    bits: &mut [u8],
-    root: u64,
-    list: &mut [u8],
-    addr: u64,
-) -> Line
-    ensures { λ r. ⌜ r ≡ answerLine (unless (both (framesFit (now (fields .entry)) (now (bits .entry))) (vmFit (now (list .entry)))) (Refused brokenRecord) (asAnswer (vfreeOf 3 (kernel (memory (now (words .entry)) (framesIn (now (fields .entry)) (now (bits .entry)))) (vmIn (now (list .entry)))) root addr .answer))) ⌝ }
-    ensures { λ _. ⌜ now (words .exit) ≡ unless (both (framesFit (now (fields .entry)) (now (bits .entry))) (vmFit (now (list .entry)))) (now (words .entry)) (vfreeOf 3 (kernel (memory (now (words .entry)) (framesIn (now (fields .entry)) (now (bits .entry)))) (vmIn (now (list .entry)))) root addr .kernel .mem .words) ⌝ }
-    ensures { λ _. ⌜ now (fields .exit) ≡ unless (both (framesFit (now (fields .entry)) (now (bits .entry))) (vmFit (now (list .entry)))) (now (fields .entry)) (fieldsOut (vfreeOf 3 (kernel (memory (now (words .entry)) (framesIn (now (fields .entry)) (now (bits .entry)))) (vmIn (now (list .entry)))) root addr .kernel .mem .frames .fa)) ⌝ }
-    ensures { λ _. ⌜ now (bits .exit) ≡ unless (both (framesFit (now (fields .entry)) (now (bits .entry))) (vmFit (now (list .entry)))) (now (bits .entry)) (pack (vfreeOf 3 (kernel (memory (now (words .entry)) (framesIn (now (fields .entry)) (now (bits .entry)))) (vmIn (now (list .entry)))) root addr .kernel .mem .frames .bits)) ⌝ }
-    ensures { λ _. ⌜ now (list .exit) ≡ unless (both (framesFit (now (fields .entry)) (now (bits .entry))) (vmFit (now (list .entry)))) (now (list .entry)) (vmOut (vfreeOf 3 (kernel (memory (now (words .entry)) (framesIn (now (fields .entry)) (now (bits .entry)))) (vmIn (now (list .entry)))) root addr .kernel .regions)) ⌝ }
-{
-    if !fits(fields, bits, list) {
-        return parts::broken();
-    }
-    vfree_in(words, fields, bits, root, list, addr)
 }
 
 #[no_mangle]

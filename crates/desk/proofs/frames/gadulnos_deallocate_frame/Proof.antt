@@ -1,47 +1,86 @@
--- Parts that do not fit, or the call.
-use mathlib.Core.Path.{refl}
+-- Parts that do not fit, or the call on the parts unpacked.
+use mathlib.Core.Path.{_≡_, refl}
+use lib.ListN.{length}
+use Rattle.frame.specs.Frames.{Frames, Did, deallocate}
 use Rattle.frame.proofs.Laws.{passed, failed}
 use Rattle.layout.proofs.Fit.{lengths}
+use Rattle.desk.proofs.Left.{frames-broken, frames-met}
+use Rattle.frame.specs.Results.{changed}
+use Rattle.frame.specs.declared.Changed.{Changed}
+use Rattle.answer.specs.Numbers.{answerLine}
+use Rattle.answer.specs.declared.Answer.{Answer}
 use Rattle.desk.proofs.frames.gadulnos_deallocate_frame.Statement.{statement}
 use Rattle.desk.proofs.frames.gadulnos_deallocate_frame.Tie as tie
 
-frames-fit-requires : tie.Need-frames-fit-requires
-frames-fit-requires c κs = tt
+-- what was lent, from after the test, and the call
+abbrev entry : tie.After-two → tie.Start
+entry c = c .before .before .before
+
+abbrev call : tie.After-two → Frames → Did Answer
+call c fr = deallocate fr (entry c .args .number)
+
+fit : (c : tie.Else1) → let a = entry (c .before) .args in (length (a .fields .now) ≡ 24) × (length (a .bits .now) ≡ 1024)
+fit c = let a = entry (c .before) .args in lengths (a .fields .now) (a .bits .now) (c .before .two .ensures) (c .if1 .left)
+
+two-requires : tie.Need-two-requires
+two-requires c κs = tt
 
 broken-requires : tie.Need-broken-requires
 broken-requires c κs = tt
 
+returns : tie.Need-returns
+returns c =
+    let d = c .before .before in
+    let a = entry d .args in
+    frames-broken answerLine (call d) (a .fields .now) (a .bits .now) (failed (d .two .ensures) (c .before .if1 .taken)) (c .broken .ensures)
+
+get-bits-requires : tie.Need-get-bits-requires
+get-bits-requires c κs = fit (c .before) .1
+
+get-fields-requires : tie.Need-get-fields-requires
+get-fields-requires c κs = fit (c .before .before .before) .0
+
+deallocate-frame-requires : tie.Need-deallocate-frame-requires
+deallocate-frame-requires c κs = tt
+
+put-fields-requires : tie.Need-put-fields-requires
+put-fields-requires c κs = fit (c .before .before .before .before .before .before .before .before) .0
+
+put-bits-requires : tie.Need-put-bits-requires
+put-bits-requires c κs = fit (c .before .before .before .before .before .before .before .before .before .before .before .before .before) .1
+
+answer-line-requires : tie.Need-answer-line-requires
+answer-line-requires c κs = tt
+
 same-length : tie.Need-same-length
-same-length c = refl
+same-length c = c .before .before .before .before .before .before .before .before .put-fields .kept .0
 
 same-length-2 : tie.Need-same-length-2
-same-length-2 c = refl
-
-returns : tie.Need-returns
-returns c = rw (c .broken .ensures, failed (c .before .before .frames-fit .ensures) (c .before .if1 .taken)) (refl, (refl, refl))
-
-deallocate-frame-in-requires : tie.Need-deallocate-frame-in-requires
-deallocate-frame-in-requires c κs = lengths (c .before .before .before .before .before .before .before .before .args .fields .now) (c .before .before .before .before .before .before .before .before .args .bits .now) (c .before .before .before .frames-fit .ensures) (c .before .before .if1 .left)
-
-same-length-3 : tie.Need-same-length-3
-same-length-3 c = c .before .before .before .before .deallocate-frame-in .kept .0
-
-same-length-4 : tie.Need-same-length-4
-same-length-4 c = c .before .before .before .before .deallocate-frame-in .kept .1 .0
+same-length-2 c = c .before .before .before .put-bits .kept .0
 
 returns-2 : tie.Need-returns-2
-returns-2 c = rw (passed (c .before .before .before .before .before .before .before .before .frames-fit .ensures) (c .before .before .before .before .before .before .before .if1 .left)) (c .before .before .before .before .deallocate-frame-in .ensures)
+returns-2 c =
+    let d = c .before .before .before .before .before .before .before .before .before .before .before .before .before .before .before .before .before .before in
+    let a = entry d .args in
+    frames-met answerLine (call d) (a .fields .now) (a .bits .now)
+    changed (λ (x : Changed). answerLine (x .answer)) (λ (x : Changed). x .frames) (λ _. (refl, refl))
+    (passed (d .two .ensures) (c .before .before .before .before .before .before .before .before .before .before .before .before .before .before .before .before .before .if1 .left)) (c .before .before .before .before .before .before .before .before .before .before .before .before .before .before .before .get-bits .ensures) (c .before .before .before .before .before .before .before .before .before .before .before .before .before .get-fields .ensures)
+    (c .before .before .before .before .before .before .before .before .before .before .before .deallocate-frame .ensures)
+    (c .answer-line .ensures) (c .before .before .before .before .before .before .before .before .put-fields .ensures) (c .before .before .before .put-bits .ensures)
 
 pub gadulnos-deallocate-frame-spec : {M : Type 1} → statement M
 gadulnos-deallocate-frame-spec =
     tie.close
     (tie.spec
-    frames-fit-requires
+    two-requires
     broken-requires
+    returns
+    get-bits-requires
+    get-fields-requires
+    deallocate-frame-requires
+    put-fields-requires
+    put-bits-requires
+    answer-line-requires
     same-length
     same-length-2
-    returns
-    deallocate-frame-in-requires
-    same-length-3
-    same-length-4
     returns-2)

@@ -1,22 +1,21 @@
--- `fits`: the frame record and its bitmap, then the list.
+-- `fits`: two lengths, then the list.
 use mathlib.Core.Path.{_∙_}
 use Rattle.frame.proofs.Laws.{passed, failed}
 use Rattle.layout.proofs.Fit.{fit-other, fit-one}
-use borrow.Author.Needs.{needs}
 use Rattle.desk.proofs.kernel.fits.Statement.{statement}
 use Rattle.desk.proofs.kernel.fits.Tie as tie
 
-frames-fit-requires : tie.Need-frames-fit-requires
-frames-fit-requires c κs = search needs
+two-requires : tie.Need-two-requires
+two-requires c κs = tt
 
 returns : tie.Need-returns
-returns c = fit-other _ _ (failed (c .before .frames-fit .ensures) (c .if1 .taken))
+returns c = fit-other _ _ (failed (c .before .two .ensures) (c .if1 .taken))
 
 vm-fits-requires : tie.Need-vm-fits-requires
-vm-fits-requires c κs = search needs
+vm-fits-requires c κs = tt
 
 returns-2 : tie.Need-returns-2
-returns-2 c = c .vm-fits .ensures ∙ fit-one _ _ (passed (c .before .before .frames-fit .ensures) (c .before .if1 .left))
+returns-2 c = c .vm-fits .ensures ∙ fit-one _ _ (passed (c .before .before .two .ensures) (c .before .if1 .left))
 
 pub fits-spec : {M : Type 1} → statement M
-fits-spec = tie.close (tie.spec frames-fit-requires returns vm-fits-requires returns-2)
+fits-spec = tie.close (tie.spec two-requires returns vm-fits-requires returns-2)

@@ -1,9 +1,26 @@
--- Parts that do not fit, or the call.
-use mathlib.Core.Path.{refl}
+-- Parts that do not fit, or the call on the parts unpacked.
+use mathlib.Core.Path.{_≡_, refl}
+use lib.ListN.{length}
+use Rattle.vmalloc.specs.Calls.{Kernel, Did, vfree}
 use Rattle.frame.proofs.Laws.{passed, failed}
 use Rattle.layout.proofs.Fit.{lengths-vm}
+use Rattle.desk.proofs.Left.{kernel-broken, kernel-met}
+use Rattle.vmalloc.specs.Results.{vfreed}
+use Rattle.vmalloc.specs.declared.Vfreed.{Vfreed}
+use Rattle.answer.specs.Numbers.{answerLine}
+use Rattle.desk.specs.Left.{plainLine}
 use Rattle.desk.proofs.kernel.gadulnos_vfree.Statement.{statement}
 use Rattle.desk.proofs.kernel.gadulnos_vfree.Tie as tie
+
+-- what was lent, from after the test, and the call
+abbrev entry : tie.After-fits2 → tie.Start
+entry c = c .before .before .before .before .before .before
+
+abbrev call : tie.After-fits2 → Kernel → Did
+call c k = vfree 3 k (entry c .args .root) (entry c .args .addr)
+
+fit : (c : tie.Else1) → let a = entry (c .before) .args in (length (a .fields .now) ≡ 24) × ((length (a .bits .now) ≡ 1024) × (length (a .list .now) ≡ 6152))
+fit c = let a = entry (c .before) .args in lengths-vm (a .fields .now) (a .bits .now) (a .list .now) (c .before .fits2 .ensures) (c .if1 .left)
 
 fits-requires : tie.Need-fits-requires
 fits-requires c κs = tt
@@ -14,34 +31,57 @@ broken-requires c κs = tt
 same-length : tie.Need-same-length
 same-length c = refl
 
+returns : tie.Need-returns
+returns c =
+    let d = c .before .before in
+    let a = entry d .args in
+    kernel-broken plainLine (call d) (a .words .now) (a .fields .now) (a .bits .now) (a .list .now) (failed (d .fits2 .ensures) (c .before .if1 .taken)) (c .broken .ensures)
+
+get-bits-requires : tie.Need-get-bits-requires
+get-bits-requires c κs = fit (c .before) .1 .0
+
+get-fields-requires : tie.Need-get-fields-requires
+get-fields-requires c κs = fit (c .before .before .before) .0
+
+get-vm-requires : tie.Need-get-vm-requires
+get-vm-requires c κs = fit (c .before .before .before .before .before .before .before) .1 .1
+
+vfree-requires : tie.Need-vfree-requires
+vfree-requires c κs = tt
+
+put-fields-requires : tie.Need-put-fields-requires
+put-fields-requires c κs = fit (c .before .before .before .before .before .before .before .before .before .before .before .before .before .before) .0
+
+put-bits-requires : tie.Need-put-bits-requires
+put-bits-requires c κs = fit (c .before .before .before .before .before .before .before .before .before .before .before .before .before .before .before .before .before .before .before) .1 .0
+
+put-vm-requires : tie.Need-put-vm-requires
+put-vm-requires c κs = fit (c .before .before .before .before .before .before .before .before .before .before .before .before .before .before .before .before .before .before .before .before .before .before .before) .1 .1
+
+answer-line-requires : tie.Need-answer-line-requires
+answer-line-requires c κs = tt
+
 same-length-2 : tie.Need-same-length-2
-same-length-2 c = refl
+same-length-2 c = c .before .before .before .before .before .before .before .before .before .before .before .before .before .before .before .before .before .before .vfree .kept .0
 
 same-length-3 : tie.Need-same-length-3
-same-length-3 c = refl
-
-returns : tie.Need-returns
-returns c = rw (c .broken .ensures, failed (c .before .before .fits2 .ensures) (c .before .if1 .taken)) (refl, (refl, (refl, (refl, refl))))
-
-vfree-in-requires : tie.Need-vfree-in-requires
-vfree-in-requires c κs =
-    let a = c .before .before .before .before .before .before .before .before .before .before .before .before .before .args in
-    lengths-vm (a .fields .now) (a .bits .now) (a .list .now) (c .before .before .before .before .before .fits2 .ensures) (c .before .before .before .before .if1 .left)
+same-length-3 c = c .before .before .before .before .before .before .before .before .before .before .before .before .put-fields .kept .0
 
 same-length-4 : tie.Need-same-length-4
-same-length-4 c = c .before .before .before .before .before .before .before .before .vfree-in .kept .0
+same-length-4 c = c .before .before .before .before .before .before .before .put-bits .kept .0
 
 same-length-5 : tie.Need-same-length-5
-same-length-5 c = c .before .before .before .before .before .before .before .before .vfree-in .kept .1 .0
-
-same-length-6 : tie.Need-same-length-6
-same-length-6 c = c .before .before .before .before .before .before .before .before .vfree-in .kept .1 .1 .0
-
-same-length-7 : tie.Need-same-length-7
-same-length-7 c = c .before .before .before .before .before .before .before .before .vfree-in .kept .1 .1 .1 .1 .0
+same-length-5 c = c .before .before .before .put-vm .kept .0
 
 returns-2 : tie.Need-returns-2
-returns-2 c = rw (passed (c .before .before .before .before .before .before .before .before .before .before .before .before .before .before .fits2 .ensures) (c .before .before .before .before .before .before .before .before .before .before .before .before .before .if1 .left)) (c .before .before .before .before .before .before .before .before .vfree-in .ensures)
+returns-2 c =
+    let d = c .before .before .before .before .before .before .before .before .before .before .before .before .before .before .before .before .before .before .before .before .before .before .before .before .before .before .before .before in
+    let a = entry d .args in
+    kernel-met plainLine (call d) (a .words .now) (a .fields .now) (a .bits .now) (a .list .now)
+    vfreed (λ (x : Vfreed). answerLine (x .answer)) (λ (x : Vfreed). x .frames) (λ (x : Vfreed). x .list) (λ _. (refl, (refl, refl)))
+    (passed (d .fits2 .ensures) (c .before .before .before .before .before .before .before .before .before .before .before .before .before .before .before .before .before .before .before .before .before .before .before .before .before .before .before .if1 .left)) (c .before .before .before .before .before .before .before .before .before .before .before .before .before .before .before .before .before .before .before .before .before .before .before .before .before .get-bits .ensures) (c .before .before .before .before .before .before .before .before .before .before .before .before .before .before .before .before .before .before .before .before .before .before .before .get-fields .ensures) (c .before .before .before .before .before .before .before .before .before .before .before .before .before .before .before .before .before .before .before .get-vm .ensures)
+    (c .before .before .before .before .before .before .before .before .before .before .before .before .before .before .before .before .before .before .vfree .ensures)
+    (c .answer-line .ensures) (c .before .before .before .before .before .before .before .before .before .before .before .before .put-fields .ensures) (c .before .before .before .before .before .before .before .put-bits .ensures) (c .before .before .before .put-vm .ensures)
 
 pub gadulnos-vfree-spec : {M : Type 1} → statement M
 gadulnos-vfree-spec =
@@ -50,12 +90,17 @@ gadulnos-vfree-spec =
     fits-requires
     broken-requires
     same-length
+    returns
+    get-bits-requires
+    get-fields-requires
+    get-vm-requires
+    vfree-requires
+    put-fields-requires
+    put-bits-requires
+    put-vm-requires
+    answer-line-requires
     same-length-2
     same-length-3
-    returns
-    vfree-in-requires
     same-length-4
     same-length-5
-    same-length-6
-    same-length-7
     returns-2)
