@@ -1,4 +1,4 @@
-pub mod Board
-pub mod Left
-pub mod Refused
-pub mod Same
+pub mod LeftMemory
+pub mod LeftRegions
+pub mod LeftFaults
+pub mod LeftBoard

@@ -1,3 +1,5 @@
-pub mod Board
-pub mod Left
 pub mod Line
+pub mod Memory
+pub mod Regions
+pub mod Faults
+pub mod Board

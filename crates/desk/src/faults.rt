@@ -1,30 +1,25 @@
 // Copy-on-write pages and both fault paths: the frames are lent as words; the frame record, its bitmap and the marked pages are packed bytes.
-use crate::lengths;
 use address::Frame;
 use address::VirtAddr;
 use answer::Line;
+use layout::lengths;
 use layout::lists;
 use layout::parts;
 ghost use mathlib.Core.Path.{_≡_};
-ghost use lib.ListN.{length};
-ghost use Rattle.bits.specs.Bit.{unless};
-ghost use Rattle.answer.specs.Numbers.{brokenRecord, answerLine, flagLine};
-ghost use Rattle.answer.specs.declared.Answer.the-variants.{Refused};
-ghost use Rattle.answer.specs.declared.FlagAnswer.the-variants.{NoFlag};
-ghost use Rattle.packed.specs.Words.{pack};
-ghost use Rattle.paging.specs.Map.{memory};
-ghost use Rattle.paging.specs.Calls.{asAnswer};
-ghost use Rattle.fault.specs.Marked.{markCow, unmarkCow, isCow};
-ghost use Rattle.fault.specs.Faults.{handleFaultSecond};
-ghost use Rattle.layout.specs.Parts.{framesIn, framesFit, fieldsOut};
-ghost use Rattle.layout.specs.Lists.{markedIn, markedOut, markedFit};
-ghost use Rattle.desk.specs.Left.{left, faultParts, packedFault};
+ghost use Rattle.layout.specs.Left.{left, Unchanged, noLeftovers, faultLeftovers, secondLeftovers};
+ghost use Rattle.layout.specs.Memory.{memoryParts};
+ghost use Rattle.desk.specs.Faults.{packedMarkCow, packedUnmarkCow, packedIsCow, faultParts, packedFault, packedFaultSecond};
 
-fn mark_cow_in(marked: &mut [u8], addr: u64) -> Line
-    requires { ⌜ length (now marked) ≡ 2056 ⌝ }
-    ensures { λ r. ⌜ r ≡ answerLine (markCow (markedIn (now (marked .entry))) addr .answer) ⌝ }
-    ensures { λ _. ⌜ now (marked .exit) ≡ markedOut (markCow (markedIn (now (marked .entry))) addr .marked) ⌝ }
+#[no_mangle]
+pub extern "C" fn gadulnos_mark_cow(marked: &mut [u8], addr: u64) -> Line
+    ensures { λ r. ⌜ left r (now (marked .exit))
+        ≡ packedMarkCow (now (marked .entry)) addr ⌝ }
+    ensures refused { λ r. ⌜ Unchanged noLeftovers (now (marked .entry))
+        (left r (now (marked .exit))) ⌝ }
 {
+    if marked.len() != lists::MARKED_SIZE {
+        return parts::broken();
+    }
     let mut pages = lists::get_marked(marked);
     let did = fault::mark_cow(&mut pages, lists::marked_count(marked), VirtAddr(addr));
     let count = did.count;
@@ -34,21 +29,15 @@ fn mark_cow_in(marked: &mut [u8], addr: u64) -> Line
 }
 
 #[no_mangle]
-pub extern "C" fn gadulnos_mark_cow(marked: &mut [u8], addr: u64) -> Line
-    ensures { λ r. ⌜ r ≡ answerLine (unless (markedFit (now (marked .entry))) (Refused brokenRecord) (markCow (markedIn (now (marked .entry))) addr .answer)) ⌝ }
-    ensures { λ _. ⌜ now (marked .exit) ≡ unless (markedFit (now (marked .entry))) (now (marked .entry)) (markedOut (markCow (markedIn (now (marked .entry))) addr .marked)) ⌝ }
+pub extern "C" fn gadulnos_unmark_cow(marked: &mut [u8], addr: u64) -> Line
+    ensures { λ r. ⌜ left r (now (marked .exit))
+        ≡ packedUnmarkCow (now (marked .entry)) addr ⌝ }
+    ensures refused { λ r. ⌜ Unchanged noLeftovers (now (marked .entry))
+        (left r (now (marked .exit))) ⌝ }
 {
-    if !lists::marked_fits(marked) {
+    if marked.len() != lists::MARKED_SIZE {
         return parts::broken();
     }
-    mark_cow_in(marked, addr)
-}
-
-fn unmark_cow_in(marked: &mut [u8], addr: u64) -> Line
-    requires { ⌜ length (now marked) ≡ 2056 ⌝ }
-    ensures { λ r. ⌜ r ≡ answerLine (unmarkCow (markedIn (now (marked .entry))) addr .answer) ⌝ }
-    ensures { λ _. ⌜ now (marked .exit) ≡ markedOut (unmarkCow (markedIn (now (marked .entry))) addr .marked) ⌝ }
-{
     let mut pages = lists::get_marked(marked);
     let did = fault::unmark_cow(&mut pages, lists::marked_count(marked), VirtAddr(addr));
     let count = did.count;
@@ -58,21 +47,10 @@ fn unmark_cow_in(marked: &mut [u8], addr: u64) -> Line
 }
 
 #[no_mangle]
-pub extern "C" fn gadulnos_unmark_cow(marked: &mut [u8], addr: u64) -> Line
-    ensures { λ r. ⌜ r ≡ answerLine (unless (markedFit (now (marked .entry))) (Refused brokenRecord) (unmarkCow (markedIn (now (marked .entry))) addr .answer)) ⌝ }
-    ensures { λ _. ⌜ now (marked .exit) ≡ unless (markedFit (now (marked .entry))) (now (marked .entry)) (markedOut (unmarkCow (markedIn (now (marked .entry))) addr .marked)) ⌝ }
-{
-    if !lists::marked_fits(marked) {
-        return parts::broken();
-    }
-    unmark_cow_in(marked, addr)
-}
-
-#[no_mangle]
 pub extern "C" fn gadulnos_is_cow(marked: &[u8], addr: u64) -> Line
-    ensures { λ r. ⌜ r ≡ flagLine (unless (markedFit (now (marked .entry))) (NoFlag brokenRecord) (isCow (markedIn (now (marked .entry))) addr)) ⌝ }
+    ensures { λ r. ⌜ r ≡ packedIsCow (now (marked .entry)) addr ⌝ }
 {
-    if !lists::marked_fits(marked) {
+    if marked.len() != lists::MARKED_SIZE {
         return parts::broken();
     }
     let pages = lists::get_marked(marked);
@@ -92,8 +70,10 @@ pub extern "C" fn gadulnos_handle_page_fault(
 ) -> Line
     ensures { λ r. ⌜ left r (faultParts (now (words .exit)) (now (fields .exit)) (now (bits .exit)) (now (marked .exit)))
         ≡ packedFault (faultParts (now (words .entry)) (now (fields .entry)) (now (bits .entry)) (now (marked .entry))) root addr code ⌝ }
+    ensures refused { λ r. ⌜ Unchanged faultLeftovers (faultParts (now (words .entry)) (now (fields .entry)) (now (bits .entry)) (now (marked .entry)))
+        (left r (faultParts (now (words .exit)) (now (fields .exit)) (now (bits .exit)) (now (marked .exit)))) ⌝ }
 {
-    if !lengths::three(fields.len(), bits.len(), marked.len(), 2056) {
+    if !lengths::three(fields.len(), bits.len(), marked.len(), lists::MARKED_SIZE) {
         return parts::broken();
     }
     let mut bitmap = parts::get_bits(bits);
@@ -119,7 +99,9 @@ pub extern "C" fn gadulnos_handle_page_fault(
     answer::answer_line(a)
 }
 
-fn handle_second_in(
+// The second path.
+#[no_mangle]
+pub extern "C" fn gadulnos_handle_page_fault_second(
     words: &mut [u64],
     fields: &mut [u8],
     bits: &mut [u8],
@@ -127,13 +109,14 @@ fn handle_second_in(
     addr: u64,
     code: u64,
 ) -> Line
-    requires { ⌜ length (now fields) ≡ 24 ⌝ }
-    requires { ⌜ length (now bits) ≡ 1024 ⌝ }
-    ensures { λ r. ⌜ r ≡ answerLine (asAnswer (handleFaultSecond 3 (memory (now (words .entry)) (framesIn (now (fields .entry)) (now (bits .entry)))) root addr code .walked)) ⌝ }
-    ensures { λ _. ⌜ now (words .exit) ≡ handleFaultSecond 3 (memory (now (words .entry)) (framesIn (now (fields .entry)) (now (bits .entry)))) root addr code .mem .words ⌝ }
-    ensures { λ _. ⌜ now (fields .exit) ≡ fieldsOut (handleFaultSecond 3 (memory (now (words .entry)) (framesIn (now (fields .entry)) (now (bits .entry)))) root addr code .mem .frames .fa) ⌝ }
-    ensures { λ _. ⌜ now (bits .exit) ≡ pack (handleFaultSecond 3 (memory (now (words .entry)) (framesIn (now (fields .entry)) (now (bits .entry)))) root addr code .mem .frames .bits) ⌝ }
+    ensures { λ r. ⌜ left r (memoryParts (now (words .exit)) (now (fields .exit)) (now (bits .exit)))
+        ≡ packedFaultSecond (memoryParts (now (words .entry)) (now (fields .entry)) (now (bits .entry))) root addr code ⌝ }
+    ensures refused { λ r. ⌜ Unchanged secondLeftovers (memoryParts (now (words .entry)) (now (fields .entry)) (now (bits .entry)))
+        (left r (memoryParts (now (words .exit)) (now (fields .exit)) (now (bits .exit)))) ⌝ }
 {
+    if !lengths::two(fields.len(), bits.len()) {
+        return parts::broken();
+    }
     let mut bitmap = parts::get_bits(bits);
     let frames = parts::get_fields(fields);
     let did = fault::page_handler::handle_page_fault(
@@ -149,25 +132,4 @@ fn handle_second_in(
     parts::put_fields(fields, left);
     parts::put_bits(bits, &bitmap);
     answer::answer_line(a)
-}
-
-// The second path.
-#[no_mangle]
-pub extern "C" fn gadulnos_handle_page_fault_second(
-    words: &mut [u64],
-    fields: &mut [u8],
-    bits: &mut [u8],
-    root: u64,
-    addr: u64,
-    code: u64,
-) -> Line
-    ensures { λ r. ⌜ r ≡ answerLine (unless (framesFit (now (fields .entry)) (now (bits .entry))) (Refused brokenRecord) (asAnswer (handleFaultSecond 3 (memory (now (words .entry)) (framesIn (now (fields .entry)) (now (bits .entry)))) root addr code .walked))) ⌝ }
-    ensures { λ _. ⌜ now (words .exit) ≡ unless (framesFit (now (fields .entry)) (now (bits .entry))) (now (words .entry)) (handleFaultSecond 3 (memory (now (words .entry)) (framesIn (now (fields .entry)) (now (bits .entry)))) root addr code .mem .words) ⌝ }
-    ensures { λ _. ⌜ now (fields .exit) ≡ unless (framesFit (now (fields .entry)) (now (bits .entry))) (now (fields .entry)) (fieldsOut (handleFaultSecond 3 (memory (now (words .entry)) (framesIn (now (fields .entry)) (now (bits .entry)))) root addr code .mem .frames .fa)) ⌝ }
-    ensures { λ _. ⌜ now (bits .exit) ≡ unless (framesFit (now (fields .entry)) (now (bits .entry))) (now (bits .entry)) (pack (handleFaultSecond 3 (memory (now (words .entry)) (framesIn (now (fields .entry)) (now (bits .entry)))) root addr code .mem .frames .bits)) ⌝ }
-{
-    if !parts::frames_fit(fields, bits) {
-        return parts::broken();
-    }
-    handle_second_in(words, fields, bits, root, addr, code)
 }

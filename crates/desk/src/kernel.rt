@@ -1,26 +1,14 @@
 // vmalloc and vfree: the frames are lent as words; the frame record, its bitmap and the list are packed bytes.
-use crate::lengths;
 use address::Frame;
 use address::VirtAddr;
 use answer::Line;
+use layout::lengths;
 use layout::lists;
 use layout::parts;
 ghost use mathlib.Core.Path.{_≡_};
-ghost use Rattle.bits.specs.Bit.{both};
 ghost use Rattle.vmalloc.specs.Calls.{isVmallocAddr};
-ghost use Rattle.layout.specs.Lists.{vmFit};
-ghost use lib.Dec.{eqb};
-ghost use Rattle.desk.specs.Left.{left, kernelParts, packedVfree, packedVmalloc};
-
-// Whether all three parts stand for records.
-fn fits(fields: usize, bits: usize, list: &[u8]) -> bool
-    ensures { λ r. ⌜ r ≡ both (both (eqb fields 24) (eqb bits 1024)) (vmFit (now (list .entry))) ⌝ }
-{
-    if !lengths::two(fields, bits) {
-        return false;
-    }
-    lists::vm_fits(list)
-}
+ghost use Rattle.layout.specs.Left.{left, Unchanged, noLeftovers, regionLeftovers};
+ghost use Rattle.desk.specs.Regions.{kernelParts, packedVmalloc, packedVfree};
 
 #[no_mangle]
 pub extern "C" fn gadulnos_vmalloc(
@@ -33,8 +21,10 @@ pub extern "C" fn gadulnos_vmalloc(
 ) -> Line
     ensures { λ r. ⌜ left r (kernelParts (now (words .exit)) (now (fields .exit)) (now (bits .exit)) (now (list .exit)))
         ≡ packedVmalloc (kernelParts (now (words .entry)) (now (fields .entry)) (now (bits .entry)) (now (list .entry))) root size ⌝ }
+    ensures refused { λ r. ⌜ Unchanged regionLeftovers (kernelParts (now (words .entry)) (now (fields .entry)) (now (bits .entry)) (now (list .entry)))
+        (left r (kernelParts (now (words .exit)) (now (fields .exit)) (now (bits .exit)) (now (list .exit)))) ⌝ }
 {
-    if !fits(fields.len(), bits.len(), list) {
+    if !lengths::with_vm(fields.len(), bits.len(), list) {
         return parts::broken();
     }
     let mut bitmap = parts::get_bits(bits);
@@ -67,8 +57,10 @@ pub extern "C" fn gadulnos_vfree(
 ) -> Line
     ensures { λ r. ⌜ left r (kernelParts (now (words .exit)) (now (fields .exit)) (now (bits .exit)) (now (list .exit)))
         ≡ packedVfree (kernelParts (now (words .entry)) (now (fields .entry)) (now (bits .entry)) (now (list .entry))) root addr ⌝ }
+    ensures refused { λ r. ⌜ Unchanged noLeftovers (kernelParts (now (words .entry)) (now (fields .entry)) (now (bits .entry)) (now (list .entry)))
+        (left r (kernelParts (now (words .exit)) (now (fields .exit)) (now (bits .exit)) (now (list .exit)))) ⌝ }
 {
-    if !fits(fields.len(), bits.len(), list) {
+    if !lengths::with_vm(fields.len(), bits.len(), list) {
         return parts::broken();
     }
     let mut bitmap = parts::get_bits(bits);

@@ -3,7 +3,6 @@ pub mod entries;
 pub mod faults;
 pub mod frames;
 pub mod kernel;
-pub mod lengths;
 pub mod start;
 pub mod tables;
 pub mod user;

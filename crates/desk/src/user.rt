@@ -1,16 +1,16 @@
 // mmap, munmap and mprotect: the frames are lent as words; the frame record, its bitmap and the list with next_addr are packed bytes.
-use crate::lengths;
 use address::Frame;
 use address::VirtAddr;
 use answer::Line;
+use layout::lengths;
 use layout::lists;
 use layout::parts;
 ghost use mathlib.Core.Path.{_≡_};
-ghost use Rattle.answer.specs.Numbers.{answerLine};
-ghost use Rattle.paging.specs.Calls.{asAnswer};
 ghost use Rattle.mmap.specs.Calls.{mprotect as mprotectOf};
 ghost use Rattle.mmap.specs.Results.{wishOf};
-ghost use Rattle.desk.specs.Left.{left, userParts, packedMmap, packedMunmap};
+ghost use Rattle.layout.specs.Left.{left, Unchanged, noLeftovers, regionLeftovers};
+ghost use Rattle.layout.specs.Memory.{plainLine};
+ghost use Rattle.desk.specs.Regions.{userParts, packedMmap, packedMunmap};
 
 #[no_mangle]
 pub extern "C" fn gadulnos_mmap(
@@ -27,8 +27,10 @@ pub extern "C" fn gadulnos_mmap(
 ) -> Line
     ensures { λ r. ⌜ left r (userParts (now (words .exit)) (now (fields .exit)) (now (bits .exit)) (now (list .exit)))
         ≡ packedMmap (userParts (now (words .entry)) (now (fields .entry)) (now (bits .entry)) (now (list .entry))) root (wishOf given addr) size prot flags ⌝ }
+    ensures refused { λ r. ⌜ Unchanged regionLeftovers (userParts (now (words .entry)) (now (fields .entry)) (now (bits .entry)) (now (list .entry)))
+        (left r (userParts (now (words .exit)) (now (fields .exit)) (now (bits .exit)) (now (list .exit)))) ⌝ }
 {
-    if !lengths::three(fields.len(), bits.len(), list.len(), 6160) {
+    if !lengths::three(fields.len(), bits.len(), list.len(), lists::MMAP_SIZE) {
         return parts::broken();
     }
     let mut bitmap = parts::get_bits(bits);
@@ -66,8 +68,10 @@ pub extern "C" fn gadulnos_munmap(
 ) -> Line
     ensures { λ r. ⌜ left r (userParts (now (words .exit)) (now (fields .exit)) (now (bits .exit)) (now (list .exit)))
         ≡ packedMunmap (userParts (now (words .entry)) (now (fields .entry)) (now (bits .entry)) (now (list .entry))) root addr size ⌝ }
+    ensures refused { λ r. ⌜ Unchanged noLeftovers (userParts (now (words .entry)) (now (fields .entry)) (now (bits .entry)) (now (list .entry)))
+        (left r (userParts (now (words .exit)) (now (fields .exit)) (now (bits .exit)) (now (list .exit)))) ⌝ }
 {
-    if !lengths::three(fields.len(), bits.len(), list.len(), 6160) {
+    if !lengths::three(fields.len(), bits.len(), list.len(), lists::MMAP_SIZE) {
         return parts::broken();
     }
     let mut bitmap = parts::get_bits(bits);
@@ -92,7 +96,7 @@ pub extern "C" fn gadulnos_munmap(
 
 #[no_mangle]
 pub extern "C" fn gadulnos_mprotect(addr: u64, size: u64, prot: i32) -> Line
-    ensures { λ r. ⌜ r ≡ answerLine (asAnswer mprotectOf) ⌝ }
+    ensures { λ r. ⌜ r ≡ plainLine mprotectOf ⌝ }
 {
     answer::answer_line(mmap::mprotect(VirtAddr(addr), size, prot))
 }

@@ -1,40 +1,43 @@
 -- Bytes that do not fit, or the question.
-use mathlib.Core.Path.{refl}
-use Rattle.frame.proofs.Laws.{passed, failed}
-use Rattle.layout.proofs.Fit.{length-marked}
-use borrow.Author.Needs.{needs}
+use borrow.Author.Tests.{eq-eqb, ne-eqb}
+use Rattle.layout.specs.Lists.{markedSize}
+use Rattle.desk.proofs.LeftFaults.{cow-broken, cow-met}
 use Rattle.desk.proofs.faults.gadulnos_is_cow.Statement.{statement}
 use Rattle.desk.proofs.faults.gadulnos_is_cow.Tie as tie
 
-marked-fits-requires : tie.Need-marked-fits-requires
-marked-fits-requires c κs = search needs
-
 broken-requires : tie.Need-broken-requires
-broken-requires c κs = search needs
+broken-requires c κs = tt
 
 returns : tie.Need-returns
-returns c = rw (c .broken .ensures, failed (c .before .before .marked-fits .ensures) (c .before .if1 .taken)) refl
+returns c =
+    let a = c .before .before .before .args in
+    cow-broken (a .marked .now) (a .addr) (ne-eqb _ markedSize (c .before .if1 .taken)) (c .broken .ensures)
 
 get-marked-requires : tie.Need-get-marked-requires
-get-marked-requires c κs = length-marked (c .before .before .before .args .marked .now) (c .before .marked-fits .ensures) (c .if1 .left)
+get-marked-requires c κs = c .if1 .left
 
 marked-count-requires : tie.Need-marked-count-requires
-marked-count-requires c κs = length-marked (c .before .before .before .before .before .args .marked .now) (c .before .before .before .marked-fits .ensures) (c .before .before .if1 .left)
+marked-count-requires c κs = c .before .before .if1 .left
 
 is-cow-requires : tie.Need-is-cow-requires
-is-cow-requires c κs = search needs
+is-cow-requires c κs = tt
 
 flag-line-requires : tie.Need-flag-line-requires
-flag-line-requires c κs = search needs
+flag-line-requires c κs = tt
 
 returns-2 : tie.Need-returns-2
-returns-2 c = rw (c .flag-line .ensures, c .before .is-cow .ensures, c .before .before .marked-count .ensures, c .before .before .before .before .get-marked .ensures, passed (c .before .before .before .before .before .before .marked-fits .ensures) (c .before .before .before .before .before .if1 .left)) refl
+returns-2 c =
+    let did = c .before in
+    let count = did .before in
+    let pages = count .before .before in
+    let d = pages .before in
+    let a = d .before .before .args in
+    cow-met (a .marked .now) (a .addr) (eq-eqb _ markedSize (d .if1 .left)) (pages .get-marked .ensures) (count .marked-count .ensures) (did .is-cow .ensures) (c .flag-line .ensures)
 
 pub gadulnos-is-cow-spec : {M : Type 1} → statement M
 gadulnos-is-cow-spec =
     tie.close
     (tie.spec
-    marked-fits-requires
     broken-requires
     returns
     get-marked-requires

@@ -1,40 +1,65 @@
--- Bytes that do not fit, or the call.
+-- Bytes that do not fit, or the call on the pages unpacked.
 use mathlib.Core.Path.{refl}
-use Rattle.frame.proofs.Laws.{passed, failed}
-use Rattle.layout.proofs.Fit.{length-marked}
-use borrow.Author.Needs.{needs}
+use Prim.Native.Nat.{ℕ}
+use borrow.Author.Tests.{eq-eqb, ne-eqb}
+use Rattle.slots.specs.Slots.{Slots}
+use Rattle.fault.specs.Marked.{unmarkCow}
+use Rattle.layout.specs.Lists.{markedSize}
+use Rattle.layout.specs.Left.{noLeftovers}
+use Rattle.layout.proofs.Left.{contract-broken, contract-met}
+use Rattle.desk.proofs.LeftFaults.{marked-broken, marked-met, unmark-refused}
 use Rattle.desk.proofs.faults.gadulnos_unmark_cow.Statement.{statement}
 use Rattle.desk.proofs.faults.gadulnos_unmark_cow.Tie as tie
 
-marked-fits-requires : tie.Need-marked-fits-requires
-marked-fits-requires c κs = search needs
-
 broken-requires : tie.Need-broken-requires
-broken-requires c κs = search needs
-
-same-length : tie.Need-same-length
-same-length c = search needs
+broken-requires c κs = tt
 
 returns : tie.Need-returns
-returns c = rw (c .broken .ensures, failed (c .before .before .marked-fits .ensures) (c .before .if1 .taken)) (refl, refl)
+returns c =
+    let a = c .before .before .before .args in
+    contract-broken noLeftovers (marked-broken (λ (s : Slots ℕ). unmarkCow s (a .addr)) (a .marked .now) (ne-eqb _ markedSize (c .before .if1 .taken)) (c .broken .ensures))
 
-unmark-cow-in-requires : tie.Need-unmark-cow-in-requires
-unmark-cow-in-requires c κs = length-marked (c .before .before .before .before .before .args .marked .now) (c .before .before .marked-fits .ensures) (c .before .if1 .left)
+get-marked-requires : tie.Need-get-marked-requires
+get-marked-requires c κs = c .before .if1 .left
 
-same-length-2 : tie.Need-same-length-2
-same-length-2 c = search needs
+marked-count-requires : tie.Need-marked-count-requires
+marked-count-requires c κs = c .before .before .before .before .if1 .left
+
+unmark-cow-requires : tie.Need-unmark-cow-requires
+unmark-cow-requires c κs = tt
+
+put-marked-requires : tie.Need-put-marked-requires
+put-marked-requires c κs = c .before .before .before .before .before .before .before .before .if1 .left
+
+answer-line-requires : tie.Need-answer-line-requires
+answer-line-requires c κs = tt
+
+same-length : tie.Need-same-length
+same-length c = c .before .before .before .put-marked .kept .0
 
 returns-2 : tie.Need-returns-2
-returns-2 c = rw (passed (c .before .before .before .before .before .marked-fits .ensures) (c .before .before .before .before .if1 .left)) (c .before .before .unmark-cow-in .ensures)
+returns-2 c =
+    let put = c .before .before .before in
+    let did = put .before .before .before in
+    let count = did .before in
+    let pages = count .before .before .before in
+    let d = pages .before .before in
+    let a = d .before .before .args in
+    contract-met noLeftovers
+    (marked-met (λ (s : Slots ℕ). unmarkCow s (a .addr)) (a .marked .now) (eq-eqb _ markedSize (d .if1 .left)) (pages .get-marked .ensures) (count .marked-count .ensures)
+    (did .unmark-cow .ensures) (c .answer-line .ensures) (put .put-marked .ensures))
+    (unmark-refused (a .marked .now) (λ i. d .before .slice-known .given i .fits) (a .addr))
 
 pub gadulnos-unmark-cow-spec : {M : Type 1} → statement M
 gadulnos-unmark-cow-spec =
     tie.close
     (tie.spec
-    marked-fits-requires
     broken-requires
-    same-length
     returns
-    unmark-cow-in-requires
-    same-length-2
+    get-marked-requires
+    marked-count-requires
+    unmark-cow-requires
+    put-marked-requires
+    answer-line-requires
+    same-length
     returns-2)

@@ -1,23 +1,31 @@
 -- The call's answer, and the words that it leaves.
-use mathlib.Core.Path.{refl}
-use borrow.Author.Needs.{needs}
+use Rattle.layout.specs.Left.{noLeftovers}
+use Rattle.layout.proofs.Left.{contract-met}
+use Rattle.desk.proofs.LeftMemory.{unmap-left, unmap-refused}
 use Rattle.desk.proofs.tables.gadulnos_unmap_page.Statement.{statement}
 use Rattle.desk.proofs.tables.gadulnos_unmap_page.Tie as tie
 
 unmap-page-requires : tie.Need-unmap-page-requires
-unmap-page-requires c κs = search needs
+unmap-page-requires c κs = tt
 
 frame-line-requires : tie.Need-frame-line-requires
-frame-line-requires c κs = search needs
+frame-line-requires c κs = tt
 
 same-length : tie.Need-same-length
-same-length c = search needs
+same-length c = c .before .before .before .unmap-page .kept .0
 
 returns : tie.Need-returns
 returns c =
-    let r = c .before .before .before in
-    rw (c .frame-line .ensures, r .unmap-page .ensures .0, r .unmap-page .ensures .1) (refl, refl)
+    let did = c .before .before .before in
+    let a = did .before .before .before .args in
+    contract-met noLeftovers (unmap-left (a .words .now) (a .start) (a .total) (a .root) (a .virt) (did .unmap-page .ensures) (c .frame-line .ensures))
+    (unmap-refused (a .words .now) (a .start) (a .total) (a .root) (a .virt))
 
 pub gadulnos-unmap-page-spec : {M : Type 1} → statement M
 gadulnos-unmap-page-spec =
-    tie.close (tie.spec unmap-page-requires frame-line-requires same-length returns)
+    tie.close
+    (tie.spec
+    unmap-page-requires
+    frame-line-requires
+    same-length
+    returns)

@@ -1,8 +1,8 @@
 -- `two`: one length, then the other.
 use borrow.Author.Tests.{eq-eqb, ne-eqb}
 use Rattle.layout.proofs.Fit.{fit-other, fit-one}
-use Rattle.desk.proofs.lengths.two.Statement.{statement}
-use Rattle.desk.proofs.lengths.two.Tie as tie
+use Rattle.layout.proofs.lengths.two.Statement.{statement}
+use Rattle.layout.proofs.lengths.two.Tie as tie
 
 returns : tie.Need-returns
 returns c = fit-other _ _ (ne-eqb _ 24 (c .if1 .taken))

@@ -1,8 +1,8 @@
 -- `three`: two lengths, then the list's.
 use Rattle.frame.proofs.Laws.{passed, failed}
 use Rattle.layout.proofs.Fit.{fit-other, fit-one}
-use Rattle.desk.proofs.lengths.three.Statement.{statement}
-use Rattle.desk.proofs.lengths.three.Tie as tie
+use Rattle.layout.proofs.lengths.three.Statement.{statement}
+use Rattle.layout.proofs.lengths.three.Tie as tie
 
 two-requires : tie.Need-two-requires
 two-requires c κs = tt

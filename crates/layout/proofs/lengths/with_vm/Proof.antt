@@ -1,9 +1,9 @@
 -- `fits`: two lengths, then the list.
 use mathlib.Core.Path.{_∙_}
 use Rattle.frame.proofs.Laws.{passed, failed}
 use Rattle.layout.proofs.Fit.{fit-other, fit-one}
-use Rattle.desk.proofs.kernel.fits.Statement.{statement}
-use Rattle.desk.proofs.kernel.fits.Tie as tie
+use Rattle.layout.proofs.lengths.with_vm.Statement.{statement}
+use Rattle.layout.proofs.lengths.with_vm.Tie as tie
 
 two-requires : tie.Need-two-requires
 two-requires c κs = tt
@@ -17,5 +17,5 @@ vm-fits-requires c κs = tt
 returns-2 : tie.Need-returns-2
 returns-2 c = c .vm-fits .ensures ∙ fit-one _ _ (passed (c .before .before .two .ensures) (c .before .if1 .left))
 
-pub fits-spec : {M : Type 1} → statement M
-fits-spec = tie.close (tie.spec two-requires returns vm-fits-requires returns-2)
+pub with-vm-spec : {M : Type 1} → statement M
+with-vm-spec = tie.close (tie.spec two-requires returns vm-fits-requires returns-2)
