@@ -1,4 +1,0 @@
-pub mod LeftMemory
-pub mod LeftRegions
-pub mod LeftFaults
-pub mod LeftBoard
