@@ -1,7 +1,7 @@
 -- The one equation of the start, whose refusal leaves every part as it was.
 use Prim.Native.Nat.{ℕ}
-use mathlib.Core.Path.{_≡_, refl, sym, _∙_, ap, subst}
-use mathlib.Core.Bool.{Bool, true, false}
+use mathlib.Core.Path.{_≡_, refl, _∙_, ap}
+use mathlib.Core.Bool.{true, false}
 use mathlib.Core.List.{List}
 use lib.Dec.{eqb}
 use lib.ListN.{length}
@@ -18,14 +18,14 @@ use Rattle.regions.specs.List.{slotsOf}
 use Rattle.mmap.specs.List.{slotsOf as mappedSlots}
 use Rattle.board.specs.declared.Records.{Records}
 use Rattle.board.specs.declared.Started.{Started}
-use Rattle.board.specs.Board.{Board, Did, did, boardOf, start, started}
+use Rattle.board.specs.Board.{Did, did, boardOf, start, started}
 use Rattle.board.proofs.Outcomes.{start-cases}
-use Rattle.layout.specs.Parts.{fieldsIn, fieldsOut, framesFit, fieldsSize, bitsSize}
+use Rattle.layout.specs.Parts.{fieldsOut, framesFit, fieldsSize, bitsSize}
 use Rattle.layout.specs.Lists.{vmSize, mmapSize, markedSize, vmOut, mmapFit, mmapOut, markedIn, markedFit, markedOut, markedSlots}
 use Rattle.layout.specs.Left.{left, brokenLine, IsRefusal, Unchanged, noLeftovers}
 use Rattle.layout.specs.Memory.{plainLine}
 use Rattle.layout.proofs.Left.{broken-left, met-left, unchanged-left, FramesBytes, fields-same, bits-same}
-use Rattle.desk_faults.specs.Board.{BoardParts, boardParts, boardFit, boardIn, recordsIn, boardPacked, leftOf, startLeft, packedStart}
+use Rattle.desk_faults.specs.Board.{BoardParts, boardParts, boardFit, boardIn, recordsIn, boardPacked, leftOf, packedStart}
 
 -- lengths that were tested
 module _ (fields bits kernel user marked : List ℕ)

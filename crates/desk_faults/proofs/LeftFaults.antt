@@ -1,11 +1,11 @@
 -- The one equation of each C function of the marked pages and of both fault paths, and what their refusals leave.
 use Prim.Native.Nat.{ℕ, suc, _+_, _*_, _/_, _^_}
-use mathlib.Core.Path.{_≡_, refl, sym, _∙_, ap, subst}
+use mathlib.Core.Path.{_≡_, refl, _∙_, ap, subst}
 use mathlib.Core.Bool.{Bool, true, false}
 use mathlib.Core.List.{List}
 use lib.ListN.{getD, take}
 use borrow.Author.Tests.{eqb-true}
-use Rattle.bits.specs.Bit.{unless, both}
+use Rattle.bits.specs.Bit.{both}
 use Rattle.bits.proofs.Choice.{pick-cases, both-true}
 use Rattle.answer.specs.Numbers.{noFreeFrame, answerLine, flagLine}
 use Rattle.answer.specs.declared.FlagAnswer.{FlagAnswer}
@@ -19,7 +19,7 @@ use Rattle.frame.specs.Frames.{Did as Framed}
 use Rattle.frame.proofs.Laws.{take-cases}
 use Rattle.paging.specs.declared.Walked.{Walked}
 use Rattle.paging.specs.declared.Walked.the-variants.{At, Stop}
-use Rattle.paging.specs.Map.{Memory, memory, startOf, totalOf, Out, out, goOn, make, Left as Stored, withWords}
+use Rattle.paging.specs.Map.{Memory, memory, startOf, totalOf, Out, out, goOn, make}
 use Rattle.paging.specs.Calls.{whole, mapAt}
 use Rattle.paging.specs.Pages.{freePage}
 use Rattle.paging.proofs.Map.{goOn-cases}
@@ -28,8 +28,8 @@ use Rattle.fault.specs.declared.Faulted.{Faulted}
 use Rattle.fault.specs.declared.MarkedAnswer.{MarkedAnswer}
 use Rattle.fault.specs.Marked.{slotsOf as markedOf, pageOf, soundMarked, isListed, DidMark, marking, fullOfPages, markCow, unmarkCow, isCow}
 use Rattle.fault.specs.Faults.{Faulting, faulting, Did, faulted, isPresent, isWrite, isUser, isReserved, isFetch, asTaken, rawFrame, onlyError, inHeap, valid, mapFrame, demandPage, temporary}
-use Rattle.fault.specs.Faults.{translated, clearedIf, copied, copyPage, copyTo, copyOnWrite, soundFaulting, unmarking, protected, handled, handleFault, overwrite, putOver, mapOver, handledSecond, handleFaultSecond}
-use Rattle.layout.specs.Parts.{fieldsIn, fieldsOut, framesIn, framesFit}
+use Rattle.fault.specs.Faults.{translated, clearedIf, copied, copyPage, copyTo, copyOnWrite, soundFaulting, unmarking, handled, handleFault, overwrite, putOver, mapOver, handleFaultSecond}
+use Rattle.layout.specs.Parts.{fieldsIn, fieldsOut, framesFit}
 use Rattle.layout.specs.Lists.{markedIn, markedOut, markedSlots, markedFit}
 use Rattle.layout.specs.Left.{left, brokenLine, IsRefusal, Unchanged, noLeftovers, faultLeftovers, secondLeftovers}
 use Rattle.layout.specs.Memory.{plainLine, memoryParts}
@@ -220,17 +220,17 @@ over-listed up m root v f w u =
 second-clean : (up root addr code : ℕ) (m : Memory) → IsRefusal secondLeftovers (plainLine (handleFaultSecond up m root addr code .walked) .number) → handleFaultSecond up m root addr code .mem ≡ m
 unfolding handleFaultSecond
 second-clean up root addr code m =
-    pick-cases CleanStep2 (whole m root) _ _
+    pick-cases CleanSecond (whole m root) _ _
     (λ _.
-    pick-cases CleanStep2 (isReserved code) _ _ (λ _ _. refl)
+    pick-cases CleanSecond (isReserved code) _ _ (λ _ _. refl)
     (λ _.
-    pick-cases CleanStep2 (isPresent code) _ _ (λ _ _. refl)
-    (λ _. raw-cases m (λ (o : Out). CleanStep2 (goOn o (λ f m′. mapOver up m′ root (pageOf addr) f (isWrite code) (isUser code)))) (λ j h. absurd (over-listed up _ root (pageOf addr) _ (isWrite code) (isUser code) h))
+    pick-cases CleanSecond (isPresent code) _ _ (λ _ _. refl)
+    (λ _. raw-cases m (λ (o : Out). CleanSecond (goOn o (λ f m′. mapOver up m′ root (pageOf addr) f (isWrite code) (isUser code)))) (λ j h. absurd (over-listed up _ root (pageOf addr) _ (isWrite code) (isUser code) h))
     (λ h. absurd (h .0 refl)))))
     (λ _ _. refl)
   where
-    CleanStep2 : Out → Type 0
-    CleanStep2 o = IsRefusal secondLeftovers (plainLine (o .walked) .number) → o .mem ≡ m
+    CleanSecond : Out → Type 0
+    CleanSecond o = IsRefusal secondLeftovers (plainLine (o .walked) .number) → o .mem ≡ m
 
 module _ (words fields bits : List ℕ) (b : FramesBytes fields bits) (root addr code : ℕ) where
   pub fault-refused : (marked : List ℕ) → Bytes marked → let p = faultParts words fields bits marked in Unchanged faultLeftovers p (packedFault p root addr code)

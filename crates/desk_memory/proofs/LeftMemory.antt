@@ -1,17 +1,17 @@
 -- The one equation of each C function of the frame allocator and of the mapper, and what their refusals leave.
 use Prim.Native.Nat.{ℕ, suc}
-use mathlib.Core.Path.{_≡_, refl, sym, _∙_, ap, subst}
+use mathlib.Core.Path.{_≡_, refl, _∙_, ap}
 use mathlib.Core.Bool.{Bool, true, false}
 use mathlib.Core.List.{List}
 use lib.ListN.{length, getD, take}
-use Rattle.bits.specs.Bit.{unless, both, flag}
+use Rattle.bits.specs.Bit.{both, flag}
 use Rattle.bits.proofs.Choice.{pick-cases}
 use Rattle.answer.specs.Numbers.{answerLine}
 use Rattle.answer.specs.declared.Answer.{Answer}
 use Rattle.answer.specs.declared.Line.{Line}
 use Rattle.address.specs.Address.{aligned, frameLine}
 use Rattle.address.specs.declared.FrameAnswer.{FrameAnswer}
-use Rattle.entry.specs.Entry.{entryOf, hugeEntryOf, indices}
+use Rattle.entry.specs.Entry.{indices}
 use Rattle.packed.specs.Words.{pack, unpack}
 use Rattle.frame.specs.declared.FrameAllocator.{FrameAllocator}
 use Rattle.frame.specs.Frames.{Frames, frames, Did, inside, sound, init, markAllocated, allocate, deallocate}

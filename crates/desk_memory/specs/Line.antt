@@ -1,5 +1,4 @@
 -- The number and value of a table's entry, and the record of ten flags.
-use Prim.Native.Nat.{ℕ}
 use mathlib.Core.Bool.{Bool, true, false}
 use Rattle.answer.specs.declared.Line.{Line}
 use Rattle.entry.specs.declared.EntryAnswer.{EntryAnswer}

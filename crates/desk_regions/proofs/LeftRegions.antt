@@ -1,11 +1,10 @@
 -- The one equation of each C function of vmalloc and mmap, and what their refusals leave.
 use Prim.Native.Nat.{ℕ, _/_}
 use mathlib.Core.Path.{_≡_, refl, sym, _∙_, ap, subst}
-use mathlib.Core.Bool.{Bool, true, false}
+use mathlib.Core.Bool.{true, false}
 use mathlib.Core.List.{List}
 use lib.Dec.{eqb}
 use lib.IntN.{ℤ}
-use Rattle.bits.specs.Bit.{unless, both}
 use Rattle.bits.proofs.Choice.{pick-cases, both-true}
 use Rattle.allocator.specs.Round.{rounded}
 use Rattle.answer.specs.declared.CountAnswer.{CountAnswer}
@@ -31,7 +30,7 @@ use Rattle.mmap.specs.Calls.{User, user, soundUser, onPage, chosen, full, userP
 use Rattle.mmap.specs.Calls.{Did as Used}
 use Rattle.mmap.specs.Regions.{holds, writable}
 use Rattle.mmap.specs.Results.{lentUser}
-use Rattle.layout.specs.Parts.{fieldsIn, fieldsOut, framesIn, framesFit}
+use Rattle.layout.specs.Parts.{fieldsIn, fieldsOut, framesFit}
 use Rattle.layout.specs.Lists.{vmIn, vmOut, vmFit, mmapIn, nextIn, mmapOut, mmapFit}
 use Rattle.layout.specs.Left.{left, brokenLine, IsRefusal, Unchanged, noLeftovers, regionLeftovers}
 use Rattle.layout.specs.Memory.{plainLine}

@@ -1,6 +1,6 @@
 -- The numbers with which the steps on tables and pages stop.
 use Prim.Native.Nat.{ℕ, zero, suc, _+_, _*_, _^_}
-use mathlib.Core.Path.{_≡_, refl, sym, _∙_, ap, subst}
+use mathlib.Core.Path.{_≡_, refl, subst}
 use mathlib.Core.Bool.{Bool}
 use mathlib.Core.List.{List, [], _∷_}
 use lib.ListN.{getD}
@@ -15,7 +15,7 @@ use Rattle.paging.specs.declared.Walked.the-variants.{At, Stop}
 use Rattle.paging.specs.Walk.{place}
 use Rattle.paging.specs.Map.{Memory, memory, startOf, totalOf, Out, out, goOn, zeroFrame, enter, make, Left, putEntry, mapEntry}
 use Rattle.paging.specs.Calls.{mapAt}
-use Rattle.paging.specs.Pages.{Ran, zeroed, freshFrame, orFailed, mapFresh, mapPages}
+use Rattle.paging.specs.Pages.{zeroed, freshFrame, orFailed, mapFresh, mapPages}
 use Rattle.paging.proofs.Map.{goOn-cases, enter-cases}
 use Rattle.paging.proofs.Pages.{map-pages-none, map-pages-on, map-pages-stop}
 use Rattle.layout.specs.Left.{IsRefusal, tableLeftovers, regionLeftovers, secondLeftovers}

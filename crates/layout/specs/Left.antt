@@ -40,8 +40,8 @@ Unchanged leftovers p d = IsRefusal leftovers (d .line .number) → d .parts ≡
 abbrev pub noLeftovers : List ℕ
 noLeftovers = []
 
--- map_page, map_huge_page: 'Tables made before 11, 12, .. stay'. 19 leaves something only 'where a frame marked free serves as root, table or page, one is reached
--- twice as root, table or page': a walk that has made a table goes on in that table
+-- map_page, map_huge_page: 'Tables made before 11, 12, .. stay'. 19 leaves something on odd boards alone, 'Where a frame marked free serves as root, table or page, one
+-- is reached twice as root, table or page': elsewhere a table that the walk has made is empty, and leads nowhere
 abbrev pub tableLeftovers : List ℕ
 tableLeftovers = noFreeFrame ∷ alreadyMapped ∷ outside ∷ []
 

@@ -1,10 +1,10 @@
 -- The three lists as packed bytes (docs/LAYOUT.md): the count first, then 256 slots.
 use Prim.Native.Nat.{ℕ, zero, suc, _+_, _*_, _^_}
-use mathlib.Core.Bool.{Bool, true, false}
-use mathlib.Core.List.{List, [], _∷_, _++_}
+use mathlib.Core.Bool.{Bool, true}
+use mathlib.Core.List.{List, [], _++_}
 use lib.Dec.{eqb, leb}
 use lib.ListN.{length, drop}
-use Rattle.bits.specs.Bit.{pick, both, one}
+use Rattle.bits.specs.Bit.{both, one}
 use mir.Val.{ofZ, toZ}
 use mir.Syntax.{w32}
 use Rattle.packed.specs.Words.{number, bytes, pack, unpack}

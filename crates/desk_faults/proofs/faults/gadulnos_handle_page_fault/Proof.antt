@@ -1,5 +1,5 @@
 -- Parts that do not fit, or the call on the parts unpacked.
-use mathlib.Core.Path.{_≡_, refl}
+use mathlib.Core.Path.{_≡_}
 use lib.ListN.{length}
 use Rattle.frame.proofs.Laws.{passed, failed}
 use Rattle.layout.specs.Parts.{fieldsSize, bitsSize}
@@ -108,14 +108,14 @@ returns-2 c =
     let put-bits = put-marked .before .before .before .before .before in
     let put-fields = put-bits .before .before .before .before .before in
     let did = put-fields .before .before .before .before .before in
-    let did-ed-count = did .before .before .before .before in
-    let get-marked = did-ed-count .before .before in
+    let marked-count = did .before .before .before .before in
+    let get-marked = marked-count .before .before in
     let get-fields = get-marked .before .before in
     let get-bits = get-fields .before .before in
     let d = get-bits .before .before .before in
     let a = entry d .args in
     contract-met faultLeftovers
-    (fault-met (call d) (a .words .now) (a .fields .now) (a .bits .now) (a .marked .now) (passed (d .three .ensures) (get-bits .before .before .if1 .left)) (get-bits .get-bits .ensures) (get-fields .get-fields .ensures) (get-marked .get-marked .ensures) (did-ed-count .marked-count .ensures)
+    (fault-met (call d) (a .words .now) (a .fields .now) (a .bits .now) (a .marked .now) (passed (d .three .ensures) (get-bits .before .before .if1 .left)) (get-bits .get-bits .ensures) (get-fields .get-fields .ensures) (get-marked .get-marked .ensures) (marked-count .marked-count .ensures)
     (did .handle-page-fault .ensures) (c .answer-line .ensures) (put-fields .put-fields .ensures) (put-bits .put-bits .ensures) (put-marked .put-marked .ensures))
     (fault-refused (a .words .now) (a .fields .now) (a .bits .now) (bytes d) (a .root) (a .addr) (a .code) (a .marked .now) (list-bytes d))
 

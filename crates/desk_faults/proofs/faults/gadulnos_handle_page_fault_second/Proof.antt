@@ -1,5 +1,5 @@
 -- Parts that do not fit, or the call on the parts unpacked.
-use mathlib.Core.Path.{_≡_, refl}
+use mathlib.Core.Path.{_≡_}
 use lib.ListN.{length}
 use Rattle.frame.proofs.Laws.{passed, failed}
 use Rattle.layout.specs.Parts.{fieldsSize, bitsSize}

@@ -1,5 +1,4 @@
 -- Bytes that do not fit, or the call on the pages unpacked.
-use mathlib.Core.Path.{refl}
 use Prim.Native.Nat.{ℕ}
 use borrow.Author.Tests.{eq-eqb, ne-eqb}
 use Rattle.slots.specs.Slots.{Slots}

@@ -4,7 +4,7 @@ use lib.ListN.{length}
 use Rattle.frame.proofs.Laws.{passed, failed}
 use Rattle.layout.specs.Parts.{fieldsSize, bitsSize}
 use Rattle.layout.proofs.Fit.{lengths}
-use Rattle.frame.specs.Frames.{Frames, freeFrames}
+use Rattle.frame.specs.Frames.{freeFrames}
 use Rattle.answer.specs.Numbers.{countLine}
 use Rattle.desk_memory.proofs.LeftMemory.{read-broken, read-met}
 use Rattle.desk_memory.proofs.frames.gadulnos_free_frames.Statement.{statement}

@@ -1,5 +1,5 @@
 -- Parts that do not fit, or the call on the parts unpacked.
-use mathlib.Core.Path.{_≡_, refl}
+use mathlib.Core.Path.{_≡_}
 use lib.ListN.{length}
 use Rattle.frame.proofs.Laws.{passed, failed}
 use Rattle.layout.specs.Parts.{fieldsSize, bitsSize}
@@ -92,15 +92,15 @@ returns-2 c =
     let put-bits = c .before .before .before in
     let put-fields = put-bits .before .before .before .before .before in
     let did = put-fields .before .before .before .before .before in
-    let did--size = did .before .before .before in
-    let get-fields = did--size .before in
+    let huge-size = did .before .before .before in
+    let get-fields = huge-size .before in
     let get-bits = get-fields .before .before in
     let d = get-bits .before .before .before in
     let a = entry d .args in
     contract-met tableLeftovers
-    (memory-met (call d (did--size .huge-size .result)) (a .words .now) (a .fields .now) (a .bits .now) (passed (d .two .ensures) (get-bits .before .before .if1 .left)) (get-bits .get-bits .ensures) (get-fields .get-fields .ensures)
+    (memory-met (call d (huge-size .huge-size .result)) (a .words .now) (a .fields .now) (a .bits .now) (passed (d .two .ensures) (get-bits .before .before .if1 .left)) (get-bits .get-bits .ensures) (get-fields .get-fields .ensures)
     (did .map-huge-page .ensures) (c .answer-line .ensures) (put-fields .put-fields .ensures) (put-bits .put-bits .ensures)
-    ∙ ap (λ (s : HugePageSize). onMemory (call d s) (memoryParts (a .words .now) (a .fields .now) (a .bits .now))) (did--size .huge-size .ensures))
+    ∙ ap (λ (s : HugePageSize). onMemory (call d s) (memoryParts (a .words .now) (a .fields .now) (a .bits .now))) (huge-size .huge-size .ensures))
     (huge-refused (a .words .now) (a .fields .now) (a .bits .now) (bytes d) (a .root) (a .virt) (a .phys) (a .writable) (a .user) (hugeOf (a .gigabyte)))
 
 pub gadulnos-map-huge-page-spec : {M : Type 1} → statement M

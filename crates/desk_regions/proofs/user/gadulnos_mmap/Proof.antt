@@ -122,17 +122,17 @@ returns-2 c =
     let put-fields = put-bits .before .before .before .before .before in
     let did = put-fields .before .before .before .before .before .before in
     let get-mmap = did .before in
-    let did--of = get-mmap .before .before .before .before in
-    let get-fields = did--of .before in
+    let wish-of = get-mmap .before .before .before .before in
+    let get-fields = wish-of .before in
     let get-bits = get-fields .before .before in
     let d = get-bits .before .before .before in
     let a = entry d .args in
     contract-met regionLeftovers
-    (user-met addressLine (call d (did--of .wish-of .result, (toZ w32 (ofZ w32 (a .prot)), toZ w32 (ofZ w32 (a .flags))))) (a .words .now) (a .fields .now) (a .bits .now) (a .list .now) mmapped (λ (x : Mmapped). virtLine (x .answer)) (λ (x : Mmapped). x .frames)
+    (user-met addressLine (call d (wish-of .wish-of .result, (toZ w32 (ofZ w32 (a .prot)), toZ w32 (ofZ w32 (a .flags))))) (a .words .now) (a .fields .now) (a .bits .now) (a .list .now) mmapped (λ (x : Mmapped). virtLine (x .answer)) (λ (x : Mmapped). x .frames)
     (λ (x : Mmapped). x .list) (λ _. (refl, (refl, refl))) (passed (d .three .ensures) (get-bits .before .before .if1 .left)) (get-bits .get-bits .ensures) (get-fields .get-fields .ensures) (get-mmap .get-mmap .ensures)
     (did .mmap .ensures) (c .virt-line .ensures) (put-fields .put-fields .ensures) (put-bits .put-bits .ensures) (put-mmap .put-mmap .ensures)
     ∙ ap (λ (v : Wish × (ℤ × ℤ)). onUser addressLine (call d v) (userParts (a .words .now) (a .fields .now) (a .bits .now) (a .list .now)))
-    (all-three (did--of .wish-of .ensures) (toZ-ofZ (entry d .fits .prot)) (toZ-ofZ (entry d .fits .flags))))
+    (all-three (wish-of .wish-of .ensures) (toZ-ofZ (entry d .fits .prot)) (toZ-ofZ (entry d .fits .flags))))
     (mmap-refused (a .words .now) (a .fields .now) (a .bits .now) (a .list .now) (bytes d) (list-bytes d) (a .root) (wishOf (a .given) (a .addr)) (a .size) (a .prot) (a .flags))
 
 pub gadulnos-mmap-spec : {M : Type 1} → statement M
