@@ -3,6 +3,6 @@
 # It is no part of the tests.
 set -euo pipefail
 cd "$(dirname "$0")/.."
-[ -e target/staticlib/libdesk.a ] || rt staticlib desk
+[ -e target/staticlib/libdesk.a ] || host/library.sh
 host/build.sh bench
 exec target/host/bench "$@"

@@ -96,11 +96,11 @@ if changed "$out/oracle-self" "$lib/checked/librinux.rlib" "$lib/wrapping/librin
         --extern rinux_wrapping="$lib/wrapping/librinux.rlib" host/tests/oracle_self.rs
 fi
 
-# The port, whose C functions `rt staticlib desk` makes.
+# The port, whose C functions host/library.sh makes.
 archive=target/staticlib/libdesk.a
 gadulnos=$lib/libgadulnos.rlib
 if [ ! -e "$archive" ]; then
-    echo "no $archive (rt staticlib desk makes it): the port's tests are left out"
+    echo "no $archive (host/library.sh makes it): the port's tests are left out"
     exit 0
 fi
 if changed "$gadulnos" "$archive" host/gadulnos.rs; then

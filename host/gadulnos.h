@@ -1,4 +1,4 @@
-/* Gadulnos: the rinux memory manager as C functions. Link libdesk.a, which `rt staticlib desk` makes
+/* Gadulnos: the rinux memory manager as C functions. Link libdesk.a, which `host/library.sh` makes
  * (x86-64, System V calling convention). docs/LAYOUT.md explains the layout at length.
  *
  * What is asked of the arguments: each pointer lends as many elements as its length says, no two lent parts

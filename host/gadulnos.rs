@@ -1,4 +1,4 @@
-//! Gadulnos for a Rust host: the C functions of `libdesk.a` (`rt staticlib desk` makes it), the packed
+//! Gadulnos for a Rust host: the C functions of `libdesk.a` (`host/library.sh` makes it), the packed
 //! layout of a board's state, and a board that hands its parts to them. docs/LAYOUT.md explains both.
 //!
 //! Nothing is asked of any argument. A call that cannot be met answers with a number of docs/NUMBERS.md and

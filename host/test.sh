@@ -1,9 +1,9 @@
 #!/usr/bin/env bash
 # The host tests: the oracle's own, and the port's, beside the original Rust and on any input. `rt staticlib` links what is proved already and checks the
-# one thin crate of C functions again. The last line sums the programs: 'N passed, M failed'.
+# thin crates of C functions again. The last line sums the programs: 'N passed, M failed'.
 set -euo pipefail
 cd "$(dirname "$0")/.."
-rt staticlib desk
+host/library.sh
 host/build.sh
 log=$(mktemp)
 trap 'rm -f "$log"' EXIT

@@ -1,3 +1,5 @@
 pub mod Fit
 pub mod RoundTrip
 pub mod Slots
+pub mod Left
+pub mod Numbers

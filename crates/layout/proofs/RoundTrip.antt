@@ -23,8 +23,8 @@ use Rattle.regions.specs.declared.VMRegion.{VMRegion}
 use Rattle.regions.specs.Regions.{noSlot}
 use Rattle.mmap.specs.declared.MappedRegion.{MappedRegion}
 use Rattle.mmap.specs.Regions.{noSlot as noMapped}
-use Rattle.layout.specs.Parts.{fieldsIn, fieldsOut, framesFit}
-use Rattle.layout.specs.Lists.{vmRegionIn, vmRegionOut, usedIsFlag, vmIn, vmOut, vmFit, mappedIn, mappedOut, mmapIn, nextIn, mmapOut, mmapFit, markedIn, markedOut, markedFit}
+use Rattle.layout.specs.Parts.{fieldsSize, bitsSize, fieldsIn, fieldsOut, framesFit}
+use Rattle.layout.specs.Lists.{vmSize, mmapSize, markedSize, vmRegionIn, vmRegionOut, usedIsFlag, vmIn, vmOut, vmFit, mappedIn, mappedOut, mmapIn, nextIn, mmapOut, mmapFit, markedIn, markedOut, markedFit}
 use Rattle.layout.proofs.Slots.{further, length-vm, length-mapped}
 
 -- bytes, and numbers of 64 bits
@@ -40,7 +40,7 @@ three-words : (bs : List ℕ) → getD (unpack 3 bs) 0 0 ∷ getD (unpack 3 bs) 
 unfolding unpack
 three-words bs = refl
 
-pub fields-back : (bs : List ℕ) → length bs ≡ 24 → Bytes bs → fieldsOut (fieldsIn bs) ≡ bs
+pub fields-back : (bs : List ℕ) → length bs ≡ fieldsSize → Bytes bs → fieldsOut (fieldsIn bs) ≡ bs
 fields-back bs n b = ap pack (three-words bs) ∙ pack-unpack 3 bs n b
 
 pub fields-kept : (fa : FrameAllocator) → fa .start < 2 ^ 64 → fa .total < 2 ^ 64 → fa .allocated < 2 ^ 64 → fieldsIn (fieldsOut fa) ≡ fa
@@ -54,7 +54,7 @@ fields-kept fa s t a =
     each (suc (suc zero)) = a
     each (suc (suc (suc i))) = omega arith
 
-pub bits-back : (bs : List ℕ) → length bs ≡ 1024 → Bytes bs → pack (unpack 128 bs) ≡ bs
+pub bits-back : (bs : List ℕ) → length bs ≡ bitsSize → Bytes bs → pack (unpack 128 bs) ≡ bs
 bits-back bs n b = pack-unpack 128 bs n b
 
 pub bits-kept : (ws : List ℕ) → length ws ≡ 128 → Words ws → unpack 128 (pack ws) ≡ ws
@@ -168,7 +168,7 @@ vm-back bs fit b =
     let h = both-true _ _ fit in
     ap (λ (l : List ℕ). bytes 8 (number 8 bs) ++ l)
     (slots-back vmRegionIn vmRegionOut (λ (n : ℕ) (l : List ℕ). usedIsFlag n l ≡ true) (λ n l k. used n l k) (λ n l k. flags-apart n l k .1) 256 (drop 8 bs) (h .1))
-    ∙ next-word 768 bs ∙ pack-unpack 769 bs (eqb-true _ 6152 (h .0)) b
+    ∙ next-word 768 bs ∙ pack-unpack 769 bs (eqb-true _ vmSize (h .0)) b
   where
     used : (n : ℕ) (l : List ℕ) → usedIsFlag (suc n) l ≡ true → vmRegionOut (vmRegionIn l) ≡ triple (number 8 l) (number 8 (drop 8 l)) (number 8 (drop 16 l))
     used n l k = ap (triple (number 8 l) (number 8 (drop 8 l))) (flag-back (number 8 (drop 16 l)) (leb-true _ 1 (flags-apart n l k .0)))
@@ -224,7 +224,7 @@ mapped-back n bs (long, b) =
     ∙ sym (halves (drop 16 bs) (omega (arith, length-drop 16 bs)))
     )
 
-pub mmap-back : (bs : List ℕ) → length bs ≡ 6160 → Bytes bs → mmapOut (mmapIn bs) (nextIn bs) ≡ bs
+pub mmap-back : (bs : List ℕ) → length bs ≡ mmapSize → Bytes bs → mmapOut (mmapIn bs) (nextIn bs) ≡ bs
 mmap-back bs n b =
     let one = bytes 8 (number 8 bs) in
     let two = bytes 8 (nextIn bs) in
@@ -292,7 +292,7 @@ module _ (s : Slots MappedRegion) (next : ℕ) (h : s .count < 2 ^ 64) (k : next
 
 -- ---- the marked pages
 
-pub marked-back : (bs : List ℕ) → length bs ≡ 2056 → Bytes bs → markedOut (markedIn bs) ≡ bs
+pub marked-back : (bs : List ℕ) → length bs ≡ markedSize → Bytes bs → markedOut (markedIn bs) ≡ bs
 marked-back bs n b = next-word 256 bs ∙ pack-unpack 257 bs n b
 
 pub marked-kept : (s : Slots ℕ) → s .count < 2 ^ 64 → length (s .slots) ≡ 256 → Words (s .slots) → markedIn (markedOut s) ≡ s
@@ -306,7 +306,7 @@ marked-kept s h n fits = λ j. record {
 
 pub frames-fit-out : (fa : FrameAllocator) (ws : List ℕ) → length ws ≡ 128 → framesFit (fieldsOut fa) (pack ws) ≡ true
 frames-fit-out fa ws n =
-    rw (eq-eqb _ 24 (length-pack (fa .start ∷ fa .total ∷ fa .allocated ∷ [])), eq-eqb (length (pack ws)) 1024 (omega (arith, length-pack ws))) refl
+    rw (eq-eqb _ fieldsSize (length-pack (fa .start ∷ fa .total ∷ fa .allocated ∷ [])), eq-eqb (length (pack ws)) bitsSize (omega (arith, length-pack ws))) refl
 
 flags-out : (l : List VMRegion) → usedIsFlag (length l) (packed vmRegionOut l) ≡ true
 unfolding usedIsFlag packed
@@ -322,18 +322,18 @@ pub vm-fit-out : (s : Slots VMRegion) → length (s .slots) ≡ 256 → vmFit (v
 vm-fit-out s n =
     let head = bytes 8 (s .count) in
     let rest = packed vmRegionOut (s .slots) in
-    let long : length (head ++ rest) ≡ 6152 = omega (arith, length-append head rest, length-bytes 8 (s .count), length-packed vmRegionOut length-vm (s .slots)) in
+    let long : length (head ++ rest) ≡ vmSize = omega (arith, length-append head rest, length-bytes 8 (s .count), length-packed vmRegionOut length-vm (s .slots)) in
     let flags : usedIsFlag 256 (drop 8 (head ++ rest)) ≡ true =
     ap (usedIsFlag 256) (drop-at head rest 8 (length-bytes 8 (s .count))) ∙ ap (λ (k : ℕ). usedIsFlag k rest) (sym n) ∙ flags-out (s .slots)
     in
-    rw (eq-eqb (length (head ++ rest)) 6152 long, flags) refl
+    rw (eq-eqb (length (head ++ rest)) vmSize long, flags) refl
 
 pub mmap-fit-out : (s : Slots MappedRegion) (next : ℕ) → length (s .slots) ≡ 256 → mmapFit (mmapOut s next) ≡ true
 mmap-fit-out s next n =
     let one = bytes 8 (s .count) in
     let two = bytes 8 next in
     let rest = packed mappedOut (s .slots) in
-    eq-eqb (length ((one ++ two) ++ rest)) 6160 (
+    eq-eqb (length ((one ++ two) ++ rest)) mmapSize (
     omega (
       arith,
       length-append (one ++ two) rest,
@@ -346,4 +346,4 @@ mmap-fit-out s next n =
 
 pub marked-fit-out : (s : Slots ℕ) → length (s .slots) ≡ 256 → markedFit (markedOut s) ≡ true
 marked-fit-out s n =
-    eq-eqb (length (markedOut s)) 2056 (omega (arith, length-append (bytes 8 (s .count)) (pack (s .slots)), length-bytes 8 (s .count), length-pack (s .slots)))
+    eq-eqb (length (markedOut s)) markedSize (omega (arith, length-append (bytes 8 (s .count)) (pack (s .slots)), length-bytes 8 (s .count), length-pack (s .slots)))

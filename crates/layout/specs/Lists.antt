@@ -1,10 +1,10 @@
 -- The three lists as packed bytes (docs/LAYOUT.md): the count first, then 256 slots.
 use Prim.Native.Nat.{ℕ, zero, suc, _+_, _*_, _^_}
-use mathlib.Core.Bool.{Bool, true, false}
-use mathlib.Core.List.{List, [], _∷_, _++_}
+use mathlib.Core.Bool.{Bool, true}
+use mathlib.Core.List.{List, [], _++_}
 use lib.Dec.{eqb, leb}
 use lib.ListN.{length, drop}
-use Rattle.bits.specs.Bit.{pick, both, one}
+use Rattle.bits.specs.Bit.{both, one}
 use mir.Val.{ofZ, toZ}
 use mir.Syntax.{w32}
 use Rattle.packed.specs.Words.{number, bytes, pack, unpack}
@@ -14,6 +14,16 @@ use Rattle.regions.specs.Regions.{region}
 use Rattle.regions.specs.declared.VMRegion.{VMRegion}
 use Rattle.mmap.specs.Regions.{region as mapped}
 use Rattle.mmap.specs.declared.MappedRegion.{MappedRegion}
+
+-- the count and 256 regions of 24 bytes; the same with next_addr; the count and 256 addresses
+abbrev pub vmSize : ℕ
+vmSize = 6152
+
+abbrev pub mmapSize : ℕ
+mmapSize = 6160
+
+abbrev pub markedSize : ℕ
+markedSize = 2056
 
 -- a vmalloc region: start, size, and 1 for used or 0 for free, each of 8 bytes
 abbrev pub vmRegionIn : List ℕ → VMRegion
@@ -33,9 +43,9 @@ vmIn bs = record { slots = records vmRegionIn 256 (drop 8 bs); count = number 8 
 abbrev pub vmOut : Slots VMRegion → List ℕ
 vmOut s = bytes 8 (s .count) ++ packed vmRegionOut (s .slots)
 
--- 8 bytes and 256 times 24; another byte for `used` than 0 or 1 stands for no record
+-- another byte for `used` than 0 or 1 stands for no record
 abbrev pub vmFit : List ℕ → Bool
-vmFit bs = both (eqb (length bs) 6152) (usedIsFlag 256 (drop 8 bs))
+vmFit bs = both (eqb (length bs) vmSize) (usedIsFlag 256 (drop 8 bs))
 
 -- an mmap region: start and size of 8 bytes, prot and flags of 4, by their two's-complement bits
 abbrev pub mappedIn : List ℕ → MappedRegion
@@ -54,9 +64,8 @@ nextIn bs = number 8 (drop 8 bs)
 abbrev pub mmapOut : Slots MappedRegion → ℕ → List ℕ
 mmapOut s next = (bytes 8 (s .count) ++ bytes 8 next) ++ packed mappedOut (s .slots)
 
--- 16 bytes and 256 times 24
 abbrev pub mmapFit : List ℕ → Bool
-mmapFit bs = eqb (length bs) 6160
+mmapFit bs = eqb (length bs) mmapSize
 
 -- the marked pages: the count, and 256 addresses
 abbrev pub markedIn : List ℕ → Slots ℕ
@@ -69,4 +78,4 @@ abbrev pub markedOut : Slots ℕ → List ℕ
 markedOut s = bytes 8 (s .count) ++ pack (s .slots)
 
 abbrev pub markedFit : List ℕ → Bool
-markedFit bs = eqb (length bs) 2056
+markedFit bs = eqb (length bs) markedSize

@@ -9,6 +9,13 @@ use Rattle.packed.specs.Words.{pack, unpack}
 use Rattle.frame.specs.Frames.{Frames, frames}
 use Rattle.frame.specs.declared.FrameAllocator.{FrameAllocator}
 
+-- three numbers of 8 bytes, and 128
+abbrev pub fieldsSize : ℕ
+fieldsSize = 24
+
+abbrev pub bitsSize : ℕ
+bitsSize = 1024
+
 -- the frame record: start, total, allocated
 abbrev pub fieldsIn : List ℕ → FrameAllocator
 fieldsIn bs = let r = unpack 3 bs in record { start = getD r 0 0; total = getD r 1 0; allocated = getD r 2 0 }
@@ -22,4 +29,4 @@ framesIn fields bits = frames (unpack 128 bits) (fieldsIn fields)
 
 -- a part whose length is another than its layout's stands for no record
 abbrev pub framesFit : List ℕ → List ℕ → Bool
-framesFit fields bits = both (eqb (length fields) 24) (eqb (length bits) 1024)
+framesFit fields bits = both (eqb (length fields) fieldsSize) (eqb (length bits) bitsSize)

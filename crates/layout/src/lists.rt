@@ -11,7 +11,13 @@ ghost use lib.Seq.{sets};
 ghost use Rattle.packed.specs.Records.{records, packed as packedOf};
 ghost use Rattle.regions.specs.List.{slotsOf, listOf};
 ghost use Rattle.mmap.specs.List.{slotsOf as mappedSlots, mapper as mapperOf};
-ghost use Rattle.layout.specs.Lists.{vmRegionIn, vmRegionOut, usedIsFlag, vmIn, vmOut, vmFit, mappedIn, mappedOut, mmapIn, nextIn, mmapOut, mmapFit, markedIn, markedOut, markedFit, markedSlots};
+ghost use Rattle.layout.specs.Lists.{vmRegionIn, vmRegionOut, usedIsFlag, vmIn, vmOut, vmFit, mappedIn, mappedOut, mmapIn, nextIn, mmapOut, markedIn, markedOut, markedSlots, vmSize, mmapSize, markedSize};
+
+pub const VM_SIZE: usize = 6152;
+
+pub const MMAP_SIZE: usize = 6160;
+
+pub const MARKED_SIZE: usize = 2056;
 
 fn vm_region_at(bytes: &[u8], at: usize) -> VMRegion
     requires { ⌜ at + 24 ≤ length (now bytes) ⌝ }
@@ -26,7 +32,7 @@ fn vm_region_at(bytes: &[u8], at: usize) -> VMRegion
 
 // Whether each slot has 0 or 1 for `used`.
 fn used_is_flag(bytes: &[u8]) -> bool
-    requires { ⌜ length (now bytes) ≡ 6152 ⌝ }
+    requires { ⌜ length (now bytes) ≡ vmSize ⌝ }
     ensures { λ r. ⌜ r ≡ usedIsFlag 256 (drop 8 (now (bytes .entry))) ⌝ }
 {
     for i in 0..256 {
@@ -40,14 +46,14 @@ fn used_is_flag(bytes: &[u8]) -> bool
 pub fn vm_fits(bytes: &[u8]) -> bool
     ensures { λ r. ⌜ r ≡ vmFit (now (bytes .entry)) ⌝ }
 {
-    if bytes.len() != 6152 {
+    if bytes.len() != VM_SIZE {
         return false;
     }
     used_is_flag(bytes)
 }
 
 fn vm_regions(bytes: &[u8]) -> [VMRegion; 256]
-    requires { ⌜ length (now bytes) ≡ 6152 ⌝ }
+    requires { ⌜ length (now bytes) ≡ vmSize ⌝ }
     ensures { λ r. ⌜ r ≡ records vmRegionIn 256 (drop 8 (now (bytes .entry))) ⌝ }
 {
     let blank = VMRegion {
@@ -63,7 +69,7 @@ fn vm_regions(bytes: &[u8]) -> [VMRegion; 256]
 }
 
 pub fn get_vm(bytes: &[u8]) -> VMAllocator
-    requires { ⌜ length (now bytes) ≡ 6152 ⌝ }
+    requires { ⌜ length (now bytes) ≡ vmSize ⌝ }
     ensures { λ r. ⌜ r ≡ listOf (vmIn (now (bytes .entry))) ⌝ }
 {
     VMAllocator {
@@ -83,7 +89,7 @@ fn put_vm_region(bytes: &mut [u8], at: usize, r: VMRegion)
 
 // The slots behind the count.
 fn put_vm_regions(bytes: &mut [u8], regions: [VMRegion; 256])
-    requires { ⌜ length (now bytes) ≡ 6152 ⌝ }
+    requires { ⌜ length (now bytes) ≡ vmSize ⌝ }
     ensures { λ _. ⌜ now (bytes .exit) ≡ take 8 (now (bytes .entry)) ++ packedOf vmRegionOut regions ⌝ }
 {
     for i in 0..256 {
@@ -92,7 +98,7 @@ fn put_vm_regions(bytes: &mut [u8], regions: [VMRegion; 256])
 }
 
 pub fn put_vm(bytes: &mut [u8], list: VMAllocator)
-    requires { ⌜ length (now bytes) ≡ 6152 ⌝ }
+    requires { ⌜ length (now bytes) ≡ vmSize ⌝ }
     ensures { λ _. ⌜ now (bytes .exit) ≡ vmOut (slotsOf list) ⌝ }
 {
     packed::put_word(bytes, 0, list.count as u64);
@@ -113,7 +119,7 @@ fn mapped_at(bytes: &[u8], at: usize) -> MappedRegion
 }
 
 fn mapped_regions(bytes: &[u8]) -> [MappedRegion; 256]
-    requires { ⌜ length (now bytes) ≡ 6160 ⌝ }
+    requires { ⌜ length (now bytes) ≡ mmapSize ⌝ }
     ensures { λ r. ⌜ r ≡ records mappedIn 256 (drop 16 (now (bytes .entry))) ⌝ }
 {
     let blank = MappedRegion {
@@ -130,7 +136,7 @@ fn mapped_regions(bytes: &[u8]) -> [MappedRegion; 256]
 }
 
 pub fn get_mmap(bytes: &[u8]) -> MemoryMapper
-    requires { ⌜ length (now bytes) ≡ 6160 ⌝ }
+    requires { ⌜ length (now bytes) ≡ mmapSize ⌝ }
     ensures { λ r. ⌜ r ≡ mapperOf (mmapIn (now (bytes .entry))) (nextIn (now (bytes .entry))) ⌝ }
 {
     MemoryMapper {
@@ -152,7 +158,7 @@ fn put_mapped(bytes: &mut [u8], at: usize, r: MappedRegion)
 }
 
 fn put_mapped_regions(bytes: &mut [u8], regions: [MappedRegion; 256])
-    requires { ⌜ length (now bytes) ≡ 6160 ⌝ }
+    requires { ⌜ length (now bytes) ≡ mmapSize ⌝ }
     ensures { λ _. ⌜ now (bytes .exit) ≡ take 16 (now (bytes .entry)) ++ packedOf mappedOut regions ⌝ }
 {
     for i in 0..256 {
@@ -161,7 +167,7 @@ fn put_mapped_regions(bytes: &mut [u8], regions: [MappedRegion; 256])
 }
 
 pub fn put_mmap(bytes: &mut [u8], list: MemoryMapper)
-    requires { ⌜ length (now bytes) ≡ 6160 ⌝ }
+    requires { ⌜ length (now bytes) ≡ mmapSize ⌝ }
     ensures { λ _. ⌜ now (bytes .exit) ≡ mmapOut (mappedSlots list) (list .next) ⌝ }
 {
     packed::put_word(bytes, 0, list.count as u64);
@@ -170,20 +176,8 @@ pub fn put_mmap(bytes: &mut [u8], list: MemoryMapper)
     put_mapped_regions(bytes, regions);
 }
 
-pub fn mmap_fits(bytes: &[u8]) -> bool
-    ensures { λ r. ⌜ r ≡ mmapFit (now (bytes .entry)) ⌝ }
-{
-    bytes.len() == 6160
-}
-
-pub fn marked_fits(bytes: &[u8]) -> bool
-    ensures { λ r. ⌜ r ≡ markedFit (now (bytes .entry)) ⌝ }
-{
-    bytes.len() == 2056
-}
-
 pub fn get_marked(bytes: &[u8]) -> [u64; 256]
-    requires { ⌜ length (now bytes) ≡ 2056 ⌝ }
+    requires { ⌜ length (now bytes) ≡ markedSize ⌝ }
     ensures { λ r. ⌜ r ≡ markedIn (now (bytes .entry)) .slots ⌝ }
 {
     let mut pages = [0u64; 256];
@@ -192,14 +186,14 @@ pub fn get_marked(bytes: &[u8]) -> [u64; 256]
 }
 
 pub fn marked_count(bytes: &[u8]) -> u64
-    requires { ⌜ length (now bytes) ≡ 2056 ⌝ }
+    requires { ⌜ length (now bytes) ≡ markedSize ⌝ }
     ensures { λ r. ⌜ r ≡ markedIn (now (bytes .entry)) .count ⌝ }
 {
     packed::word_at(bytes, 0)
 }
 
 pub fn put_marked(bytes: &mut [u8], pages: &[u64; 256], count: u64)
-    requires { ⌜ length (now bytes) ≡ 2056 ⌝ }
+    requires { ⌜ length (now bytes) ≡ markedSize ⌝ }
     ensures { λ _. ⌜ now (bytes .exit) ≡ markedOut (markedSlots (now (pages .entry)) count) ⌝ }
 {
     packed::put_word(bytes, 0, count);

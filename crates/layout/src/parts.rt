@@ -6,7 +6,11 @@ ghost use lib.ListN.{length};
 ghost use Rattle.answer.specs.Numbers.{brokenRecord, answerLine};
 ghost use Rattle.answer.specs.declared.Answer.the-variants.{Refused};
 ghost use Rattle.packed.specs.Words.{pack, unpack};
-ghost use Rattle.layout.specs.Parts.{fieldsIn, fieldsOut, framesFit};
+ghost use Rattle.layout.specs.Parts.{fieldsSize, bitsSize, fieldsIn, fieldsOut};
+
+pub const FIELDS_SIZE: usize = 24;
+
+pub const BITS_SIZE: usize = 1024;
 
 // What is told of parts that stand for no record.
 pub fn broken() -> Line
@@ -18,17 +22,8 @@ pub fn broken() -> Line
     }
 }
 
-pub fn frames_fit(fields: &[u8], bits: &[u8]) -> bool
-    ensures { λ r. ⌜ r ≡ framesFit (now (fields .entry)) (now (bits .entry)) ⌝ }
-{
-    if fields.len() != 24 {
-        return false;
-    }
-    bits.len() == 1024
-}
-
 pub fn get_fields(fields: &[u8]) -> FrameAllocator
-    requires { ⌜ length (now fields) ≡ 24 ⌝ }
+    requires { ⌜ length (now fields) ≡ fieldsSize ⌝ }
     ensures { λ r. ⌜ r ≡ fieldsIn (now (fields .entry)) ⌝ }
 {
     FrameAllocator {
@@ -39,14 +34,14 @@ pub fn get_fields(fields: &[u8]) -> FrameAllocator
 }
 
 pub fn put_fields(fields: &mut [u8], frames: FrameAllocator)
-    requires { ⌜ length (now fields) ≡ 24 ⌝ }
+    requires { ⌜ length (now fields) ≡ fieldsSize ⌝ }
     ensures { λ _. ⌜ now (fields .exit) ≡ fieldsOut frames ⌝ }
 {
     packed::put_words(fields, &[frames.start, frames.total, frames.allocated]);
 }
 
 pub fn get_bits(bits: &[u8]) -> [u64; 128]
-    requires { ⌜ length (now bits) ≡ 1024 ⌝ }
+    requires { ⌜ length (now bits) ≡ bitsSize ⌝ }
     ensures { λ r. ⌜ r ≡ unpack 128 (now (bits .entry)) ⌝ }
 {
     let mut bitmap = [0u64; 128];
@@ -55,7 +50,7 @@ pub fn get_bits(bits: &[u8]) -> [u64; 128]
 }
 
 pub fn put_bits(bits: &mut [u8], bitmap: &[u64; 128])
-    requires { ⌜ length (now bits) ≡ 1024 ⌝ }
+    requires { ⌜ length (now bits) ≡ bitsSize ⌝ }
     ensures { λ _. ⌜ now (bits .exit) ≡ pack (now (bitmap .entry)) ⌝ }
 {
     packed::put_words(bits, bitmap);

@@ -1,0 +1,240 @@
+-- The one equation of each C function of the marked pages and of both fault paths, and what their refusals leave.
+use Prim.Native.Nat.{ℕ, suc, _+_, _*_, _/_, _^_}
+use mathlib.Core.Path.{_≡_, refl, _∙_, ap, subst}
+use mathlib.Core.Bool.{Bool, true, false}
+use mathlib.Core.List.{List}
+use lib.ListN.{getD, take}
+use borrow.Author.Tests.{eqb-true}
+use Rattle.bits.specs.Bit.{both}
+use Rattle.bits.proofs.Choice.{pick-cases, both-true}
+use Rattle.answer.specs.Numbers.{noFreeFrame, answerLine, flagLine}
+use Rattle.answer.specs.declared.FlagAnswer.{FlagAnswer}
+use Rattle.answer.specs.declared.Line.{Line}
+use Rattle.address.specs.declared.FrameAnswer.{FrameAnswer}
+use Rattle.entry.specs.Entry.{entryOf, indices}
+use Rattle.packed.specs.Words.{pack, unpack}
+use Rattle.frame.specs.declared.FrameAllocator.{FrameAllocator}
+use Rattle.frame.specs.Frames.{frames, inside, withMark}
+use Rattle.frame.specs.Frames.{Did as Framed}
+use Rattle.frame.proofs.Laws.{take-cases}
+use Rattle.paging.specs.declared.Walked.{Walked}
+use Rattle.paging.specs.declared.Walked.the-variants.{At, Stop}
+use Rattle.paging.specs.Map.{Memory, memory, startOf, totalOf, Out, out, goOn, make}
+use Rattle.paging.specs.Calls.{whole, mapAt}
+use Rattle.paging.specs.Pages.{freePage}
+use Rattle.paging.proofs.Map.{goOn-cases}
+use Rattle.slots.specs.Slots.{Slots, listed}
+use Rattle.fault.specs.declared.Faulted.{Faulted}
+use Rattle.fault.specs.declared.MarkedAnswer.{MarkedAnswer}
+use Rattle.fault.specs.Marked.{slotsOf as markedOf, pageOf, soundMarked, isListed, DidMark, marking, fullOfPages, markCow, unmarkCow, isCow}
+use Rattle.fault.specs.Faults.{Faulting, faulting, Did, faulted, isPresent, isWrite, isUser, isReserved, isFetch, asTaken, rawFrame, onlyError, inHeap, valid, mapFrame, demandPage, temporary}
+use Rattle.fault.specs.Faults.{translated, clearedIf, copied, copyPage, copyTo, copyOnWrite, soundFaulting, unmarking, handled, handleFault, overwrite, putOver, mapOver, handleFaultSecond}
+use Rattle.layout.specs.Parts.{fieldsIn, fieldsOut, framesFit}
+use Rattle.layout.specs.Lists.{markedIn, markedOut, markedSlots, markedFit}
+use Rattle.layout.specs.Left.{left, brokenLine, IsRefusal, Unchanged, noLeftovers, faultLeftovers, secondLeftovers}
+use Rattle.layout.specs.Memory.{plainLine, memoryParts}
+use Rattle.layout.proofs.RoundTrip.{Bytes, marked-back}
+use Rattle.layout.proofs.Left.{broken-left, met-left, broken-line, met-line, unchanged-left, FramesBytes, fields-same, bits-same, memory-unchanged}
+use Rattle.layout.proofs.Numbers.{Listed, make-listed}
+use Rattle.desk_faults.specs.Faults.{onMarked, packedMarkCow, packedUnmarkCow, packedIsCow, FaultParts, faultParts, faultFit, faultIn, faultPacked, onFault, packedFault, packedFaultSecond}
+
+-- ---- the marked pages
+
+module _ (call : Slots ℕ → DidMark) (marked : List ℕ) where
+  pub marked-broken : {r : Line} → markedFit marked ≡ false → r ≡ brokenLine → left r marked ≡ onMarked call marked
+  unfolding onMarked
+  marked-broken h e = broken-left marked _ h e
+
+  pub marked-met : {m pages ms : List ℕ} {n : ℕ} {x : MarkedAnswer} {r : Line} → markedFit marked ≡ true → m ≡ markedIn marked .slots → n ≡ markedIn marked .count
+      → let d = call (markedOf m n) in (x ≡ marking d) × (pages ≡ d .marked .slots)
+      → r ≡ answerLine (x .answer) → ms ≡ markedOut (markedSlots pages (x .count)) → left r ms ≡ onMarked call marked
+  unfolding onMarked
+  marked-met h e f (x, y) r ms =
+      let same : _≡_ {A = DidMark} (call (markedOf _ _)) (call (markedIn marked)) = λ j. call (markedOf (e j) (f j)) in
+      let p = x ∙ ap marking same in
+      let l = r ∙ ap (λ (x : MarkedAnswer). answerLine (x .answer)) p in
+      let ms = ms ∙ (λ j. markedOut (markedSlots ((y ∙ ap (λ (d : DidMark). d .marked .slots) same) j) (p j .count))) in
+      met-left marked h (λ j. left (l j) (ms j))
+
+  marked-unchanged : Bytes marked → ((s : Slots ℕ) → IsRefusal noLeftovers (answerLine (call s .answer) .number) → call s .marked ≡ s)
+      → Unchanged noLeftovers marked (onMarked call marked)
+  unfolding onMarked
+  marked-unchanged b law = unchanged-left noLeftovers (markedFit marked) marked _ (λ fit n. ap markedOut (law _ n) ∙ marked-back marked (eqb-true _ _ fit) b)
+
+module _ (marked : List ℕ) (addr : ℕ) where
+  pub cow-broken : {r : Line} → markedFit marked ≡ false → r ≡ brokenLine → r ≡ packedIsCow marked addr
+  cow-broken h e = broken-line _ h e
+
+  pub cow-met : {m : List ℕ} {n : ℕ} {x : FlagAnswer} {r : Line} → markedFit marked ≡ true → m ≡ markedIn marked .slots → n ≡ markedIn marked .count
+      → x ≡ isCow (markedOf m n) addr → r ≡ flagLine x → r ≡ packedIsCow marked addr
+  cow-met h e f x r = met-line h (r ∙ ap flagLine (x ∙ (λ j. isCow (markedOf (e j) (f j)) addr)))
+
+-- ---- the first fault path
+
+module _ (call : Faulting → Did) (words fields bits marked : List ℕ) where
+  abbrev faultLent : FaultParts
+  faultLent = faultParts words fields bits marked
+
+  pub fault-broken : {r : Line} → faultFit faultLent ≡ false → r ≡ brokenLine → left r faultLent ≡ onFault call faultLent
+  unfolding onFault
+  fault-broken h e = broken-left faultLent _ h e
+
+  pub fault-met : {b m bm pages ws fs bs ms : List ℕ} {f : FrameAllocator} {n : ℕ} {x : Faulted} {r : Line}
+      → faultFit faultLent ≡ true → b ≡ unpack 128 bits → f ≡ fieldsIn fields → m ≡ markedIn marked .slots → n ≡ markedIn marked .count
+      → let d = call (faulting (memory words (frames b f)) (markedOf m n)) in
+      (x ≡ faulted d) × ((ws ≡ d .state .mem .words) × ((bm ≡ d .state .mem .frames .bits) × (pages ≡ d .state .marked .slots)))
+      → r ≡ answerLine (x .answer) → fs ≡ fieldsOut (x .frames) → bs ≡ pack bm → ms ≡ markedOut (markedSlots pages (x .count))
+      → left r (faultParts ws fs bs ms) ≡ onFault call faultLent
+  unfolding onFault
+  fault-met h e f g i (x, (w, (y, z))) r fs bs ms =
+      let same : _≡_ {A = Did} (call (faulting (memory words (frames _ _)) (markedOf _ _))) (call (faultIn faultLent)) =
+      λ j. call (faulting (memory words (frames (e j) (f j))) (markedOf (g j) (i j)))
+      in
+      let p = x ∙ ap faulted same in
+      let l = r ∙ ap (λ (x : Faulted). answerLine (x .answer)) p in
+      let ws = w ∙ ap (λ (d : Did). d .state .mem .words) same in
+      let fs = fs ∙ ap (λ (x : Faulted). fieldsOut (x .frames)) p in
+      let bs = bs ∙ ap pack (y ∙ ap (λ (d : Did). d .state .mem .frames .bits) same) in
+      let ms = ms ∙ (λ j. markedOut (markedSlots ((z ∙ ap (λ (d : Did). d .state .marked .slots) same) j) (p j .count))) in
+      met-left faultLent h (λ j. left (l j) (faultParts (ws j) (fs j) (bs j) (ms j)))
+
+  fault-unchanged : (leftovers : List ℕ) → FramesBytes fields bits → Bytes marked → ((s : Faulting) → IsRefusal leftovers (plainLine (call s .answer) .number) → call s .state ≡ s)
+      → Unchanged leftovers faultLent (onFault call faultLent)
+  unfolding onFault
+  fault-unchanged leftovers b c law =
+      unchanged-left leftovers (faultFit faultLent) faultLent _ (λ fit n.
+      let f = both-true (framesFit fields bits) (markedFit marked) fit in
+      ap faultPacked (law _ n) ∙ (λ j. faultParts words (fields-same fields bits (f .0) b j) (bits-same fields bits (f .0) b j) (marked-back marked (eqb-true _ _ (f .1)) c j)))
+
+-- ---- refusals of the marked pages: 10, and 20 of mark_cow
+
+module _ (addr : ℕ) (s : Slots ℕ) where
+  abbrev CleanMark : DidMark → Type 0
+  CleanMark d = IsRefusal noLeftovers (answerLine (d .answer) .number) → d .marked ≡ s
+
+  mark-clean : CleanMark (markCow s addr)
+  unfolding markCow
+  mark-clean =
+      pick-cases CleanMark (soundMarked s) _ _ (λ _. pick-cases CleanMark (fullOfPages s (pageOf addr)) _ _ (λ _ _. refl) (λ _ h. absurd (h refl))) (λ _ _. refl)
+
+  unmark-clean : CleanMark (unmarkCow s addr)
+  unfolding unmarkCow
+  unmark-clean = pick-cases CleanMark (soundMarked s) _ _ (λ _ h. absurd (h refl)) (λ _ _. refl)
+
+module _ (marked : List ℕ) (b : Bytes marked) (addr : ℕ) where
+  pub mark-refused : Unchanged noLeftovers marked (packedMarkCow marked addr)
+  mark-refused = marked-unchanged (λ (s : Slots ℕ). markCow s addr) marked b (mark-clean addr)
+
+  pub unmark-refused : Unchanged noLeftovers marked (packedUnmarkCow marked addr)
+  unmark-refused = marked-unchanged (λ (s : Slots ℕ). unmarkCow s addr) marked b (unmark-clean addr)
+
+-- ---- refusals of the first path: 11 where no frame is left, and nothing changed; then 18 alone
+
+-- both outcomes of a frame taken as it is
+raw-cases : (m : Memory) (P : Out → Type 0) → ((j : ℕ) → P (out (At (startOf m + j)) (memory (m .words) (withMark (m .frames) j)))) → P (out (Stop noFreeFrame) m) → P (rawFrame m)
+unfolding rawFrame
+raw-cases m P met none = take-cases (m .frames) (λ (d : Framed FrameAnswer). P (asTaken m (d .answer) (d .frames))) (λ j _ _ _. met j) (λ _. none)
+
+error-listed : (w : Walked) → Listed faultLeftovers (onlyError w)
+error-listed (At x) h = h .1 refl
+error-listed (Stop n) h = h .0 refl
+
+frame-listed : (up : ℕ) (m : Memory) (root v f : ℕ) (w u : Bool) → Listed faultLeftovers (mapFrame up m root v f w u .walked)
+frame-listed up m root v f w u = error-listed (mapAt up up u m root v (entryOf (f * 2 ^ 12) w u) .walked)
+
+copied-listed : (m : Memory) (w : Walked) (f : ℕ) → Listed faultLeftovers (copied m w f .walked)
+copied-listed m (Stop n) f h = h .0 refl
+copied-listed m (At a) f h =
+    pick-cases (λ (o : Out). Listed faultLeftovers (o .walked)) (inside (startOf m) (totalOf m) (a / 4096)) _ _ (λ _ h. h .1 refl) (λ _ h. h .0 refl) h
+
+module _ (up root v : ℕ) where
+  abbrev Lists : Out → Type 0
+  Lists o = Listed faultLeftovers (o .walked)
+
+  copy-page-listed : (m : Memory) (f : ℕ) → Lists (copyPage up m root v f)
+  unfolding copyPage
+  copy-page-listed m f =
+      let c = clearedIf (translated up m root temporary) up m root temporary in
+      let o = mapFrame up c root temporary f true false in
+      goOn-cases Lists o _ (λ n e. subst (Listed faultLeftovers) e (frame-listed up c root temporary f true false)) (λ _ _. copied-listed (o .mem) (translated up (o .mem) root v) f)
+
+  copy-listed : (m : Memory) (f : ℕ) (user : Bool) → Lists (copyTo up m root v f user)
+  copy-listed m f user =
+      goOn-cases Lists (copyPage up m root v f) _ (λ n e. subst (Listed faultLeftovers) e (copy-page-listed m f))
+      (λ _ _. frame-listed up (freePage up (copyPage up m root v f .mem) root v) root v f true user)
+
+module _ (up root v code : ℕ) (s : Faulting) where
+  abbrev Clean : Did → Type 0
+  Clean d = IsRefusal faultLeftovers (plainLine (d .answer) .number) → d .state ≡ s
+
+  -- a step that takes a frame, and stops with 18 alone once it has one
+  abbrev CleanStep : Out → Type 0
+  CleanStep o = IsRefusal faultLeftovers (plainLine (o .walked) .number) → o .mem ≡ s .mem
+
+  demand-clean : CleanStep (demandPage up (s .mem) root v code)
+  unfolding demandPage
+  demand-clean =
+      pick-cases CleanStep (valid v) _ _
+      (λ _.
+      pick-cases CleanStep (both (isFetch code) (inHeap v)) _ _ (λ _ _. refl)
+      (λ _.
+      raw-cases (s .mem) (λ (o : Out). CleanStep (goOn o (λ f m′. mapFrame up m′ root v f (isWrite code) (isUser code)))) (λ j h. absurd (frame-listed up _ root v _ (isWrite code) (isUser code) h)) (λ _. refl)))
+      (λ _ _. refl)
+
+  copy-clean : CleanStep (copyOnWrite up (s .mem) root v (isUser code))
+  unfolding copyOnWrite
+  copy-clean =
+      raw-cases (s .mem) (λ (o : Out). CleanStep (goOn o (λ f m′. copyTo up m′ root v f (isUser code)))) (λ j h. absurd (copy-listed up root v _ _ (isUser code) h)) (λ _. refl)
+
+  unmarking-clean : (w : Walked) (m : Memory) → CleanStep (out w m) → Clean (unmarking v (s .marked) (out w m))
+  unmarking-clean (At x) m law h = absurd (h .1 refl)
+  unmarking-clean (Stop n) m law h = ap (λ (m : Memory). faulting m (s .marked)) (law h)
+
+  handled-clean : Clean (handled up s root v code)
+  handled-clean =
+      pick-cases Clean (isReserved code) _ _ (λ _ _. refl)
+      (λ _.
+      pick-cases Clean (isPresent code) _ _
+      (λ _.
+      pick-cases Clean (isWrite code) _ _
+      (λ _. pick-cases Clean (isListed v (listed (s .marked))) _ _ (λ _. let o = copyOnWrite up (s .mem) root v (isUser code) in unmarking-clean (o .walked) (o .mem) copy-clean) (λ _ _. refl)) (λ _ _. refl))
+      (λ _ h. ap (λ (m : Memory). faulting m (s .marked)) (demand-clean h)))
+
+fault-clean : (up root addr code : ℕ) (s : Faulting) → IsRefusal faultLeftovers (plainLine (handleFault up s root addr code .answer) .number) → handleFault up s root addr code .state ≡ s
+unfolding handleFault
+fault-clean up root addr code s = pick-cases (Clean up root (pageOf addr) code s) (soundFaulting s root) _ _ (λ _. handled-clean up root (pageOf addr) code s) (λ _ _. refl)
+
+-- ---- refusals of the second path: 10, 5, 17, 7 and 8; 11 and 19 may leave the frame marked
+
+over-listed : (up : ℕ) (m : Memory) (root v f : ℕ) (w u : Bool) → Listed secondLeftovers (mapOver up m root v f w u .walked)
+unfolding mapOver overwrite
+over-listed up m root v f w u =
+    let path = take up (indices (suc up) v) in
+    goOn-cases (λ (o : Out). Listed secondLeftovers (o .walked)) (make u m root path) _ (λ n e. subst (Listed secondLeftovers) e (make-listed u m root path))
+    (λ t _. let m′ = make u m root path .mem in by m′ t (inside (startOf m′) (totalOf m′) t) refl)
+  where
+    by : (m′ : Memory) (t : ℕ) (x : Bool) → inside (startOf m′) (totalOf m′) t ≡ x → Listed secondLeftovers (putOver m′ t (getD (indices (suc up) v) up 0) (entryOf (f * 2 ^ 12) w u) f .walked)
+    by m′ t true e = rw e (λ h. h .1 .1 refl)
+    by m′ t false e = rw e (λ h. h .1 .0 refl)
+
+second-clean : (up root addr code : ℕ) (m : Memory) → IsRefusal secondLeftovers (plainLine (handleFaultSecond up m root addr code .walked) .number) → handleFaultSecond up m root addr code .mem ≡ m
+unfolding handleFaultSecond
+second-clean up root addr code m =
+    pick-cases CleanSecond (whole m root) _ _
+    (λ _.
+    pick-cases CleanSecond (isReserved code) _ _ (λ _ _. refl)
+    (λ _.
+    pick-cases CleanSecond (isPresent code) _ _ (λ _ _. refl)
+    (λ _. raw-cases m (λ (o : Out). CleanSecond (goOn o (λ f m′. mapOver up m′ root (pageOf addr) f (isWrite code) (isUser code)))) (λ j h. absurd (over-listed up _ root (pageOf addr) _ (isWrite code) (isUser code) h))
+    (λ h. absurd (h .0 refl)))))
+    (λ _ _. refl)
+  where
+    CleanSecond : Out → Type 0
+    CleanSecond o = IsRefusal secondLeftovers (plainLine (o .walked) .number) → o .mem ≡ m
+
+module _ (words fields bits : List ℕ) (b : FramesBytes fields bits) (root addr code : ℕ) where
+  pub fault-refused : (marked : List ℕ) → Bytes marked → let p = faultParts words fields bits marked in Unchanged faultLeftovers p (packedFault p root addr code)
+  fault-refused marked c = fault-unchanged (λ (s : Faulting). handleFault 3 s root addr code) words fields bits marked faultLeftovers b c (fault-clean 3 root addr code)
+
+  pub second-refused : let p = memoryParts words fields bits in Unchanged secondLeftovers p (packedFaultSecond p root addr code)
+  second-refused = memory-unchanged (λ (m : Memory). handleFaultSecond 3 m root addr code) words fields bits secondLeftovers b (second-clean 3 root addr code)

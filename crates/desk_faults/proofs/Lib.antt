@@ -1,0 +1,2 @@
+pub mod LeftFaults
+pub mod LeftBoard

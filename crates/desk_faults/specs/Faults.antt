@@ -1,0 +1,60 @@
+-- What the C functions of the marked pages and of both fault paths answer and leave: a call on the parts unpacked, and what it leaves packed again.
+use Prim.Native.Nat.{ℕ}
+use mathlib.Core.Bool.{Bool}
+use mathlib.Core.List.{List}
+use Rattle.bits.specs.Bit.{unless, both}
+use Rattle.answer.specs.Numbers.{answerLine, flagLine}
+use Rattle.answer.specs.declared.Line.{Line}
+use Rattle.packed.specs.Words.{pack}
+use Rattle.paging.specs.Map.{Memory, memory}
+use Rattle.slots.specs.Slots.{Slots}
+use Rattle.fault.specs.Marked.{DidMark, markCow, unmarkCow, isCow}
+use Rattle.fault.specs.Faults.{Faulting, faulting, Did, handleFault, handleFaultSecond}
+use Rattle.layout.specs.Parts.{framesIn, framesFit, fieldsOut}
+use Rattle.layout.specs.Lists.{markedIn, markedOut, markedFit}
+use Rattle.layout.specs.Left.{Left, left, brokenLine, unlessFit}
+use Rattle.layout.specs.Memory.{plainLine, MemoryParts, onMemory}
+
+-- ---- the marked pages alone
+
+unfoldable pub onMarked : (Slots ℕ → DidMark) → List ℕ → Left (List ℕ)
+onMarked call marked = unlessFit (markedFit marked) marked (left (answerLine (call (markedIn marked) .answer)) (markedOut (call (markedIn marked) .marked)))
+
+abbrev pub packedMarkCow : List ℕ → ℕ → Left (List ℕ)
+packedMarkCow marked addr = onMarked (λ (s : Slots ℕ). markCow s addr) marked
+
+abbrev pub packedUnmarkCow : List ℕ → ℕ → Left (List ℕ)
+packedUnmarkCow marked addr = onMarked (λ (s : Slots ℕ). unmarkCow s addr) marked
+
+abbrev pub packedIsCow : List ℕ → ℕ → Line
+packedIsCow marked addr = unless (markedFit marked) brokenLine (flagLine (isCow (markedIn marked) addr))
+
+-- ---- the words, the frame record, its bitmap and the marked pages
+
+pub record FaultParts : Type 0 where
+  pub words : List ℕ
+  pub fields : List ℕ
+  pub bits : List ℕ
+  pub marked : List ℕ
+
+abbrev pub faultParts : List ℕ → List ℕ → List ℕ → List ℕ → FaultParts
+faultParts w f b m = record { words = w; fields = f; bits = b; marked = m }
+
+abbrev pub faultFit : FaultParts → Bool
+faultFit p = both (framesFit (p .fields) (p .bits)) (markedFit (p .marked))
+
+abbrev pub faultIn : FaultParts → Faulting
+faultIn p = faulting (memory (p .words) (framesIn (p .fields) (p .bits))) (markedIn (p .marked))
+
+abbrev pub faultPacked : Faulting → FaultParts
+faultPacked s = faultParts (s .mem .words) (fieldsOut (s .mem .frames .fa)) (pack (s .mem .frames .bits)) (markedOut (s .marked))
+
+unfoldable pub onFault : (Faulting → Did) → FaultParts → Left FaultParts
+onFault call p = unlessFit (faultFit p) p (left (plainLine (call (faultIn p) .answer)) (faultPacked (call (faultIn p) .state)))
+
+abbrev pub packedFault : FaultParts → ℕ → ℕ → ℕ → Left FaultParts
+packedFault p root addr code = onFault (λ (s : Faulting). handleFault 3 s root addr code) p
+
+-- the second path: no marked pages
+abbrev pub packedFaultSecond : MemoryParts → ℕ → ℕ → ℕ → Left MemoryParts
+packedFaultSecond p root addr code = onMemory (λ (m : Memory). handleFaultSecond 3 m root addr code) p

@@ -1,0 +1,135 @@
+// Copy-on-write pages and both fault paths: the frames are lent as words; the frame record, its bitmap and the marked pages are packed bytes.
+use address::Frame;
+use address::VirtAddr;
+use answer::Line;
+use layout::lengths;
+use layout::lists;
+use layout::parts;
+ghost use mathlib.Core.Path.{_≡_};
+ghost use Rattle.layout.specs.Left.{left, Unchanged, noLeftovers, faultLeftovers, secondLeftovers};
+ghost use Rattle.layout.specs.Memory.{memoryParts};
+ghost use Rattle.desk_faults.specs.Faults.{packedMarkCow, packedUnmarkCow, packedIsCow, faultParts, packedFault, packedFaultSecond};
+
+#[no_mangle]
+pub extern "C" fn gadulnos_mark_cow(marked: &mut [u8], addr: u64) -> Line
+    ensures { λ r. ⌜ left r (now (marked .exit))
+        ≡ packedMarkCow (now (marked .entry)) addr ⌝ }
+    ensures refused { λ r. ⌜ Unchanged noLeftovers (now (marked .entry))
+        (left r (now (marked .exit))) ⌝ }
+{
+    if marked.len() != lists::MARKED_SIZE {
+        return parts::broken();
+    }
+    let mut pages = lists::get_marked(marked);
+    let did = fault::mark_cow(&mut pages, lists::marked_count(marked), VirtAddr(addr));
+    let count = did.count;
+    let a = did.answer;
+    lists::put_marked(marked, &pages, count);
+    answer::answer_line(a)
+}
+
+#[no_mangle]
+pub extern "C" fn gadulnos_unmark_cow(marked: &mut [u8], addr: u64) -> Line
+    ensures { λ r. ⌜ left r (now (marked .exit))
+        ≡ packedUnmarkCow (now (marked .entry)) addr ⌝ }
+    ensures refused { λ r. ⌜ Unchanged noLeftovers (now (marked .entry))
+        (left r (now (marked .exit))) ⌝ }
+{
+    if marked.len() != lists::MARKED_SIZE {
+        return parts::broken();
+    }
+    let mut pages = lists::get_marked(marked);
+    let did = fault::unmark_cow(&mut pages, lists::marked_count(marked), VirtAddr(addr));
+    let count = did.count;
+    let a = did.answer;
+    lists::put_marked(marked, &pages, count);
+    answer::answer_line(a)
+}
+
+#[no_mangle]
+pub extern "C" fn gadulnos_is_cow(marked: &[u8], addr: u64) -> Line
+    ensures { λ r. ⌜ r ≡ packedIsCow (now (marked .entry)) addr ⌝ }
+{
+    if marked.len() != lists::MARKED_SIZE {
+        return parts::broken();
+    }
+    let pages = lists::get_marked(marked);
+    answer::flag_line(fault::is_cow(&pages, lists::marked_count(marked), VirtAddr(addr)))
+}
+
+// The first path.
+#[no_mangle]
+pub extern "C" fn gadulnos_handle_page_fault(
+    words: &mut [u64],
+    fields: &mut [u8],
+    bits: &mut [u8],
+    root: u64,
+    marked: &mut [u8],
+    addr: u64,
+    code: u64,
+) -> Line
+    ensures { λ r. ⌜ left r (faultParts (now (words .exit)) (now (fields .exit)) (now (bits .exit)) (now (marked .exit)))
+        ≡ packedFault (faultParts (now (words .entry)) (now (fields .entry)) (now (bits .entry)) (now (marked .entry))) root addr code ⌝ }
+    ensures refused { λ r. ⌜ Unchanged faultLeftovers (faultParts (now (words .entry)) (now (fields .entry)) (now (bits .entry)) (now (marked .entry)))
+        (left r (faultParts (now (words .exit)) (now (fields .exit)) (now (bits .exit)) (now (marked .exit)))) ⌝ }
+{
+    if !lengths::three(fields.len(), bits.len(), marked.len(), lists::MARKED_SIZE) {
+        return parts::broken();
+    }
+    let mut bitmap = parts::get_bits(bits);
+    let frames = parts::get_fields(fields);
+    let mut pages = lists::get_marked(marked);
+    let n = lists::marked_count(marked);
+    let did = fault::handle_page_fault(
+        words,
+        &mut bitmap,
+        frames,
+        Frame(root),
+        &mut pages,
+        n,
+        VirtAddr(addr),
+        code,
+    );
+    let left = did.frames;
+    let count = did.count;
+    let a = did.answer;
+    parts::put_fields(fields, left);
+    parts::put_bits(bits, &bitmap);
+    lists::put_marked(marked, &pages, count);
+    answer::answer_line(a)
+}
+
+// The second path.
+#[no_mangle]
+pub extern "C" fn gadulnos_handle_page_fault_second(
+    words: &mut [u64],
+    fields: &mut [u8],
+    bits: &mut [u8],
+    root: u64,
+    addr: u64,
+    code: u64,
+) -> Line
+    ensures { λ r. ⌜ left r (memoryParts (now (words .exit)) (now (fields .exit)) (now (bits .exit)))
+        ≡ packedFaultSecond (memoryParts (now (words .entry)) (now (fields .entry)) (now (bits .entry))) root addr code ⌝ }
+    ensures refused { λ r. ⌜ Unchanged secondLeftovers (memoryParts (now (words .entry)) (now (fields .entry)) (now (bits .entry)))
+        (left r (memoryParts (now (words .exit)) (now (fields .exit)) (now (bits .exit)))) ⌝ }
+{
+    if !lengths::two(fields.len(), bits.len()) {
+        return parts::broken();
+    }
+    let mut bitmap = parts::get_bits(bits);
+    let frames = parts::get_fields(fields);
+    let did = fault::page_handler::handle_page_fault(
+        words,
+        &mut bitmap,
+        frames,
+        Frame(root),
+        VirtAddr(addr),
+        code,
+    );
+    let left = did.frames;
+    let a = did.answer;
+    parts::put_fields(fields, left);
+    parts::put_bits(bits, &bitmap);
+    answer::answer_line(a)
+}

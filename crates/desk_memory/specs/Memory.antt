@@ -1,0 +1,81 @@
+-- What the frame allocator's and the mapper's C functions answer and leave: a call on the parts unpacked, and what it leaves packed again (layout's Left and Memory).
+use Prim.Native.Nat.{ℕ}
+use mathlib.Core.Bool.{Bool}
+use mathlib.Core.List.{List}
+use Rattle.bits.specs.Bit.{unless}
+use Rattle.answer.specs.Numbers.{answerLine, countLine, flagLine}
+use Rattle.answer.specs.declared.Line.{Line}
+use Rattle.address.specs.Address.{frameLine, physLine}
+use Rattle.packed.specs.Words.{pack}
+use Rattle.frame.specs.Frames.{Frames, Did, init, isAllocated, markAllocated, allocate, deallocate, freeFrames, allocatedFrames, totalFrames}
+use Rattle.paging.specs.declared.HugePageSize.{HugePageSize}
+use Rattle.paging.specs.Map.{Memory}
+use Rattle.paging.specs.Calls.{asPhys, asFrame, translate, userMay, mapPage, mapHuge, unmapPage}
+use Rattle.layout.specs.Parts.{framesIn, framesFit, fieldsOut}
+use Rattle.layout.specs.Left.{Left, left, brokenLine, unlessFit}
+use Rattle.layout.specs.Memory.{MemoryParts, onMemory}
+
+-- ---- the frame record and its bitmap
+
+pub record FramesParts : Type 0 where
+  pub fields : List ℕ
+  pub bits : List ℕ
+
+abbrev pub framesParts : List ℕ → List ℕ → FramesParts
+framesParts f b = record { fields = f; bits = b }
+
+abbrev pub framesPacked : Frames → FramesParts
+framesPacked fr = framesParts (fieldsOut (fr .fa)) (pack (fr .bits))
+
+unfoldable pub onFrames : {A : Type 0} → (A → Line) → (Frames → Did A) → FramesParts → Left FramesParts
+onFrames line call p =
+    unlessFit (framesFit (p .fields) (p .bits)) p
+    (left (line (call (framesIn (p .fields) (p .bits)) .answer)) (framesPacked (call (framesIn (p .fields) (p .bits)) .frames)))
+
+-- .. that are only read
+unfoldable pub readFrames : {A : Type 0} → (A → Line) → (Frames → A) → FramesParts → Line
+readFrames line call p = unless (framesFit (p .fields) (p .bits)) brokenLine (line (call (framesIn (p .fields) (p .bits))))
+
+abbrev pub packedInit : FramesParts → ℕ → ℕ → Left FramesParts
+packedInit p from to = onFrames answerLine (λ (fr : Frames). init fr from to) p
+
+abbrev pub packedIsAllocated : FramesParts → ℕ → Line
+packedIsAllocated p n = readFrames flagLine (λ (fr : Frames). isAllocated fr n) p
+
+abbrev pub packedMark : FramesParts → ℕ → Left FramesParts
+packedMark p n = onFrames answerLine (λ (fr : Frames). markAllocated fr n) p
+
+abbrev pub packedAllocate : FramesParts → Left FramesParts
+packedAllocate p = onFrames frameLine allocate p
+
+abbrev pub packedDeallocate : FramesParts → ℕ → Left FramesParts
+packedDeallocate p n = onFrames answerLine (λ (fr : Frames). deallocate fr n) p
+
+abbrev pub packedFreeFrames : FramesParts → Line
+packedFreeFrames p = readFrames countLine freeFrames p
+
+abbrev pub packedAllocatedFrames : FramesParts → Line
+packedAllocatedFrames p = readFrames countLine allocatedFrames p
+
+abbrev pub packedTotalFrames : FramesParts → Line
+packedTotalFrames p = readFrames countLine totalFrames p
+
+-- ---- the mapper
+
+abbrev pub lineTranslate : List ℕ → ℕ → ℕ → ℕ → ℕ → Line
+lineTranslate words start total root virt = physLine (asPhys (translate 3 words start total root virt))
+
+abbrev pub lineUserMay : List ℕ → ℕ → ℕ → ℕ → ℕ → Bool → Line
+lineUserMay words start total root virt write = flagLine (userMay 3 words start total root virt write)
+
+abbrev pub packedMapPage : MemoryParts → ℕ → ℕ → ℕ → Bool → Bool → Left MemoryParts
+packedMapPage p root virt phys writable user = onMemory (λ (m : Memory). mapPage 3 m root virt phys writable user) p
+
+abbrev pub packedMapHuge : MemoryParts → ℕ → ℕ → ℕ → HugePageSize → Bool → Bool → Left MemoryParts
+packedMapHuge p root virt phys size writable user = onMemory (λ (m : Memory). mapHuge 3 m root virt phys size writable user) p
+
+-- the words are all that it is lent, and they need not be unpacked
+abbrev pub leftUnmap : List ℕ → ℕ → ℕ → ℕ → ℕ → Left (List ℕ)
+leftUnmap words start total root virt =
+    let d = unmapPage 3 words start total root virt in
+    left (frameLine (asFrame (d .walked))) (d .words)

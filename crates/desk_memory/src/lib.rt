@@ -1,0 +1,5 @@
+// C functions for the marking desk, on numbers and packed bytes (docs/LAYOUT.md): addresses, rounding and entries, the frame allocator, the mapper. The frames are lent as 64-bit words.
+pub mod addresses;
+pub mod entries;
+pub mod frames;
+pub mod tables;

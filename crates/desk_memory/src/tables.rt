@@ -1,0 +1,144 @@
+// The mapper's calls, on lent words; the frame record and the bitmap are packed bytes.
+use address::Frame;
+use address::PhysAddr;
+use address::VirtAddr;
+use answer::Line;
+use layout::lengths;
+use layout::parts;
+use paging::HugePageSize;
+ghost use mathlib.Core.Path.{_≡_};
+ghost use Rattle.layout.specs.Left.{left, Unchanged, noLeftovers, tableLeftovers};
+ghost use Rattle.layout.specs.Memory.{memoryParts};
+ghost use Rattle.desk_memory.specs.Line.{hugeOf};
+ghost use Rattle.desk_memory.specs.Memory.{lineTranslate, lineUserMay, packedMapPage, packedMapHuge, leftUnmap};
+
+#[no_mangle]
+pub extern "C" fn gadulnos_translate(
+    words: &[u64],
+    start: u64,
+    total: u64,
+    root: u64,
+    virt: u64,
+) -> Line
+    ensures { λ r. ⌜ r ≡ lineTranslate (now (words .entry)) start total root virt ⌝ }
+{
+    address::phys_line(walk::translate(words, start, total, Frame(root), VirtAddr(virt)))
+}
+
+#[no_mangle]
+pub extern "C" fn gadulnos_user_may(
+    words: &[u64],
+    start: u64,
+    total: u64,
+    root: u64,
+    virt: u64,
+    write: bool,
+) -> Line
+    ensures { λ r. ⌜ r ≡ lineUserMay (now (words .entry)) start total root virt write ⌝ }
+{
+    answer::flag_line(walk::user_may(words, start, total, Frame(root), VirtAddr(virt), write))
+}
+
+#[no_mangle]
+pub extern "C" fn gadulnos_map_page(
+    words: &mut [u64],
+    fields: &mut [u8],
+    bits: &mut [u8],
+    root: u64,
+    virt: u64,
+    phys: u64,
+    writable: bool,
+    user: bool,
+) -> Line
+    ensures { λ r. ⌜ left r (memoryParts (now (words .exit)) (now (fields .exit)) (now (bits .exit)))
+        ≡ packedMapPage (memoryParts (now (words .entry)) (now (fields .entry)) (now (bits .entry))) root virt phys writable user ⌝ }
+    ensures refused { λ r. ⌜ Unchanged tableLeftovers (memoryParts (now (words .entry)) (now (fields .entry)) (now (bits .entry)))
+        (left r (memoryParts (now (words .exit)) (now (fields .exit)) (now (bits .exit)))) ⌝ }
+{
+    if !lengths::two(fields.len(), bits.len()) {
+        return parts::broken();
+    }
+    let mut bitmap = parts::get_bits(bits);
+    let frames = parts::get_fields(fields);
+    let did = mapper::map_page(
+        words,
+        &mut bitmap,
+        frames,
+        Frame(root),
+        VirtAddr(virt),
+        PhysAddr(phys),
+        writable,
+        user,
+    );
+    let left = did.frames;
+    let a = did.answer;
+    parts::put_fields(fields, left);
+    parts::put_bits(bits, &bitmap);
+    answer::answer_line(a)
+}
+
+pub fn huge_size(gigabyte: bool) -> HugePageSize
+    ensures { λ r. ⌜ r ≡ hugeOf gigabyte ⌝ }
+{
+    if gigabyte {
+        return HugePageSize::Size1GB;
+    }
+    HugePageSize::Size2MB
+}
+
+#[no_mangle]
+pub extern "C" fn gadulnos_map_huge_page(
+    words: &mut [u64],
+    fields: &mut [u8],
+    bits: &mut [u8],
+    root: u64,
+    virt: u64,
+    phys: u64,
+    gigabyte: bool,
+    writable: bool,
+    user: bool,
+) -> Line
+    ensures { λ r. ⌜ left r (memoryParts (now (words .exit)) (now (fields .exit)) (now (bits .exit)))
+        ≡ packedMapHuge (memoryParts (now (words .entry)) (now (fields .entry)) (now (bits .entry))) root virt phys (hugeOf gigabyte) writable user ⌝ }
+    ensures refused { λ r. ⌜ Unchanged tableLeftovers (memoryParts (now (words .entry)) (now (fields .entry)) (now (bits .entry)))
+        (left r (memoryParts (now (words .exit)) (now (fields .exit)) (now (bits .exit)))) ⌝ }
+{
+    if !lengths::two(fields.len(), bits.len()) {
+        return parts::broken();
+    }
+    let mut bitmap = parts::get_bits(bits);
+    let frames = parts::get_fields(fields);
+    let size = huge_size(gigabyte);
+    let did = mapper::map_huge_page(
+        words,
+        &mut bitmap,
+        frames,
+        Frame(root),
+        VirtAddr(virt),
+        PhysAddr(phys),
+        size,
+        writable,
+        user,
+    );
+    let left = did.frames;
+    let a = did.answer;
+    parts::put_fields(fields, left);
+    parts::put_bits(bits, &bitmap);
+    answer::answer_line(a)
+}
+
+#[no_mangle]
+pub extern "C" fn gadulnos_unmap_page(
+    words: &mut [u64],
+    start: u64,
+    total: u64,
+    root: u64,
+    virt: u64,
+) -> Line
+    ensures { λ r. ⌜ left r (now (words .exit))
+        ≡ leftUnmap (now (words .entry)) start total root virt ⌝ }
+    ensures refused { λ r. ⌜ Unchanged noLeftovers (now (words .entry))
+        (left r (now (words .exit))) ⌝ }
+{
+    address::frame_line(mapper::unmap_page(words, start, total, Frame(root), VirtAddr(virt)))
+}

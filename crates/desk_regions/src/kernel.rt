@@ -1,0 +1,90 @@
+// vmalloc and vfree: the frames are lent as words; the frame record, its bitmap and the list are packed bytes.
+use address::Frame;
+use address::VirtAddr;
+use answer::Line;
+use layout::lengths;
+use layout::lists;
+use layout::parts;
+ghost use mathlib.Core.Path.{_≡_};
+ghost use Rattle.vmalloc.specs.Calls.{isVmallocAddr};
+ghost use Rattle.layout.specs.Left.{left, Unchanged, noLeftovers, regionLeftovers};
+ghost use Rattle.desk_regions.specs.Regions.{kernelParts, packedVmalloc, packedVfree};
+
+#[no_mangle]
+pub extern "C" fn gadulnos_vmalloc(
+    words: &mut [u64],
+    fields: &mut [u8],
+    bits: &mut [u8],
+    root: u64,
+    list: &mut [u8],
+    size: u64,
+) -> Line
+    ensures { λ r. ⌜ left r (kernelParts (now (words .exit)) (now (fields .exit)) (now (bits .exit)) (now (list .exit)))
+        ≡ packedVmalloc (kernelParts (now (words .entry)) (now (fields .entry)) (now (bits .entry)) (now (list .entry))) root size ⌝ }
+    ensures refused { λ r. ⌜ Unchanged regionLeftovers (kernelParts (now (words .entry)) (now (fields .entry)) (now (bits .entry)) (now (list .entry)))
+        (left r (kernelParts (now (words .exit)) (now (fields .exit)) (now (bits .exit)) (now (list .exit)))) ⌝ }
+{
+    if !lengths::with_vm(fields.len(), bits.len(), list) {
+        return parts::broken();
+    }
+    let mut bitmap = parts::get_bits(bits);
+    let frames = parts::get_fields(fields);
+    let did = vmalloc::vmalloc(
+        words,
+        &mut bitmap,
+        frames,
+        Frame(root),
+        lists::get_vm(list),
+        size,
+    );
+    let left = did.frames;
+    let next = did.list;
+    let a = did.answer;
+    parts::put_fields(fields, left);
+    parts::put_bits(bits, &bitmap);
+    lists::put_vm(list, next);
+    address::virt_line(a)
+}
+
+#[no_mangle]
+pub extern "C" fn gadulnos_vfree(
+    words: &mut [u64],
+    fields: &mut [u8],
+    bits: &mut [u8],
+    root: u64,
+    list: &mut [u8],
+    addr: u64,
+) -> Line
+    ensures { λ r. ⌜ left r (kernelParts (now (words .exit)) (now (fields .exit)) (now (bits .exit)) (now (list .exit)))
+        ≡ packedVfree (kernelParts (now (words .entry)) (now (fields .entry)) (now (bits .entry)) (now (list .entry))) root addr ⌝ }
+    ensures refused { λ r. ⌜ Unchanged noLeftovers (kernelParts (now (words .entry)) (now (fields .entry)) (now (bits .entry)) (now (list .entry)))
+        (left r (kernelParts (now (words .exit)) (now (fields .exit)) (now (bits .exit)) (now (list .exit)))) ⌝ }
+{
+    if !lengths::with_vm(fields.len(), bits.len(), list) {
+        return parts::broken();
+    }
+    let mut bitmap = parts::get_bits(bits);
+    let frames = parts::get_fields(fields);
+    let did = vmalloc::vfree(
+        words,
+        &mut bitmap,
+        frames,
+        Frame(root),
+        lists::get_vm(list),
+        VirtAddr(addr),
+    );
+    let left = did.frames;
+    let next = did.list;
+    let a = did.answer;
+    parts::put_fields(fields, left);
+    parts::put_bits(bits, &bitmap);
+    lists::put_vm(list, next);
+    answer::answer_line(a)
+}
+
+#[no_mangle]
+pub extern "C" fn gadulnos_is_vmalloc_addr(addr: u64) -> bool
+    ensures { λ r. ⌜ r ≡ isVmallocAddr addr ⌝ }
+{
+    vmalloc::is_vmalloc_addr(addr)
+}

@@ -1,0 +1,102 @@
+// mmap, munmap and mprotect: the frames are lent as words; the frame record, its bitmap and the list with next_addr are packed bytes.
+use address::Frame;
+use address::VirtAddr;
+use answer::Line;
+use layout::lengths;
+use layout::lists;
+use layout::parts;
+ghost use mathlib.Core.Path.{_≡_};
+ghost use Rattle.mmap.specs.Calls.{mprotect as mprotectOf};
+ghost use Rattle.mmap.specs.Results.{wishOf};
+ghost use Rattle.layout.specs.Left.{left, Unchanged, noLeftovers, regionLeftovers};
+ghost use Rattle.layout.specs.Memory.{plainLine};
+ghost use Rattle.desk_regions.specs.Regions.{userParts, packedMmap, packedMunmap};
+
+#[no_mangle]
+pub extern "C" fn gadulnos_mmap(
+    words: &mut [u64],
+    fields: &mut [u8],
+    bits: &mut [u8],
+    root: u64,
+    list: &mut [u8],
+    given: bool,
+    addr: u64,
+    size: u64,
+    prot: i32,
+    flags: i32,
+) -> Line
+    ensures { λ r. ⌜ left r (userParts (now (words .exit)) (now (fields .exit)) (now (bits .exit)) (now (list .exit)))
+        ≡ packedMmap (userParts (now (words .entry)) (now (fields .entry)) (now (bits .entry)) (now (list .entry))) root (wishOf given addr) size prot flags ⌝ }
+    ensures refused { λ r. ⌜ Unchanged regionLeftovers (userParts (now (words .entry)) (now (fields .entry)) (now (bits .entry)) (now (list .entry)))
+        (left r (userParts (now (words .exit)) (now (fields .exit)) (now (bits .exit)) (now (list .exit)))) ⌝ }
+{
+    if !lengths::three(fields.len(), bits.len(), list.len(), lists::MMAP_SIZE) {
+        return parts::broken();
+    }
+    let mut bitmap = parts::get_bits(bits);
+    let frames = parts::get_fields(fields);
+    let wish = mmap::wish_of(given, addr);
+    let did = mmap::mmap(
+        words,
+        &mut bitmap,
+        frames,
+        Frame(root),
+        lists::get_mmap(list),
+        wish,
+        size,
+        prot,
+        flags,
+    );
+    let left = did.frames;
+    let next = did.list;
+    let a = did.answer;
+    parts::put_fields(fields, left);
+    parts::put_bits(bits, &bitmap);
+    lists::put_mmap(list, next);
+    address::virt_line(a)
+}
+
+#[no_mangle]
+pub extern "C" fn gadulnos_munmap(
+    words: &mut [u64],
+    fields: &mut [u8],
+    bits: &mut [u8],
+    root: u64,
+    list: &mut [u8],
+    addr: u64,
+    size: u64,
+) -> Line
+    ensures { λ r. ⌜ left r (userParts (now (words .exit)) (now (fields .exit)) (now (bits .exit)) (now (list .exit)))
+        ≡ packedMunmap (userParts (now (words .entry)) (now (fields .entry)) (now (bits .entry)) (now (list .entry))) root addr size ⌝ }
+    ensures refused { λ r. ⌜ Unchanged noLeftovers (userParts (now (words .entry)) (now (fields .entry)) (now (bits .entry)) (now (list .entry)))
+        (left r (userParts (now (words .exit)) (now (fields .exit)) (now (bits .exit)) (now (list .exit)))) ⌝ }
+{
+    if !lengths::three(fields.len(), bits.len(), list.len(), lists::MMAP_SIZE) {
+        return parts::broken();
+    }
+    let mut bitmap = parts::get_bits(bits);
+    let frames = parts::get_fields(fields);
+    let did = mmap::munmap(
+        words,
+        &mut bitmap,
+        frames,
+        Frame(root),
+        lists::get_mmap(list),
+        VirtAddr(addr),
+        size,
+    );
+    let left = did.frames;
+    let next = did.list;
+    let a = did.answer;
+    parts::put_fields(fields, left);
+    parts::put_bits(bits, &bitmap);
+    lists::put_mmap(list, next);
+    answer::answer_line(a)
+}
+
+#[no_mangle]
+pub extern "C" fn gadulnos_mprotect(addr: u64, size: u64, prot: i32) -> Line
+    ensures { λ r. ⌜ r ≡ plainLine mprotectOf ⌝ }
+{
+    answer::answer_line(mmap::mprotect(VirtAddr(addr), size, prot))
+}
