@@ -1,4 +1,5 @@
 -- Bytes moved to the front of a buffer, and bytes read behind them.
+use Prim.{tt}
 use Prim.Native.Nat.{ℕ, zero, suc, _+_, _-_, _≤_, _<_}
 use mathlib.Core.Path.{_≡_, refl, sym, _∙_, ap}
 use mathlib.Core.Bool.{Bool, true, false}
@@ -6,14 +7,17 @@ use mathlib.Core.List.{List, [], _∷_, _++_}
 use native.Mathlib.Omega.{arith}
 use native.Mathlib.Nat.{le-refl}
 use native.Mathlib.Numerals.{add-one}
-use lib.Dec.{leb}
+use lib.Dec.{eqb, leb}
+use lib.IntN.{ℤ, pos, negsuc}
+use lib.Signed.{ltZ}
 use lib.ListN.{length, take, drop, getD, set, length-drop}
 use lib.Seq.{length-take-le, take-suc, take-suc-set, drop-set-lt, getD-drop, drop-drop, take-take}
-use borrow.Author.Tests.{le-leb, lt-leb}
+use borrow.Author.Tests.{le-leb, lt-leb, ltb-true, eqb-false}
 use Rattle.bits.specs.Bit.{pick}
 use Rattle.runner.specs.declared.Source.the-variants.{Open, Closed, Failed}
+use Rattle.runner.specs.declared.Got.the-variants.{Bytes, Nothing, Failure}
 use Rattle.runner.specs.declared.Input.{Input}
-use Rattle.runner.specs.Loop.{kept, leftOf, Refilled}
+use Rattle.runner.specs.Loop.{kept, leftOf, Refilled, Brought, gotOf}
 
 -- ---- a copy to the front: what is copied stands there, and what is still to be copied is as it was
 
@@ -43,6 +47,24 @@ moved-next at i b₀ b h l m =
           ap (λ (k : ℕ). drop k (set b i v)) one ∙ drop-set-lt (suc i) b i v (omega arith) ∙ ap (λ (k : ℕ). drop k b) (sym one) ∙ sym (drop-drop 1 i b)
           ∙ ap (λ (x : List ℕ). drop 1 x) (m .rest) ∙ drop-drop 1 i b₀;
     }
+
+-- ---- what a read brought
+
+pub failed : (z : ℤ) (n : ℕ) → ltZ z (pos 0) ≡ true → Failure ≡ gotOf z n
+failed (pos k) n e = absurd (omega (arith, ltb-true k 0 e))
+failed (negsuc k) n e = refl
+
+pub not-failed : (z : ℤ) (n : ℕ) → ltZ z (pos 0) ≡ false → gotOf z n ≡ pick (eqb n 0) Nothing (Bytes n)
+not-failed (pos k) n e = refl
+not-failed (negsuc k) n e = absurd (let z : _≡_ {A = ℕ} 0 1 = cc in omega arith)
+
+pub brought : (z : ℤ) (n m : ℕ) → n ≤ m → Brought m (gotOf z n)
+brought (negsuc k) n m h = tt
+brought (pos k) n m h = by (eqb n 0) refl
+  where
+    by : (b : Bool) → eqb n 0 ≡ b → Brought m (pick b Nothing (Bytes n))
+    by true e = tt
+    by false e = (omega (arith, eqb-false n 0 e), h)
 
 -- ---- the text that is put
 

@@ -4,7 +4,8 @@ use Prim.Native.Nat.{ℕ, _-_, _≤_, _<_}
 use mathlib.Core.Path.{_≡_}
 use mathlib.Core.Bool.{Bool, true, false}
 use mathlib.Core.List.{List, [], _++_}
-use lib.Dec.{leb}
+use lib.Dec.{eqb, leb}
+use lib.IntN.{ℤ, pos, negsuc}
 use lib.ListN.{length, take, drop}
 use Rattle.bits.specs.Bit.{pick, unless}
 use Rattle.board.specs.Board.{Board, boardOf}
@@ -27,7 +28,12 @@ runOf words bitmap marked buf out s =
 
 -- ---- the tape
 
--- a read brings one byte at least and at most n, or none
+-- what a read brought by its answer, -1 where it failed and 0 at the end of the input
+abbrev pub gotOf : ℤ → ℕ → Got
+gotOf (negsuc k) n = Failure
+gotOf (pos k) n = pick (eqb n 0) Nothing (Bytes n)
+
+-- one byte at least and at most n, or none
 abbrev pub Brought : ℕ → Got → Type 0
 Brought n (Bytes k) = (0 < k) × (k ≤ n)
 Brought n Nothing = Unit {0}
@@ -67,7 +73,8 @@ stageOf read written offset = unless read Unread (unless written Unwritten (pick
 pub record Turned (s : Source) (before : Run) (t : Source) (after : Run) : Type 0 where
   pub more : List ℕ
   pub written : Bool
-  pub stepped : after ≡ turn (run (before .left ++ more) (before .offset) (before .board) (kept (before .text)) (stageOf (readable t) written (before .offset)))
+  pub stepped :
+      after ≡ turn (run (before .left ++ more) (before .offset) (before .board) (kept (before .text)) (stageOf (readable t) written (before .offset)))
   pub enough : t ≡ Open → 26 ≤ length (before .left ++ more)
   pub closed : (s ≡ Open → ⊥) → (more ≡ []) × (t ≡ s)
 

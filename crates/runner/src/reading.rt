@@ -8,10 +8,23 @@ ghost use mathlib.Core.Path.{_≡_};
 ghost use Prim.Native.Nat.{_+_, _-_, _≤_, _<_};
 ghost use lib.ListN.{length, take, drop};
 ghost use Rattle.tape.specs.Tape.{next};
-ghost use Rattle.runner.specs.Loop.{Refilled, Brought};
+ghost use Rattle.runner.specs.Loop.{Refilled, Brought, gotOf};
 
 // A call of the tape has at most so many bytes.
 const LONGEST: usize = 26;
+
+// What a read that answered `answer` brought, n bytes.
+fn got_of(answer: isize, n: usize) -> Got
+    ensures { λ r. ⌜ r ≡ gotOf answer n ⌝ }
+{
+    if answer < 0 {
+        return Got::Failure;
+    }
+    if n == 0 {
+        return Got::Nothing;
+    }
+    Got::Bytes(n)
+}
 
 // One read, behind the first n bytes.
 fn read_behind(buf: &mut [u8], n: usize) -> Got
@@ -20,14 +33,8 @@ fn read_behind(buf: &mut [u8], n: usize) -> Got
     ensures { λ r. ⌜ Brought (length (now (buf .entry)) - n) r ⌝ }
 {
     let got = libc::read(STDIN_FILENO, &mut buf[n..]);
-    if got < 0 {
-        return Got::Failure;
-    }
     let k = io::count(got, &buf[n..]);
-    if k == 0 {
-        return Got::Nothing;
-    }
-    Got::Bytes(k)
+    got_of(got, k)
 }
 
 // Reads behind the first n bytes until a whole call is there in any case, the tape ends or a read fails.
