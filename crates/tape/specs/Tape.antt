@@ -1,5 +1,5 @@
 -- A call tape, document 01's 'The key program': 'one kind byte, then a body, little-endian'.
-use Prim.Native.Nat.{ℕ}
+use Prim.Native.Nat.{ℕ, _+_}
 use mathlib.Core.List.{List, [], _∷_}
 use lib.Dec.{eqb, leb, ltb}
 use lib.ListN.{length, getD, drop}
@@ -43,3 +43,16 @@ body k b =
 unfoldable pub next : List ℕ → Next
 next [] = Finished
 next (k ∷ b) = unless (both (ltb 0 (bodySize k)) (leb (bodySize k) (length b))) Malformed (body k b)
+
+-- the kind byte of a call
+abbrev pub kindOf : Call → ℕ
+kindOf (Vmalloc n) = 1
+kindOf (Vfree a) = 2
+kindOf (Mmap c) = 3
+kindOf (Munmap c) = 4
+kindOf (Fault c) = 5
+kindOf (Translate a) = 6
+
+-- the bytes of a call on the tape, its kind byte among them
+abbrev pub callSize : Call → ℕ
+callSize c = 1 + bodySize (kindOf c)

@@ -7,7 +7,7 @@ use crate::Next;
 ghost use mathlib.Core.Path.{_≡_};
 ghost use Prim.Native.Nat.{_+_, _≤_, _<_};
 ghost use lib.ListN.{length, getD, drop};
-ghost use Rattle.tape.specs.Tape.{bodySize, next, body, mmapBody};
+ghost use Rattle.tape.specs.Tape.{bodySize, next, body, mmapBody, callSize};
 
 // The bytes of a call's body; 0 for an unknown kind.
 pub fn body_size(kind: u8) -> usize
@@ -84,14 +84,16 @@ pub fn read_call(bytes: &[u8]) -> Next
     read_body(kind, bytes)
 }
 
-// The bytes of a call of a known kind.
-pub fn call_size(kind: u64) -> usize
-    ensures { λ r. ⌜ r ≤ 26 ⌝ }
+// The bytes of a call, its kind byte among them.
+pub fn call_size(call: Call) -> usize
+    ensures { λ r. ⌜ r ≡ callSize call ⌝ }
 {
-    match kind {
-        3 => 26,
-        4 => 17,
-        5 => 17,
-        _ => 9,
+    match call {
+        Call::Vmalloc(_) => 9,
+        Call::Vfree(_) => 9,
+        Call::Mmap(_) => 26,
+        Call::Munmap(_) => 17,
+        Call::Fault(_) => 17,
+        Call::Translate(_) => 9,
     }
 }

@@ -2,16 +2,20 @@
 //! compared byte for byte with the key of the same tape. That key is made here from the answers of the
 //! C functions; where a call lies in the domain of equality, the Rust must give the same answer.
 //!
+//! `ends.rs`: reads, writes and programs that fail, directly and through `./run`.
+//!
 //! Prints `ok NAME` or `FAILED NAME: why` for each check and ends with the two counts.
 //!
 //! Usage: keys [--seed S] [--tapes N]
 
+mod ends;
 #[path = "../shared/guard.rs"]
 mod guard;
 #[path = "../shared/options.rs"]
 mod options;
 #[path = "../shared/port.rs"]
 mod port;
+mod process;
 #[path = "../shared/report.rs"]
 mod report;
 
@@ -52,12 +56,19 @@ fn main() {
     report.tell("keys: tapes of any bytes", any_bytes(&options));
     report.tell("keys: long tapes", long(&options));
     report.tell("keys: tapes that come in pieces", pieces(&options));
+    // From here on each run has a limit of its own.
+    guard::within(0);
+    match draw_any(&mut options.random(7), 9000) {
+        Ok(calls) => ends::check(&mut report, &tape::serialise(&calls)),
+        Err(why) => report.check("keys: ends", Err(why)),
+    }
     report.finish();
 }
 
 /// What the program prints for a tape that is written to it in pieces of so many bytes.
 fn printed(tape: &[u8], piece: usize) -> Result<String, String> {
     let say = |why: std::io::Error| format!("{PROGRAM}: {why}");
+    guard::within(60);
     let mut child =
         Command::new(PROGRAM).stdin(Stdio::piped()).stdout(Stdio::piped()).spawn().map_err(say)?;
     let mut input = child.stdin.take().ok_or("no standard input")?;
@@ -113,14 +124,18 @@ fn compare(tape: &[u8], piece: usize) -> Result<(), String> {
     })
 }
 
-/// The tape and the lines that stand in document 01.
-fn worked_example() -> Result<(), String> {
-    let bytes = tape::serialise(&[
+fn worked_tape() -> Vec<u8> {
+    tape::serialise(&[
         Call::Vmalloc { size: 1 },
         Call::Translate { addr: 0xffff_ffc0_0000_0010 },
         Call::Vfree { addr: 0xffff_ffc0_0000_0000 },
         Call::Mmap { given: false, addr: 0, size: 5000, prot: 2, flags: 0 },
-    ]);
+    ])
+}
+
+/// The tape and the lines that stand in document 01.
+fn worked_example() -> Result<(), String> {
+    let bytes = worked_tape();
     let wanted = "1 0 ffffffc000000000\n6 0 0000000000101010\n2 0 0000000000000000\n\
                   3 0 0000100000000000\nframes 9\n";
     equal(printed(&bytes, bytes.len())?.as_str(), wanted)?;

@@ -2,8 +2,11 @@
 use mathlib.Core.Path.{sym}
 use lib.Seq.{length-take-le}
 use borrow.Author.Needs.{needs}
-use Rattle.player.proofs.write_first.Statement.{statement}
-use Rattle.player.proofs.write_first.Tie as tie
+use Rattle.runner.proofs.writing.write_first.Statement.{statement}
+use Rattle.runner.proofs.writing.write_first.Tie as tie
+use Rattle.runner.proofs.writing.write_first.Reads as reads
+use Rattle.runner.proofs.writing.write_first.Lts as lts
+use Rattle.io.proofs.write_all.Reads as write-all-reads
 
 slice-aggregate-write-all : tie.Need-slice-aggregate-write-all
 slice-aggregate-write-all c =
