@@ -77,7 +77,7 @@ impl Kind {
             Kind::FewFree | Kind::Crowded => 180,
             Kind::Far => 150,
             Kind::Copies => 300,
-            Kind::Churn => 6,
+            Kind::Churn => 12,
             Kind::Mapper => 800,
             Kind::MapperNear => 500,
             Kind::MapperLarge => 100,

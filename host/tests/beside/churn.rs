@@ -48,7 +48,7 @@ impl Churn {
         }
     }
 
-    /// Frees what is marked and not reached, else a region or a page.
+    /// Frees what is marked and not reached, else mostly a region, at times a page.
     fn release(&mut self, state: &State) {
         let (reached, pages) = reached(state);
         let marked =
@@ -62,7 +62,9 @@ impl Churn {
         let mut calls: Vec<Call> = slots.map(|slot| Call::Vfree { addr: slot.start }).collect();
         let regions = state.regions.iter();
         calls.extend(regions.map(|r| Call::Munmap { addr: r.start, size: r.size }));
-        calls.extend(pages.iter().map(|virt| Call::UnmapPage { virt: *virt }));
+        if calls.is_empty() || self.random.chance(1, 4) {
+            calls = pages.iter().map(|virt| Call::UnmapPage { virt: *virt }).collect();
+        }
         if !calls.is_empty() {
             self.pending.push(self.random.one_of(&calls));
         }

@@ -103,10 +103,23 @@ fn play_one(
     let after = board.state();
     holds(after.bitmap == reading.bitmap, &format!("the foreseen frames after {call}"))?;
     holds(after.allocated == after.marked_frames(), "the counter to equal the set bits")?;
+    holds(foreseen(&call, reading.turned_away, &outcome), &format!("{call} as foreseen"))?;
     for what in [call.shape().name].into_iter().chain(rare) {
         *seen.entry(format!("{what} {}", outcome.numbers)).or_default() += 1;
     }
     Ok(Some((call, outcome)))
+}
+
+/// Whether a call was turned away with the number foreseen, or with neither 11 nor 13 if none was, as far
+/// as the Rust tells.
+fn foreseen(call: &Call, turned_away: Option<u32>, outcome: &Outcome) -> bool {
+    match (call, turned_away) {
+        (Call::Vmalloc { .. } | Call::Mmap { .. }, None) => {
+            !outcome.numbers.contains(11) && !outcome.numbers.contains(13)
+        }
+        (_, Some(number)) => outcome.numbers.contains(number),
+        _ => true,
+    }
 }
 
 /// A name for calls that seldom come about.
