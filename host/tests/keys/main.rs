@@ -1,6 +1,7 @@
 //! The key program beside the Rust: tapes are played through `target/bin/key`, and what it prints is
 //! compared byte for byte with the key of the same tape. That key is made here from the answers of the
-//! C functions; where a call lies in the domain of equality, the Rust must give the same answer.
+//! fuzz's model of document 01; where a call lies in the domain of equality, the Rust must give the same
+//! answer.
 //!
 //! `ends.rs`: reads, writes and programs that fail, directly and through `./run`.
 //!
@@ -11,6 +12,8 @@
 mod ends;
 #[path = "../shared/guard.rs"]
 mod guard;
+#[path = "../shared/model/mod.rs"]
+mod model;
 #[path = "../shared/options.rs"]
 mod options;
 #[path = "../shared/port.rs"]
@@ -20,6 +23,7 @@ mod process;
 mod report;
 
 use gadulnos::{Board as Parts, Line};
+use model::Model;
 use options::Options;
 use paper::call::{Call, Shape};
 use paper::domain::{self, Verdict};
@@ -83,18 +87,21 @@ fn printed(tape: &[u8], piece: usize) -> Result<String, String> {
     String::from_utf8(output.stdout).map_err(|_| "bytes that are no text".to_string())
 }
 
-/// The key of a tape, by the C functions.
+/// The key of a tape, by the model of document 01, which knows nothing of the port.
 fn key(tape: &[u8]) -> Result<String, String> {
     let tape = tape::parse(tape, KINDS);
-    let mut port = fresh()?;
+    let mut board = Model::of(&Parts::lend(16));
+    equal(board.start(true, MEMORY.0, MEMORY.1), Line::met(0))?;
     let mut text = String::new();
     for call in &tape.calls {
-        text += &line(call, port::play(&mut port, call));
+        text += &line(call, board.play(call));
     }
+    holds(!board.gave_up, "releases that are not too long for the model")?;
     if let Some(offset) = tape.broken {
         text += &format!("tape {offset}\n");
     }
-    Ok(text + &format!("frames {}\n", port.frames().allocated))
+    let frames = board.frames.ok_or("the model's frame record")?;
+    Ok(text + &format!("frames {}\n", frames.allocated))
 }
 
 fn line(call: &Call, line: Line) -> String {
