@@ -138,21 +138,7 @@ pub struct Setting {
 
 /// A setting of a kind, the source of its calls, and how many to draw.
 pub fn settle(random: &mut Random, kind: Kind) -> Result<(Setting, Source, usize), String> {
-    let mut generator = match kind {
-        Kind::Fresh(profile) => Generator::new(random.word(), profile),
-        Kind::Crowded => Generator::crowded(random.word()),
-        Kind::Far => Generator::new(random.word(), Profile::Release),
-        Kind::Copies => Generator::new(random.word(), Profile::Faults),
-        _ => Generator::new(random.word(), Profile::Everything),
-    };
-    let memory = match kind {
-        Kind::Fresh(_) | Kind::Near | Kind::Crowded | Kind::Far => generator.board(),
-        Kind::Copies => anywhere(random, 16, 64),
-        Kind::Churn => anywhere(random, 100, 300),
-        Kind::FewFree => anywhere(random, 65, 8192),
-        Kind::Mapper | Kind::MapperNear => anywhere(random, 1, 64),
-        Kind::MapperLarge => anywhere(random, 65, 8193),
-    };
+    let (mut generator, memory) = generator_and_memory(random, kind);
     let mut words = Vec::new();
     let board = Board::start_on(memory.0, memory.1, |lent| {
         generator.fill(lent);
@@ -160,9 +146,9 @@ pub fn settle(random: &mut Random, kind: Kind) -> Result<(Setting, Source, usize
     });
     let mut board = board.map_err(|why| format!("{memory:x?}: {why:?}"))?;
     let mut length = generator.length();
-    let mut releases = Vec::new();
+    let mut calls = Vec::new();
     let near = match kind {
-        Kind::Far => Some(far(random, &mut generator, &mut board, &mut releases)),
+        Kind::Far => Some(far(random, &mut generator, &mut board, &mut calls)),
         Kind::Near => Some(near(&mut generator, &mut board, length / 3)),
         Kind::MapperNear => Some(near(&mut generator, &mut board, 0)),
         Kind::FewFree => Some(few_free(random, &board)),
@@ -177,19 +163,37 @@ pub fn settle(random: &mut Random, kind: Kind) -> Result<(Setting, Source, usize
             length = 2000 + random.below(2000) as usize;
             Source::Churn(Churn::new(Random::new(random.word())))
         }
-        Kind::Far => {
-            length = 4 + random.below(6) as usize;
-            Source::Mixed(Random::new(random.word()), releases, generator)
-        }
-        Kind::Copies => {
-            length = 14 + random.below(10) as usize;
-            let calls = copies(random);
+        Kind::Far | Kind::Copies => {
+            if kind == Kind::Copies {
+                calls = copies(random);
+            }
+            length = 3 * calls.len() + random.below(6) as usize;
             Source::Mixed(Random::new(random.word()), calls, generator)
         }
         _ => Source::Paper(generator),
     };
     let against = random.one_of(&[Against::Before, Against::Behind]);
     Ok((Setting { memory, words, near, rubbish: random.word(), against }, source, length))
+}
+
+fn generator_and_memory(random: &mut Random, kind: Kind) -> (Generator, (u64, u64)) {
+    let seed = random.word();
+    let mut generator = match kind {
+        Kind::Fresh(profile) => Generator::new(seed, profile),
+        Kind::Crowded => Generator::crowded(seed),
+        Kind::Far => Generator::new(seed, Profile::Release),
+        Kind::Copies => Generator::new(seed, Profile::Faults),
+        _ => Generator::new(seed, Profile::Everything),
+    };
+    let memory = match kind {
+        Kind::Fresh(_) | Kind::Near | Kind::Crowded | Kind::Far => generator.board(),
+        Kind::Copies => anywhere(random, 16, 64),
+        Kind::Churn => anywhere(random, 100, 300),
+        Kind::FewFree => anywhere(random, 65, 8192),
+        Kind::Mapper | Kind::MapperNear => anywhere(random, 1, 64),
+        Kind::MapperLarge => anywhere(random, 65, 8193),
+    };
+    (generator, memory)
 }
 
 /// A memory of so many frames, few more often than many. Some starts let a 1 GiB or 2 MiB entry point

@@ -22,6 +22,25 @@ pub fn leaf(state: &State, virt: u64) -> Option<(u64, usize)> {
 
 /// What is seldom about a call on this state, as names to count it under.
 pub fn names(state: &State, call: &Call) -> Vec<String> {
+    let mut names = of_lists(state, call);
+    if let Call::Fault { addr, code } = *call {
+        if code & 11 == 3 && state.marked.contains(&page_of(addr)) {
+            names.push("copy".to_string());
+            if leaf(state, TEMPORARY).is_some() {
+                names.push("copy with the temporary page mapped".to_string());
+            }
+        }
+    }
+    if let Some(addr) = walked(call) {
+        if leaf(state, addr).map_or(false, |(word, level)| level == 2 && word & HUGE != 0) {
+            names.push(format!("{} over a third-level HUGE entry", call.shape().name));
+        }
+    }
+    names
+}
+
+/// What is seldom about the lists: full ones, and regions far larger than the board.
+fn of_lists(state: &State, call: &Call) -> Vec<String> {
     let mut names = Vec::new();
     match *call {
         Call::Vmalloc { size } if state.vmalloc_count == SLOTS => {
@@ -51,18 +70,7 @@ pub fn names(state: &State, call: &Call) -> Vec<String> {
         Call::MarkCow { .. } if state.marked.len() == SLOTS - 1 => {
             names.push("mark_cow at 255 pages".to_string());
         }
-        Call::Fault { addr, code } if code & 11 == 3 && state.marked.contains(&page_of(addr)) => {
-            names.push("copy".to_string());
-            if leaf(state, TEMPORARY).is_some() {
-                names.push("copy with the temporary page mapped".to_string());
-            }
-        }
         _ => {}
-    }
-    if let Some(addr) = walked(call) {
-        if leaf(state, addr).map_or(false, |(word, level)| level == 2 && word & HUGE != 0) {
-            names.push(format!("{} over a third-level HUGE entry", call.shape().name));
-        }
     }
     names
 }
