@@ -25,10 +25,11 @@ use Rattle.paging.specs.Pages.{freePage}
 use Rattle.paging.proofs.Map.{goOn-cases}
 use Rattle.slots.specs.Slots.{Slots, listed}
 use Rattle.fault.specs.declared.Faulted.{Faulted}
-use Rattle.fault.specs.declared.MarkedAnswer.{MarkedAnswer}
-use Rattle.fault.specs.Marked.{slotsOf as markedOf, pageOf, soundMarked, isListed, DidMark, marking, fullOfPages, markCow, unmarkCow, isCow}
+use Rattle.cow.specs.declared.MarkedAnswer.{MarkedAnswer}
+use Rattle.cow.specs.Marked.{slotsOf as markedOf, pageOf, soundMarked, isListed, DidMark, marking, fullOfPages, markCow, unmarkCow, isCow}
 use Rattle.fault.specs.Faults.{Faulting, faulting, Did, faulted, isPresent, isWrite, isUser, isReserved, isFetch, asTaken, rawFrame, onlyError, inHeap, valid, mapFrame, demandPage, temporary}
-use Rattle.fault.specs.Faults.{translated, clearedIf, copied, copyPage, copyTo, copyOnWrite, soundFaulting, unmarking, handled, handleFault, overwrite, putOver, mapOver, handleFaultSecond}
+use Rattle.fault.specs.Faults.{translated, clearedIf, copied, copyPage, copyTo, copyOnWrite, soundFaulting, unmarking, handled, handleFault}
+use Rattle.handler.specs.Handler.{overwrite, putOver, mapOver, handleFaultSecond}
 use Rattle.layout.specs.Parts.{fieldsIn, fieldsOut, framesFit}
 use Rattle.layout.specs.Lists.{markedIn, markedOut, markedSlots, markedFit}
 use Rattle.layout.specs.Left.{left, brokenLine, IsRefusal, Unchanged, noLeftovers, faultLeftovers, secondLeftovers}

@@ -8,8 +8,9 @@ use Rattle.answer.specs.declared.Line.{Line}
 use Rattle.packed.specs.Words.{pack}
 use Rattle.paging.specs.Map.{Memory, memory}
 use Rattle.slots.specs.Slots.{Slots}
-use Rattle.fault.specs.Marked.{DidMark, markCow, unmarkCow, isCow}
-use Rattle.fault.specs.Faults.{Faulting, faulting, Did, handleFault, handleFaultSecond}
+use Rattle.cow.specs.Marked.{DidMark, markCow, unmarkCow, isCow}
+use Rattle.fault.specs.Faults.{Faulting, faulting, Did, handleFault}
+use Rattle.handler.specs.Handler.{handleFaultSecond}
 use Rattle.layout.specs.Parts.{framesIn, framesFit, fieldsOut}
 use Rattle.layout.specs.Lists.{markedIn, markedOut, markedFit}
 use Rattle.layout.specs.Left.{Left, left, brokenLine, unlessFit}

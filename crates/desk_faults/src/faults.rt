@@ -21,7 +21,7 @@ pub extern "C" fn gadulnos_mark_cow(marked: &mut [u8], addr: u64) -> Line
         return parts::broken();
     }
     let mut pages = lists::get_marked(marked);
-    let did = fault::mark_cow(&mut pages, lists::marked_count(marked), VirtAddr(addr));
+    let did = cow::mark_cow(&mut pages, lists::marked_count(marked), VirtAddr(addr));
     let count = did.count;
     let a = did.answer;
     lists::put_marked(marked, &pages, count);
@@ -39,7 +39,7 @@ pub extern "C" fn gadulnos_unmark_cow(marked: &mut [u8], addr: u64) -> Line
         return parts::broken();
     }
     let mut pages = lists::get_marked(marked);
-    let did = fault::unmark_cow(&mut pages, lists::marked_count(marked), VirtAddr(addr));
+    let did = cow::unmark_cow(&mut pages, lists::marked_count(marked), VirtAddr(addr));
     let count = did.count;
     let a = did.answer;
     lists::put_marked(marked, &pages, count);
@@ -54,7 +54,7 @@ pub extern "C" fn gadulnos_is_cow(marked: &[u8], addr: u64) -> Line
         return parts::broken();
     }
     let pages = lists::get_marked(marked);
-    answer::flag_line(fault::is_cow(&pages, lists::marked_count(marked), VirtAddr(addr)))
+    answer::flag_line(cow::is_cow(&pages, lists::marked_count(marked), VirtAddr(addr)))
 }
 
 // The first path.
@@ -119,7 +119,7 @@ pub extern "C" fn gadulnos_handle_page_fault_second(
     }
     let mut bitmap = parts::get_bits(bits);
     let frames = parts::get_fields(fields);
-    let did = fault::page_handler::handle_page_fault(
+    let did = handler::handle_page_fault(
         words,
         &mut bitmap,
         frames,

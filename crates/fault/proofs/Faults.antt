@@ -1,4 +1,4 @@
--- What the fault paths come to: broken, refused by the code, or the step below.
+-- What the first path comes to: broken, refused by the code, or the step below.
 use Prim.Native.Nat.{ℕ}
 use mathlib.Core.Path.{_≡_, sym, _∙_, ap, subst}
 use mathlib.Core.Bool.{Bool, true, false}
@@ -10,12 +10,11 @@ use Rattle.frame.specs.Frames.{frames}
 use Rattle.paging.specs.declared.Walked.{Walked}
 use Rattle.paging.specs.declared.Walked.the-variants.{At, Stop}
 use Rattle.paging.specs.Map.{Memory, out}
-use Rattle.paging.specs.Calls.{asAnswer, changed, whole}
-use Rattle.paging.proofs.Calls.{told}
+use Rattle.paging.specs.Calls.{asAnswer, whole}
 use Rattle.slots.specs.Slots.{listed}
+use Rattle.cow.specs.Marked.{pageOf, soundMarked, isListed, withoutPage, storePages}
 use Rattle.fault.specs.declared.Faulted.{Faulted}
-use Rattle.fault.specs.Marked.{pageOf, soundMarked, isListed, withoutPage, storePages}
-use Rattle.fault.specs.Faults.{isPresent, isWrite, isUser, isReserved, denied, demandPage, copyOnWrite, Faulting, faulting, Did, did, faulted, protected, handled, handleFault, refused, mapNew, handledSecond, handleFaultSecond}
+use Rattle.fault.specs.Faults.{isPresent, isWrite, isUser, isReserved, denied, demandPage, copyOnWrite, Faulting, faulting, Did, did, faulted, protected, handled, handleFault}
 
 -- what code says of an outcome of the first path: what it returns, and the words, the bitmap and the slots that it leaves
 abbrev pub Says : Faulted → List ℕ → List ℕ → List ℕ → Did → Type 0
@@ -88,32 +87,3 @@ module _ (up : ℕ) (s : Faulting) (root a code : ℕ) where
     pub fault-is : soundMarked (s .marked) ≡ true → {v : ℕ} → v ≡ pageOf a → handled up s root v code ≡ handleFault up s root a code
     unfolding handleFault
     fault-is k e = rw (h, k, e)
-
--- ---- the second path
-
-module _ (up : ℕ) (m : Memory) (root v code : ℕ) where
-  pub second-reserved : isReserved code ≡ true → handledSecond up m root v code ≡ out (Stop reservedBit) m
-  second-reserved h = rw h
-
-  module _ (h : isReserved code ≡ false) where
-    pub second-present : isPresent code ≡ true → {n : ℕ} → n ≡ refused code → handledSecond up m root v code ≡ out (Stop n) m
-    second-present k e = rw (h, k, e)
-
-    -- after `map_page` and `as_answer`
-    pub second-absent : isPresent code ≡ false → {w u : Bool} → w ≡ isWrite code → u ≡ isUser code → {x : Walked} {m′ : Memory} → out x m′ ≡ mapNew up m root v w u
-        → {a : Answer} → a ≡ asAnswer x
-        → (record { answer = a; frames = m′ .frames .fa } ≡ changed (handledSecond up m root v code))
-        × ((m′ .words ≡ handledSecond up m root v code .mem .words) × (m′ .frames .bits ≡ handledSecond up m root v code .mem .frames .bits))
-    second-absent k p q {x = x} {m′ = m′} e r =
-        let d : handledSecond up m root v code ≡ out x m′ = rw (h, k, ← p, ← q) (sym e) in
-        let t = told d in
-        ((λ j. record { answer = r j; frames = m′ .frames .fa }) ∙ t .0, t .1)
-
-module _ (up : ℕ) (m : Memory) (root a code : ℕ) where
-  pub second-broken : whole m root ≡ false → handleFaultSecond up m root a code ≡ out (Stop brokenRecord) m
-  unfolding handleFaultSecond
-  second-broken h = rw h
-
-  pub second-is : whole m root ≡ true → {v : ℕ} → v ≡ pageOf a → handledSecond up m root v code ≡ handleFaultSecond up m root a code
-  unfolding handleFaultSecond
-  second-is h e = rw (h, e)

@@ -1,4 +1,4 @@
--- What the steps of the fault paths come to, by the tests that code makes and by what the steps below give; and the room that they leave.
+-- What the steps of the first path come to, by the tests that code makes and by what the steps below give; and the room that they leave.
 use Prim.Native.Nat.{ℕ, zero, suc, _+_, _-_, _*_, _/_, _%_, _^_, _<_, _≤_}
 use mathlib.Core.Path.{_≡_, refl, sym, _∙_, ap, subst}
 use mathlib.Core.Bool.{Bool, true, false}
@@ -8,7 +8,7 @@ use native.Mathlib.Omega.{arith}
 use lib.ListN.{length, getD, set, take, length-set, length-take}
 use Rattle.bits.specs.Bit.{both}
 use Rattle.bits.proofs.Choice.{pick-cases}
-use Rattle.answer.specs.Numbers.{invalidAddress, instructionFetch, pageTableError, outside}
+use Rattle.answer.specs.Numbers.{invalidAddress, instructionFetch, pageTableError}
 use Rattle.answer.specs.declared.Answer.the-variants.{Met, Refused}
 use Rattle.address.specs.declared.Frame.{Frame}
 use Rattle.address.specs.declared.PhysAddr.{PhysAddr}
@@ -26,12 +26,12 @@ use Rattle.mapper.proofs.Laws.{stepped}
 use Rattle.paging.specs.declared.Walked.{Walked}
 use Rattle.paging.specs.declared.Walked.the-variants.{At, Stop}
 use Rattle.paging.specs.Walk.{place}
-use Rattle.paging.specs.Map.{Memory, memory, startOf, totalOf, Out, out, goOn, clear, make, Roomy}
+use Rattle.paging.specs.Map.{Memory, memory, startOf, totalOf, Out, out, goOn, Roomy}
 use Rattle.paging.specs.Calls.{asAnswer, asPhys, changed, mapAt}
 use Rattle.paging.specs.Pages.{clearPage, freePage}
-use Rattle.paging.proofs.Map.{goOn-cases, Kept, roomy-less, map-entry-kept, map-entry-roomy, make-kept, unmap-entry-length}
+use Rattle.paging.proofs.Map.{goOn-cases, Kept, roomy-less, map-entry-kept, map-entry-roomy, unmap-entry-length}
 use Rattle.paging.proofs.Pages.{map-entry-at}
-use Rattle.fault.specs.Faults.{isWrite, isUser, isFetch, asTaken, rawFrame, onlyError, mapFrame, inHeap, valid, demandPage, temporary, translated, clearedIf, copyWords, copied, copyPage, copyTo, copyOnWrite, overwrite, putOver, mapOver, mapNew}
+use Rattle.fault.specs.Faults.{isWrite, isUser, isFetch, asTaken, rawFrame, onlyError, mapFrame, inHeap, valid, demandPage, temporary, translated, clearedIf, copyWords, copied, copyPage, copyTo, copyOnWrite}
 
 -- ---- a frame taken as it is
 
@@ -266,48 +266,3 @@ module _ (up : ℕ) (m : Memory) (root v : ℕ) (user : Bool) (m′ : Memory) wh
   pub cow-on : (f : ℕ) → rawFrame m ≡ out (At f) m′ → copyOnWrite up m root v user ≡ copyTo up m′ root v f user
   unfolding copyOnWrite
   cow-on f e = rw e
-
--- ---- the second path's mapping
-
--- a lent frame stays lent while tables are made
-pub made-lent : (u : Bool) (m : Memory) (t : ℕ) (p : List ℕ) {w : Walked} {m′ : Memory} → out w m′ ≡ make u m t p → (f : ℕ)
-    → inside (startOf m) (totalOf m) f ≡ true → inside (startOf m′) (totalOf m′) f ≡ true
-made-lent u m t p e f h =
-    let k = make-kept u p m t in
-    subst (λ (y : Memory). inside (startOf y) (totalOf y) f ≡ true) (sym (ap (λ (o : Out). o .mem) e)) (rw (k .start, k .total) h)
-
-module _ (m : Memory) (t i e f : ℕ) where
-  pub put-over-out : inside (startOf m) (totalOf m) t ≡ false → putOver m t i e f ≡ out (Stop outside) m
-  unfolding overwrite
-  put-over-out h = rw h
-
-  -- after `zero_frame`
-  pub put-over-in : inside (startOf m) (totalOf m) t ≡ true → {at to : ℕ} → at ≡ place (startOf m) t i → to ≡ place (startOf m) f 0
-      → putOver m t i e f ≡ out (At 0) (memory (clear (set (m .words) at e) to 512) (m .frames))
-  unfolding overwrite
-  put-over-in h {to = to} a b = let z : to ≡ (f - startOf m) * 512 = omega arith in rw (h, a, z)
-
--- after `make_tables`
-module _ (up : ℕ) (m : Memory) (root v f : ℕ) (w u : Bool) {is : List ℕ} (g : is ≡ indices (suc up) v) {x : Walked} {m′ : Memory}
-    (h : out x m′ ≡ make u m root (take up is)) where
-  pub map-over-stop : {n : ℕ} → x ≡ Stop n → out (Stop n) m′ ≡ mapOver up m root v f w u
-  unfolding mapOver
-  map-over-stop q =
-      (λ j. goOn (sym (stepped h q) j) (λ t n. putOver n t (getD is up 0) (entryOf (f * 2 ^ 12) w u) f))
-      ∙ ap (λ (l : List ℕ). goOn (make u m root (take up l)) (λ t n. putOver n t (getD l up 0) (entryOf (f * 2 ^ 12) w u) f)) g
-
-  -- .. `start_address`, `set` and `put_over`
-  pub map-over-put : {t : ℕ} → x ≡ At t → f < 2 ^ 40 → {a e : ℕ} → a ≡ f * 2 ^ 12 % 2 ^ 64 → e ≡ entryOf a w u
-      → {o : Out} → o ≡ putOver m′ t (getD is up 0) e f → o ≡ mapOver up m root v f w u
-  unfolding mapOver
-  map-over-put k low {e = e} p q r =
-      let word : e ≡ entryOf (f * 2 ^ 12) w u = q ∙ ap (λ (n : ℕ). entryOf n w u) (p ∙ mod-eq-of-lt (omega arith)) in
-      r ∙ (λ j. goOn (sym (stepped h k) j) (λ t n. putOver n t (getD is up 0) (word j) f))
-      ∙ ap (λ (l : List ℕ). goOn (make u m root (take up l)) (λ t n. putOver n t (getD l up 0) (entryOf (f * 2 ^ 12) w u) f)) g
-
-module _ (up : ℕ) (m : Memory) (root v : ℕ) (w u : Bool) (m′ : Memory) where
-  pub map-new-none : (n : ℕ) → rawFrame m ≡ out (Stop n) m′ → mapNew up m root v w u ≡ out (Stop n) m′
-  map-new-none n e = rw e
-
-  pub map-new-on : (f : ℕ) → rawFrame m ≡ out (At f) m′ → mapNew up m root v w u ≡ mapOver up m′ root v f w u
-  map-new-on f e = rw e

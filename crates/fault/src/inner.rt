@@ -1,6 +1,5 @@
-// Steps of both fault paths on a record that was tested.
+// Steps of the first path on a record that was tested; `raw_frame` and `denied` serve the second path too.
 use crate::Faulted;
-use crate::cow;
 use crate::error_code;
 use address::Frame;
 use address::FrameAnswer;
@@ -22,8 +21,8 @@ ghost use Rattle.frame.specs.Frames.{frames as framesOf, inside, Held};
 ghost use Rattle.paging.specs.Walk.{Lent};
 ghost use Rattle.paging.specs.Map.{memory, out, Roomy};
 ghost use Rattle.paging.specs.Pages.{freePage};
+ghost use Rattle.cow.specs.Marked.{slotsOf, soundMarked};
 ghost use Rattle.fault.specs.Faults.{isFetch, rawFrame, mapFrame, inHeap, valid, demandPage, translated, clearedIf, copyWords, copied as copiedFrom, copyPage, copyTo, copyOnWrite, denied as deniedBy, faulting, faulted, protected as protectedBy, handled};
-ghost use Rattle.fault.specs.Marked.{slotsOf, soundMarked};
 
 // The kernel's heap, and the end of user space.
 const HEAP_START: u64 = 0xFFFF_FF00_0000_0000;
@@ -341,7 +340,7 @@ fn protected(
             count,
         };
     }
-    if !cow::is_listed(marked, count, page.0) {
+    if !cow::list::is_listed(marked, count, page.0) {
         return Faulted {
             answer: Answer::Refused(answer::WRITE_TO_READ_ONLY),
             frames,
@@ -360,7 +359,7 @@ fn protected(
         Walked::At(_) => Faulted {
             answer: Answer::Met,
             frames: left,
-            count: cow::unmark(marked, count, page.0),
+            count: cow::list::unmark(marked, count, page.0),
         },
     }
 }

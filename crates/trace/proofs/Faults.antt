@@ -22,9 +22,10 @@ use Rattle.paging.specs.Calls.{whole}
 use Rattle.paging.specs.Pages.{freePage}
 use Rattle.paging.proofs.Past.{Past, past-same, past-then, past-set, past-clear, past-entry, small-indices, small-take, Stays, stays-same, stays-then, stays-words, stays-on, stays-make, stays-map-at, stays-clear-page, stays-free-page}
 use Rattle.slots.specs.Slots.{listed}
-use Rattle.fault.specs.Marked.{pageOf, isListed}
-use Rattle.fault.specs.Faults.{isPresent, isWrite, isUser, isReserved, isFetch, asTaken, rawFrame, mapFrame, inHeap, valid, demandPage, temporary, translated, clearedIf, copyWords, copied, copyPage, copyTo, copyOnWrite, Faulting, Did, soundFaulting, handleFault, overwrite, putOver, mapOver, handleFaultSecond}
+use Rattle.cow.specs.Marked.{pageOf, isListed}
+use Rattle.fault.specs.Faults.{isPresent, isWrite, isUser, isReserved, isFetch, asTaken, rawFrame, mapFrame, inHeap, valid, demandPage, temporary, translated, clearedIf, copyWords, copied, copyPage, copyTo, copyOnWrite, Faulting, Did, soundFaulting, handleFault}
 use Rattle.fault.proofs.Steps.{raw-inside}
+use Rattle.handler.specs.Handler.{overwrite, putOver, mapOver, handleFaultSecond}
 
 -- ---- steps
 

@@ -16,9 +16,10 @@ use Rattle.paging.specs.Calls.{asAnswer, asPhys, asFrame, translate, userMay, m
 use Rattle.slots.specs.Slots.{Slots}
 use Rattle.vmalloc.specs.Results.{asVirt}
 use Rattle.mmap.specs.Calls.{mprotect}
-use Rattle.fault.specs.Marked.{DidMark, markCow, unmarkCow, isCow}
-use Rattle.fault.specs.Faults.{Faulting, faulting, handleFault, handleFaultSecond}
+use Rattle.cow.specs.Marked.{DidMark, markCow, unmarkCow, isCow}
+use Rattle.fault.specs.Faults.{Faulting, faulting, handleFault}
 use Rattle.fault.specs.Faults.{Did as FaultDid}
+use Rattle.handler.specs.Handler.{handleFaultSecond}
 use Rattle.board.specs.Board.{Board, Did, start}
 use Rattle.release.specs.Calls.{Call, vmallocs, vfrees, mmaps, munmaps}
 use Rattle.release.specs.Calls.{play as playRegions}

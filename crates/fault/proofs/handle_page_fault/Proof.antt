@@ -6,7 +6,7 @@ use Rattle.frame.proofs.Laws.{passed, failed}
 use Rattle.paging.specs.Map.{memory}
 use Rattle.paging.specs.Calls.{whole}
 use Rattle.paging.proofs.Calls.{whole-roomy}
-use Rattle.fault.specs.Marked.{slotsOf, soundMarked}
+use Rattle.cow.specs.Marked.{slotsOf, soundMarked}
 use Rattle.fault.specs.Faults.{Faulting, faulting}
 use Rattle.fault.proofs.Faults.{told-fault, says-on, fault-broken, fault-unsorted, fault-is}
 use borrow.Author.Needs.{needs}

@@ -7,7 +7,7 @@ use Rattle.layout.proofs.Fit.{lengths}
 use Rattle.layout.proofs.Left.{memory-broken, memory-met, contract-broken, contract-met, FramesBytes}
 use Rattle.paging.specs.Map.{Memory, Out}
 use Rattle.layout.specs.Left.{secondLeftovers}
-use Rattle.fault.specs.Faults.{handleFaultSecond}
+use Rattle.handler.specs.Handler.{handleFaultSecond}
 use Rattle.desk_faults.proofs.LeftFaults.{second-refused}
 use Rattle.desk_faults.proofs.faults.gadulnos_handle_page_fault_second.Statement.{statement}
 use Rattle.desk_faults.proofs.faults.gadulnos_handle_page_fault_second.Tie as tie

@@ -2,7 +2,7 @@
 use Prim.Native.Nat.{ℕ}
 use borrow.Author.Tests.{eq-eqb, ne-eqb}
 use Rattle.slots.specs.Slots.{Slots}
-use Rattle.fault.specs.Marked.{markCow}
+use Rattle.cow.specs.Marked.{markCow}
 use Rattle.layout.specs.Lists.{markedSize}
 use Rattle.layout.specs.Left.{noLeftovers}
 use Rattle.layout.proofs.Left.{contract-broken, contract-met}

@@ -3,7 +3,7 @@ use mathlib.Core.Path.{_≡_, sym, _∙_}
 use mathlib.Core.Bool.{false}
 use Rattle.frame.specs.Frames.{frames as framesOf}
 use Rattle.paging.specs.Map.{memory}
-use Rattle.fault.specs.Marked.{slotsOf}
+use Rattle.cow.specs.Marked.{slotsOf}
 use Rattle.fault.specs.Faults.{isReserved, Faulting, faulting}
 use Rattle.fault.proofs.Faults.{told-fault, says-on, handled-reserved, handled-present, handled-absent}
 use borrow.Author.Needs.{needs}

@@ -6,7 +6,7 @@ use Rattle.frame.specs.Frames.{frames as framesOf}
 use Rattle.frame.proofs.Laws.{passed, failed}
 use Rattle.mapper.proofs.Laws.{stepped}
 use Rattle.paging.specs.Map.{memory}
-use Rattle.fault.specs.Marked.{slotsOf, isListed}
+use Rattle.cow.specs.Marked.{slotsOf, isListed}
 use Rattle.fault.specs.Faults.{isWrite, Faulting, faulting}
 use Rattle.fault.proofs.Faults.{told-fault, protected-read, protected-plain, protected-stop, protected-met}
 use borrow.Author.Needs.{needs}

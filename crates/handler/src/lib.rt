@@ -1,0 +1,165 @@
+// The second path, of page_handler.rs: a page that was not present is mapped over whatever stands at its entry.
+use address::Frame;
+use address::PhysAddr;
+use address::VirtAddr;
+use answer::Answer;
+use entry::paging::PageTableEntry;
+use fault::error_code;
+use fault::inner;
+use frame::Changed;
+use frame::FrameAllocator;
+use paging::Entered;
+use paging::Walked;
+ghost use mathlib.Core.Path.{_≡_};
+ghost use mathlib.Core.Bool.{true};
+ghost use mathlib.Core.List.{List};
+ghost use Prim.Native.Nat.{ℕ, _<_};
+ghost use Rattle.frame.specs.Frames.{frames as framesOf, inside};
+ghost use Rattle.paging.specs.Walk.{Lent};
+ghost use Rattle.paging.specs.Map.{memory, out, Roomy};
+ghost use Rattle.paging.specs.Calls.{changed};
+ghost use Rattle.handler.specs.Handler.{refused, putOver, mapOver, mapNew, handledSecond, handleFaultSecond};
+
+// The word e at entry i of table t, over what stands there, and frame f zeroed.
+fn put_over(words: &mut [u64], frames: FrameAllocator, t: u64, i: usize, e: u64, f: u64) -> Walked
+    requires { ⌜ Lent (now words) (frames .start) (frames .total) ⌝ }
+    requires { ⌜ i < 512 ⌝ }
+    requires { ⌜ inside (frames .start) (frames .total) f ≡ true ⌝ }
+    ensures { λ r. ⌜ ((b : List ℕ) → out r (memory (now (words .exit)) (framesOf b frames)) ≡ putOver (memory (now (words .entry)) (framesOf b frames)) t i e f) ⌝ }
+{
+    if !frame::inner::is_inside(frames.start, frames.total, t) {
+        return Walked::Stop(answer::OUTSIDE);
+    }
+    let at = walk::entry_place(frames.start, t, i);
+    words[at] = e;
+    mapper::inner::zero_frame(words, walk::entry_place(frames.start, f, 0));
+    Walked::At(0)
+}
+
+// A page mapped to frame f over whatever stands there, and the frame zeroed.
+fn map_over(
+    words: &mut [u64],
+    bitmap: &mut [u64; 128],
+    frames: FrameAllocator,
+    root: Frame,
+    virt: VirtAddr,
+    f: u64,
+    writable: bool,
+    user: bool,
+) -> Entered
+    requires { ⌜ Roomy (memory (now words) (framesOf (now bitmap) frames)) 3 ⌝ }
+    requires { ⌜ inside (frames .start) (frames .total) f ≡ true ⌝ }
+    ensures { λ r. ⌜ out (r .walked) (memory (now (words .exit)) (framesOf (now (bitmap .exit)) (r .frames))) ≡ mapOver 3 (memory (now (words .entry)) (framesOf (now (bitmap .entry)) frames)) (root .0) (virt .0) f writable user ⌝ }
+{
+    let indices = entry::page_indices(virt);
+    let made = mapper::inner::make_tables(words, bitmap, frames, root, indices, 3, user);
+    let walked = made.walked;
+    let left = made.frames;
+    match walked {
+        Walked::Stop(n) => Entered {
+            walked: Walked::Stop(n),
+            frames: left,
+        },
+        Walked::At(t) => {
+            let e = PageTableEntry::set(PhysAddr(Frame(f).start_address()), writable, user);
+            Entered {
+                walked: put_over(words, left, t, indices[3], e.0, f),
+                frames: left,
+            }
+        }
+    }
+}
+
+// A page mapped to the lowest free frame.
+fn map_page(
+    words: &mut [u64],
+    bitmap: &mut [u64; 128],
+    frames: FrameAllocator,
+    root: Frame,
+    virt: VirtAddr,
+    writable: bool,
+    user: bool,
+) -> Entered
+    requires { ⌜ Roomy (memory (now words) (framesOf (now bitmap) frames)) 4 ⌝ }
+    ensures { λ r. ⌜ out (r .walked) (memory (now (words .exit)) (framesOf (now (bitmap .exit)) (r .frames))) ≡ mapNew 3 (memory (now (words .entry)) (framesOf (now (bitmap .entry)) frames)) (root .0) (virt .0) writable user ⌝ }
+{
+    let taken = inner::raw_frame(bitmap, frames);
+    let walked = taken.walked;
+    let left = taken.frames;
+    match walked {
+        Walked::Stop(n) => Entered {
+            walked: Walked::Stop(n),
+            frames: left,
+        },
+        Walked::At(f) => map_over(words, bitmap, left, root, virt, f, writable, user),
+    }
+}
+
+// The number for access that was denied to a page.
+fn refusal(code: u64) -> u64
+    ensures { λ r. ⌜ r ≡ refused code ⌝ }
+{
+    if error_code::is_write(code) {
+        return answer::WRITE_TO_READ_ONLY;
+    }
+    inner::denied(code)
+}
+
+// The second path, at a page.
+fn handle(
+    words: &mut [u64],
+    bitmap: &mut [u64; 128],
+    frames: FrameAllocator,
+    root: Frame,
+    page: VirtAddr,
+    code: u64,
+) -> Changed
+    requires { ⌜ Roomy (memory (now words) (framesOf (now bitmap) frames)) 4 ⌝ }
+    ensures { λ r. ⌜ r ≡ changed (handledSecond 3 (memory (now (words .entry)) (framesOf (now (bitmap .entry)) frames)) (root .0) (page .0) code) ⌝ }
+    ensures { λ r. ⌜ now (words .exit) ≡ handledSecond 3 (memory (now (words .entry)) (framesOf (now (bitmap .entry)) frames)) (root .0) (page .0) code .mem .words ⌝ }
+    ensures { λ r. ⌜ now (bitmap .exit) ≡ handledSecond 3 (memory (now (words .entry)) (framesOf (now (bitmap .entry)) frames)) (root .0) (page .0) code .mem .frames .bits ⌝ }
+{
+    if error_code::is_reserved(code) {
+        return Changed {
+            answer: Answer::Refused(answer::RESERVED_BIT),
+            frames,
+        };
+    }
+    if error_code::is_present(code) {
+        return Changed {
+            answer: Answer::Refused(refusal(code)),
+            frames,
+        };
+    }
+    let writable = error_code::is_write(code);
+    let user = error_code::is_user(code);
+    let r = map_page(words, bitmap, frames, root, page, writable, user);
+    let walked = r.walked;
+    let left = r.frames;
+    Changed {
+        answer: mapper::inner::as_answer(walked),
+        frames: left,
+    }
+}
+
+// The second path. 10, 5; access that was denied is 17, 7 or 8; else the page is mapped.
+pub fn handle_page_fault(
+    words: &mut [u64],
+    bitmap: &mut [u64; 128],
+    frames: FrameAllocator,
+    root: Frame,
+    addr: VirtAddr,
+    code: u64,
+) -> Changed
+    ensures { λ r. ⌜ r ≡ changed (handleFaultSecond 3 (memory (now (words .entry)) (framesOf (now (bitmap .entry)) frames)) (root .0) (addr .0) code) ⌝ }
+    ensures { λ r. ⌜ now (words .exit) ≡ handleFaultSecond 3 (memory (now (words .entry)) (framesOf (now (bitmap .entry)) frames)) (root .0) (addr .0) code .mem .words ⌝ }
+    ensures { λ r. ⌜ now (bitmap .exit) ≡ handleFaultSecond 3 (memory (now (words .entry)) (framesOf (now (bitmap .entry)) frames)) (root .0) (addr .0) code .mem .frames .bits ⌝ }
+{
+    if !mapper::is_whole(words, bitmap, frames, root) {
+        return Changed {
+            answer: Answer::Refused(answer::BROKEN_RECORD),
+            frames,
+        };
+    }
+    handle(words, bitmap, frames, root, cow::page_of(addr), code)
+}
