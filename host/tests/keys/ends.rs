@@ -50,7 +50,9 @@ fn trouble() -> Result<PathBuf, String> {
         .arg("host/tests/keys/trouble.c")
         .output();
     match built {
-        Ok(built) if built.status.success() => fs::canonicalize(library).map_err(|why| why.to_string()),
+        Ok(built) if built.status.success() => {
+            fs::canonicalize(library).map_err(|why| why.to_string())
+        }
         Ok(built) => Err(String::from_utf8_lossy(&built.stderr).into_owned()),
         Err(why) => Err(format!("cc: {why}")),
     }
@@ -126,7 +128,13 @@ impl Tests {
 
     fn short(&self) -> Outcome {
         let whole = key(&self.long)?;
-        for asked in [("READ_MOST", 1), ("READ_MOST", 25), ("READ_MOST", 27), ("WRITE_MOST", 7), ("WRITE_MOST", 4097)] {
+        for asked in [
+            ("READ_MOST", 1),
+            ("READ_MOST", 25),
+            ("READ_MOST", 27),
+            ("WRITE_MOST", 7),
+            ("WRITE_MOST", 4097),
+        ] {
             let mut command = self.troubled(self.program(), &[asked]);
             let ended = run(&mut command, Input::Bytes(self.long.clone()), None, LIMIT)?;
             holds(ended.stdout == whole, &format!("the whole key with {asked:?}"))?;
@@ -170,9 +178,13 @@ impl Tests {
     }
 
     fn endless(&self) -> Outcome {
-        let ended = run(&mut self.program(), Input::Endless(worked_tape()), Some(1_000_000), LIMIT)?;
+        let ended =
+            run(&mut self.program(), Input::Endless(worked_tape()), Some(1_000_000), LIMIT)?;
         equal(ended.code(), 128 + 13)?;
-        holds(ended.stdout.starts_with(key(&worked_tape())?.trim_end_matches("frames 9\n")), "the key's start")?;
+        holds(
+            ended.stdout.starts_with(key(&worked_tape())?.trim_end_matches("frames 9\n")),
+            "the key's start",
+        )?;
         // A malformed call ends the run, however much comes behind it.
         let ended = run(&mut self.program(), Input::Endless(vec![9; 4096]), None, LIMIT)?;
         equal(ended.stdout.as_str(), "tape 0\nframes 1\n")
@@ -197,7 +209,10 @@ impl Tests {
             equal((ended.code(), ended.stdout.as_str()), (1, ""))?;
             holds(ended.stderr.contains(told) && ended.stderr.lines().count() == 1, told)?;
         }
-        let closed = [("exec ./run <&-", "standard input is closed"), ("exec ./run >&-", "standard output is closed")];
+        let closed = [
+            ("exec ./run <&-", "standard input is closed"),
+            ("exec ./run >&-", "standard output is closed"),
+        ];
         for (text, told) in closed {
             let ended = run(&mut self.shell(text), Input::Bytes(worked_tape()), None, LIMIT)?;
             equal((ended.code(), ended.stdout.as_str()), (1, ""))?;
@@ -228,7 +243,8 @@ impl Tests {
         let tape = worked_tape();
         let whole = key(&tape)?;
         fs::write("target/host/tape", &tape).map_err(|why| why.to_string())?;
-        let open = || File::open("target/host/tape").map(Stdio::from).map_err(|why| why.to_string());
+        let open =
+            || File::open("target/host/tape").map(Stdio::from).map_err(|why| why.to_string());
         let mut elsewhere = Command::new("../../run");
         elsewhere.arg("tape").current_dir("target/host").stdout(Stdio::piped());
         for (mut command, input) in [
@@ -266,21 +282,37 @@ impl Tests {
         let ended = run(&mut self.run(&[]), Input::Open(folder.into()), None, LIMIT_OF_RUN)?;
         equal((ended.code(), ended.stdout.as_str()), (1, ""))?;
         holds(ended.stderr.contains(UNREAD), "a message")?;
-        for asked in [[("READ_MOST", 1000), ("READ_FAILS", 9)], [("WRITE_MOST", 5000), ("WRITE_FAILS", 2)]] {
+        for asked in
+            [[("READ_MOST", 1000), ("READ_FAILS", 9)], [("WRITE_MOST", 5000), ("WRITE_FAILS", 2)]]
+        {
             let mut command = self.troubled(self.run(&[]), &asked);
             let ended = run(&mut command, Input::Bytes(self.long.clone()), None, LIMIT_OF_RUN)?;
-            holds(ended.code() == 1 && !ended.stdout.contains("frames"), "status 1 and no last line")?;
-            holds(ended.stderr.contains("key: ") && ended.stderr.contains("run: the key is not whole"), "a message")?;
+            holds(
+                ended.code() == 1 && !ended.stdout.contains("frames"),
+                "status 1 and no last line",
+            )?;
+            holds(
+                ended.stderr.contains("key: ")
+                    && ended.stderr.contains("run: the key is not whole"),
+                "a message",
+            )?;
         }
         let full = File::create("/dev/full").map_err(|why| why.to_string())?;
-        let ended = run(self.run(&[]).stdout(full), Input::Bytes(worked_tape()), None, LIMIT_OF_RUN)?;
-        holds(ended.code() == 1 && ended.stderr.contains("run: the key is not whole"), "status 1 on a full device")
+        let ended =
+            run(self.run(&[]).stdout(full), Input::Bytes(worked_tape()), None, LIMIT_OF_RUN)?;
+        holds(
+            ended.code() == 1 && ended.stderr.contains("run: the key is not whole"),
+            "status 1 on a full device",
+        )
     }
 
     fn run_cut(&self) -> Outcome {
         for input in [Input::Bytes(self.long.repeat(40)), Input::Endless(worked_tape())] {
             let ended = run(&mut self.run(&[]), input, Some(100), LIMIT_OF_RUN)?;
-            holds(ended.code() != 0 && ended.stderr.contains("run: the key is not whole"), "a status that is not 0")?;
+            holds(
+                ended.code() != 0 && ended.stderr.contains("run: the key is not whole"),
+                "a status that is not 0",
+            )?;
         }
         Ok(())
     }

@@ -31,7 +31,12 @@ impl Ended {
 
 /// Runs a program until it ends, or says that it did not within the seconds given. With `cut`, its standard output is closed once that
 /// many bytes are read.
-pub fn run(command: &mut Command, input: Input, cut: Option<usize>, seconds: u64) -> Result<Ended, String> {
+pub fn run(
+    command: &mut Command,
+    input: Input,
+    cut: Option<usize>,
+    seconds: u64,
+) -> Result<Ended, String> {
     let say = |why: std::io::Error| format!("the program cannot be run: {why}");
     let (bytes, endless) = match &input {
         Input::Bytes(bytes) => (bytes.clone(), false),
@@ -110,7 +115,11 @@ pub fn terminal() -> Result<(std::fs::File, std::fs::File), String> {
         }
         let mine = std::fs::File::from_raw_fd(fd);
         let name = CStr::from_ptr(ptsname(fd)).to_string_lossy().into_owned();
-        let open = std::fs::File::options().read(true).write(true).custom_flags(no_controlling).open(&name);
+        let open = std::fs::File::options()
+            .read(true)
+            .write(true)
+            .custom_flags(no_controlling)
+            .open(&name);
         Ok((mine, open.map_err(|why| format!("{name}: {why}"))?))
     }
 }
