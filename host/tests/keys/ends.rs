@@ -3,9 +3,10 @@
 use crate::process::{run, terminal, Ended, Input};
 use crate::report::{equal, holds, Report};
 use crate::{key, worked_tape, PROGRAM};
+use std::env;
 use std::fs::{self, File};
 use std::io::Write;
-use std::path::PathBuf;
+use std::path::{Path, PathBuf};
 use std::process::{Command, Stdio};
 
 /// Seconds within which a run must end. `./run` also asks `rt` whether all is proved.
@@ -222,19 +223,31 @@ impl Tests {
     }
 
     /// A file that may not be read; root may read any, so it is asked for as nobody, where that one may come here.
+    /// As nobody, if the tests are run by root, whom no permission stops. The script stands in a folder
+    /// that anyone may enter: it refuses such a tape before it looks at its own.
     fn run_without_permission(&self) -> Outcome {
         use std::os::unix::fs::PermissionsExt;
-        let tape = "target/host/not-readable";
-        let _ = fs::remove_file(tape);
-        fs::write(tape, worked_tape()).map_err(|why| why.to_string())?;
-        fs::set_permissions(tape, fs::Permissions::from_mode(0)).map_err(|why| why.to_string())?;
-        let nobody = "setpriv --reuid=65534 --regid=65534 --clear-groups";
+        let allow = |path: &Path, mode: u32| {
+            fs::set_permissions(path, fs::Permissions::from_mode(mode))
+                .map_err(|why| why.to_string())
+        };
+        let folder = env::temp_dir().join(format!("gadulnos-{}", std::process::id()));
+        let (script, tape) = (folder.join("run"), folder.join("tape"));
+        fs::create_dir_all(&folder).map_err(|why| why.to_string())?;
+        fs::copy("run", &script).map_err(|why| why.to_string())?;
+        fs::write(&tape, worked_tape()).map_err(|why| why.to_string())?;
+        allow(&folder, 0o755)?;
+        allow(&script, 0o755)?;
+        allow(&tape, 0)?;
         let text = format!(
-            "if [ \"$(id -u)\" != 0 ]; then exec ./run {tape}; \
-             elif {nobody} test -r run -a -x . -a -e {tape} 2>/dev/null; then exec {nobody} ./run {tape}; \
-             else echo \"run: '{tape}' may not be read\" >&2; exit 1; fi"
+            "nobody='setpriv --reuid=65534 --regid=65534 --clear-groups'; [ \"$(id -u)\" = 0 ] || nobody=; \
+             exec $nobody {} {}",
+            script.display(),
+            tape.display()
         );
-        let ended = run(&mut self.shell(&text), Input::Bytes(Vec::new()), None, LIMIT)?;
+        let ended = run(&mut self.shell(&text), Input::Bytes(Vec::new()), None, LIMIT);
+        let _ = fs::remove_dir_all(&folder);
+        let ended = ended?;
         equal((ended.code(), ended.stdout.as_str()), (1, ""))?;
         holds(ended.stderr.contains("may not be read"), "that the tape may not be read")
     }
