@@ -45,7 +45,7 @@ fn main() {
         report.tell(&format!("anything: {}", kind.name()), run(&options, stream, kind, &mut seen));
     }
     report.check("anything: an answer's two registers", every::registers());
-    let rounds = options.amount.div_ceil(30);
+    let rounds = options.amount / 30 + 1;
     report.tell("anything: every C function", every::run(&mut options.random(20), rounds));
     table::check(&mut report, &seen, options.amount);
     worst::check(&mut report);

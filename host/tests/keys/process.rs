@@ -104,7 +104,7 @@ pub fn terminal() -> Result<(std::fs::File, std::fs::File), String> {
         fn posix_openpt(flags: i32) -> i32;
         fn grantpt(fd: i32) -> i32;
         fn unlockpt(fd: i32) -> i32;
-        fn ptsname(fd: i32) -> *const std::ffi::c_char;
+        fn ptsname(fd: i32) -> *const std::os::raw::c_char;
     }
     // SAFETY: a new descriptor that nothing else owns, and a name that is copied before another call.
     unsafe {
