@@ -2,6 +2,7 @@ pub mod Lists
 pub mod Book
 pub mod Different
 pub mod Regions
+pub mod Paged
 pub mod Invariant
 pub mod Sound
 pub mod Kernel

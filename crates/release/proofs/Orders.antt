@@ -3,16 +3,18 @@ use Prim.Native.Nat.{ℕ, _/_}
 use mathlib.Core.Path.{_≡_, refl, sym, _∙_, ap, subst}
 use mathlib.Core.Bool.{Bool, true, false}
 use mathlib.Core.List.{List, [], _∷_, foldl, foldl-append, List·Memᴰ·not-nil, List·Permᴰ, List·Permᴰ·trans, Permᴰ·symm}
+use Rattle.bits.specs.Bit.{pick}
+use Rattle.release.specs.Levels.{up}
 use Rattle.paging.specs.Map.{Memory}
 use Rattle.paging.specs.Pages.{freePage}
 use Rattle.tree.proofs.Orders.{one-end}
 use Rattle.tree.proofs.Freeing.{freeAll, pages-end}
-use Rattle.tree.proofs.Runs.{free-pages}
+use Rattle.tree.proofs.Runs.{free-pages, free-all-tabled}
+use Rattle.regions.proofs.Tiles.{Apart, apart-merge}
 use Rattle.slots.specs.Slots.{every}
 use Rattle.regions.specs.declared.VMRegion.{VMRegion}
 use Rattle.regions.specs.Regions.{merge}
 use Rattle.regions.proofs.Merge.{freedAll, free-then, freed-comm}
-use Rattle.regions.proofs.Tiles.{Apart, apart-merged}
 use Rattle.mmap.specs.declared.MappedRegion.{MappedRegion}
 use Rattle.mmap.specs.Regions.{holds}
 use Rattle.mmap.proofs.Rising.{holds-nothing}
@@ -21,10 +23,11 @@ use Rattle.release.specs.Calls.{Call, after, events, isMet}
 use Rattle.release.specs.Demand3.{Region, kernels, users, startIs, sizeIs, Releases, by-vfree, by-munmap, EachReleased, done, next, Order, pagesOf, concat}
 use Rattle.release.proofs.Lists.{perm-concat, reordered}
 use Rattle.release.proofs.Regions.{UserList}
-use Rattle.release.proofs.Invariant.{Leftover, Inv, inv-perm, run-is}
+use Rattle.release.proofs.Paged.{run-is}
+use Rattle.release.proofs.Invariant.{Leftover, Inv, Tidy, inv-perm}
 use Rattle.release.proofs.Ends.{board, memoryAfter, kernelAfter, userAfter, Gave, kernel-gave, user-gave}
 
-gave : {b : Board} {k : List VMRegion} {u : List MappedRegion} {l : List Region} {ever : List ℕ} {left : Leftover} {r : Region} {c : Call} → Releases r c → Inv left b k u (r ∷ l) ever → Gave left b k u r l ever c
+gave : {b : Board} {k : List VMRegion} {u : List MappedRegion} {l : List Region} {left : Leftover} {r : Region} {c : Call} → Releases r c → Inv left b k u (r ∷ l) → Gave left b k u r l c
 gave (by-vfree {a = a} {n = n}) h = kernel-gave a n h
 gave (by-munmap {a = a} {n = n} {size = size} q) h = user-gave a n size q h
 
@@ -32,17 +35,17 @@ gave (by-munmap {a = a} {n = n} {size = size} q) h = user-gave a n size q h
 abbrev pub ended : Board → List VMRegion → List MappedRegion → List Region → Board
 ended b k u m = board b (foldl (memoryAfter (b .root)) (b .mem) m) (foldl kernelAfter k m) (foldl userAfter u m)
 
-pub record Ended (left : Leftover) (b : Board) (k : List VMRegion) (u : List MappedRegion) (m : List Region) (ever : List ℕ) (cs : List Call) : Type 0 where
+pub record Ended (left : Leftover) (b : Board) (k : List VMRegion) (u : List MappedRegion) (m : List Region) (cs : List Call) : Type 0 where
   pub met : every (λ e. isMet (e .answer)) (events b cs) ≡ true
   pub leaves : after b cs ≡ ended b k u m
-  pub inv : Inv left (ended b k u m) (foldl kernelAfter k m) (foldl userAfter u m) [] ever
+  pub inv : Inv left (ended b k u m) (foldl kernelAfter k m) (foldl userAfter u m) []
 
-pub end-of : {m : List Region} {cs : List Call} → EachReleased m cs → {b : Board} {k : List VMRegion} {u : List MappedRegion} {ever : List ℕ} {left : Leftover} → Inv left b k u m ever → Ended left b k u m ever cs
+pub end-of : {m : List Region} {cs : List Call} → EachReleased m cs → {b : Board} {k : List VMRegion} {u : List MappedRegion} {left : Leftover} → Inv left b k u m → Ended left b k u m cs
 unfolding after events every
-end-of done {b} {k} {u} {ever} {left} h =
+end-of done {b} {k} {u} {left} h =
     let same : b ≡ board b (b .mem) k u = λ i. record { mem = b .mem; root = b .root; kernel = h .kernelIs i; user = h .userIs i; next = b .next; marked = b .marked } in
-    record { met = refl; leaves = same; inv = subst (λ (x : Board). Inv left x k u [] ever) same h }
-end-of (next {r = r} {c = c} {cs = cs} x xs) {b} {k} {u} {ever} {left} h =
+    record { met = refl; leaves = same; inv = subst (λ (x : Board). Inv left x k u []) same h }
+end-of (next {r = r} {c = c} {cs = cs} x xs) {b} {k} {u} {left} h =
     let g = gave x h in
     let e = end-of xs (g .inv) in
     record {
@@ -53,37 +56,46 @@ end-of (next {r = r} {c = c} {cs = cs} x xs) {b} {k} {u} {ever} {left} h =
 
 -- ---- the memory
 
-memory-end : (root : ℕ) (m : List Region) (x : Memory) → foldl (memoryAfter root) x m ≡ freeAll 3 root x (concat pagesOf m)
+memory-end : (root : ℕ) (m : List Region) (x : Memory) → foldl (memoryAfter root) x m ≡ freeAll up root x (concat pagesOf m)
 unfolding concat
 memory-end root [] x = refl
 memory-end root (r ∷ m) x =
     memory-end root m (memoryAfter root x r)
-    ∙ ap (λ (y : Memory). freeAll 3 root y (concat pagesOf m)) (free-pages 3 root (sizeIs r / 4096) x (startIs r) ∙ ap (freeAll 3 root x) (run-is (startIs r) (sizeIs r / 4096)))
-    ∙ sym (foldl-append (λ (y : Memory) (v : ℕ). freePage 3 y root v) x (pagesOf r) (concat pagesOf m))
+    ∙ ap (λ (y : Memory). freeAll up root y (concat pagesOf m)) (free-pages up root (sizeIs r / 4096) x (startIs r) ∙ ap (freeAll up root x) (run-is (startIs r) (sizeIs r / 4096)))
+    ∙ sym (foldl-append (λ (y : Memory) (v : ℕ). freePage up y root v) x (pagesOf r) (concat pagesOf m))
 
 -- ---- the kernel's list
 
-abbrev freedRegion : List VMRegion → Region → List VMRegion
-freedRegion k (kernels a n) = freedAll a k
-freedRegion k (users a n) = k
+-- regions freed one after the other, and merged at the end if there was one
+abbrev freedRegion : Bool × List VMRegion → Region → Bool × List VMRegion
+freedRegion s (kernels a n) = (true, freedAll a (s .1))
+freedRegion s (users a n) = s
 
-kernel-from : (m : List Region) (k : List VMRegion) → foldl kernelAfter (merge k) m ≡ merge (foldl freedRegion k m)
-kernel-from [] k = refl
-kernel-from (kernels a n ∷ m) k = ap (λ (x : List VMRegion). foldl kernelAfter x m) (free-then a k) ∙ kernel-from m (freedAll a k)
-kernel-from (users a n ∷ m) k = kernel-from m k
+abbrev mergedIf : Bool × List VMRegion → List VMRegion
+mergedIf s = pick (s .0) (merge (s .1)) (s .1)
 
-kernel-end : (m : List Region) (k : List VMRegion) → Apart k → foldl kernelAfter k m ≡ merge (foldl freedRegion k m)
-kernel-end m k h = ap (λ (x : List VMRegion). foldl kernelAfter x m) (sym (apart-merged k h)) ∙ kernel-from m k
+kernel-next : (s : Bool × List VMRegion) (r : Region) → kernelAfter (mergedIf s) r ≡ mergedIf (freedRegion s r)
+kernel-next s (kernels a n) = by (s .0)
+  where
+    by : (x : Bool) → merge (freedAll a (pick x (merge (s .1)) (s .1))) ≡ merge (freedAll a (s .1))
+    by true = free-then a (s .1)
+    by false = refl
+kernel-next s (users a n) = refl
 
-regions-commute : (k : List VMRegion) (r s : Region) → Unit {0} → freedRegion (freedRegion k r) s ≡ freedRegion (freedRegion k s) r
-regions-commute k (kernels a n) (kernels c m) _ = freed-comm c a k
-regions-commute k (kernels a n) (users c m) _ = refl
-regions-commute k (users a n) (kernels c m) _ = refl
-regions-commute k (users a n) (users c m) _ = refl
+kernel-end : (m : List Region) (s : Bool × List VMRegion) → foldl kernelAfter (mergedIf s) m ≡ mergedIf (foldl freedRegion s m)
+kernel-end [] s = refl
+kernel-end (r ∷ m) s = ap (λ (x : List VMRegion). foldl kernelAfter x m) (kernel-next s r) ∙ kernel-end m (freedRegion s r)
 
-kernels-alike : {m m′ : List Region} → List·Permᴰ m m′ → (k : List VMRegion) → Apart k → foldl kernelAfter k m ≡ foldl kernelAfter k m′
-kernels-alike {m} {m′} d k h =
-    kernel-end m k h ∙ ap merge (one-end freedRegion (λ _. Unit {0}) (λ _ _ _. tt) regions-commute d k tt) ∙ sym (kernel-end m′ k h)
+regions-commute : (s : Bool × List VMRegion) (r q : Region) → Unit {0} → freedRegion (freedRegion s r) q ≡ freedRegion (freedRegion s q) r
+regions-commute s (kernels a n) (kernels c m) _ = λ i. (true, freed-comm c a (s .1) i)
+regions-commute s (kernels a n) (users c m) _ = refl
+regions-commute s (users a n) (kernels c m) _ = refl
+regions-commute s (users a n) (users c m) _ = refl
+
+-- two free neighbours that a refused vmalloc left are merged by every order with a release of the kernel's, and by none without
+kernels-alike : {m m′ : List Region} → List·Permᴰ m m′ → (k : List VMRegion) → foldl kernelAfter k m ≡ foldl kernelAfter k m′
+kernels-alike {m} {m′} d k =
+    kernel-end m (false, k) ∙ ap mergedIf (one-end freedRegion (λ _. Unit {0}) (λ _ _ _. tt) regions-commute d (false, k) tt) ∙ sym (kernel-end m′ (false, k))
 
 -- ---- the user's list
 
@@ -96,8 +108,8 @@ user-empty {u} h = holds-nothing u (λ a n. by a n (holds a n u) refl)
 
 -- ---- every two orders
 
-module _ {b : Board} {k : List VMRegion} {u : List MappedRegion} {l : List Region} {ever : List ℕ} {left : Leftover} (h : Inv left b k u l ever) where
-  pub order-end : {cs : List Call} (o : Order l cs) → Ended left b k u (o .0) ever cs
+module _ {b : Board} {k : List VMRegion} {u : List MappedRegion} {l : List Region} {left : Leftover} (h : Inv left b k u l) where
+  pub order-end : {cs : List Call} (o : Order l cs) → Ended left b k u (o .0) cs
   order-end o = end-of (o .2) (inv-perm (reordered (o .1)) h)
 
   pub one-board : {cs cs′ : List Call} → Order l cs → Order l cs′ → after b cs ≡ after b cs′
@@ -106,6 +118,20 @@ module _ {b : Board} {k : List VMRegion} {u : List MappedRegion} {l : List Regio
       let e = order-end o in
       let e′ = order-end o′ in
       let mem = memory-end (b .root) (o .0) (b .mem) ∙ pages-end (h .paged .account .order) (perm-concat pagesOf d) ∙ sym (memory-end (b .root) (o′ .0) (b .mem)) in
-      let ker = kernels-alike d k (h .kernelList .apart) in
+      let ker = kernels-alike d k in
       let maps = user-empty (e .inv .userList) ∙ sym (user-empty (e′ .inv .userList)) in
       e .leaves ∙ (λ i. board b (mem i) (ker i) (maps i)) ∙ sym (e′ .leaves)
+
+-- ---- and what holds besides while no call was turned away with 11 or 13
+
+kernels-apart : (m : List Region) (k : List VMRegion) → Apart k → Apart (foldl kernelAfter k m)
+kernels-apart [] k h = h
+kernels-apart (kernels a n ∷ m) k h = kernels-apart m (merge (freedAll a k)) (apart-merge (freedAll a k))
+kernels-apart (users a n ∷ m) k h = kernels-apart m k h
+
+pub ended-tidy : {b : Board} {k : List VMRegion} {u : List MappedRegion} {l : List Region} {ever : List ℕ} {left : Leftover} → Inv left b k u l → Tidy b k ever → (m : List Region)
+    → Tidy (ended b k u m) (foldl kernelAfter k m) ever
+ended-tidy {b} {k} h t m = record {
+  apart = kernels-apart m k (t .apart);
+  tabled = rw (memory-end (b .root) m (b .mem)) (free-all-tabled (concat pagesOf m) (h .paged .account .order) (t .tabled));
+}

@@ -19,7 +19,6 @@ use Rattle.regions.specs.Regions.{windowStart, windowEnd, firstFit, takeFirst, 
 use Rattle.regions.proofs.Merge.{freedAll}
 use Rattle.regions.proofs.Rows.{Rows, rows-taken, length-taken, rows-freed, length-freed, rows-merge, length-merge}
 use Rattle.regions.proofs.Used.{used-merge, used-freed, used-gone, taken-used, taken-was-free, taken-others}
-use Rattle.regions.proofs.Tiles.{Apart, apart-taken, apart-merge}
 use Rattle.mmap.specs.declared.MappedRegion.{MappedRegion}
 use Rattle.mmap.specs.Regions.{region, starts, holds, insert, remove}
 use Rattle.regions.proofs.Placed.{Placed}
@@ -30,7 +29,6 @@ use Rattle.release.proofs.Lists.{Once}
 -- the kernel's list k, and the live regions l of the kernel
 pub record KernelList (k : List VMRegion) (l : List Region) : Type 0 where
   pub rows : Rows windowStart windowEnd k
-  pub apart : Apart k
   pub few : length k ≤ 256
   pub used : (a n : ℕ) → usedSize a k ≡ At n → List·Memᴰ (kernels a n) l
   pub live : (a n : ℕ) → List·Memᴰ (kernels a n) l → usedSize a k ≡ At n
@@ -71,7 +69,6 @@ pub kernel-take : (a n : ℕ) {k : List VMRegion} {l : List Region} → n % 4096
     → KernelList (takeFirst true n (ltb (length k) 256) k) (kernels a n ∷ l)
 kernel-take a n {k} {l} full pos h f = record {
   rows = rows-taken true n room full pos windowStart windowEnd k (h .rows);
-  apart = apart-taken n room k (h .apart);
   few = short room refl;
   used = λ b m e. by b m e (ℕ-discrete b a);
   live = λ b m e. ⊎-elim
@@ -99,7 +96,6 @@ kernel-take a n {k} {l} full pos h f = record {
 pub kernel-give : (a n : ℕ) {k : List VMRegion} {l : List Region} → KernelList k (kernels a n ∷ l) → Once (kernels a n ∷ l) → KernelList (merge (freedAll a k)) l
 kernel-give a n {k} {l} h o = record {
   rows = rows-merge windowStart windowEnd (freedAll a k) (rows-freed a windowStart windowEnd k (h .rows));
-  apart = apart-merge (freedAll a k);
   few = omega (arith, length-merge (freedAll a k), length-freed a k, h .few);
   used = λ b m e. by b m e (ℕ-discrete b a);
   live = λ b m e. used-merge b (freedAll a k) ∙ used-freed a b k (other b m e) ∙ h .live b m (List·Memᴰ·tail e);
@@ -120,7 +116,6 @@ kernel-give a n {k} {l} h o = record {
 pub kernel-more : (a n : ℕ) {k : List VMRegion} {l : List Region} → KernelList k l → KernelList k (users a n ∷ l)
 kernel-more a n h = record {
   rows = h .rows;
-  apart = h .apart;
   few = h .few;
   used = λ b m e. List·Memᴰ·tail (h .used b m e);
   live = λ b m e. ⊎-elim (λ q. absurd (two-kinds q)) (λ q. h .live b m q) (List·Memᴰ·cases-cons e);
@@ -129,7 +124,6 @@ kernel-more a n h = record {
 pub kernel-fewer : (a n : ℕ) {k : List VMRegion} {l : List Region} → KernelList k (users a n ∷ l) → KernelList k l
 kernel-fewer a n h = record {
   rows = h .rows;
-  apart = h .apart;
   few = h .few;
   used = λ b m e. ⊎-elim (λ q. absurd (two-kinds q)) (λ q. q) (List·Memᴰ·cases-cons (h .used b m e));
   live = λ b m e. h .live b m (List·Memᴰ·tail e);

@@ -1,5 +1,5 @@
 -- The invariant along a list of calls, from a fresh board on.
-use Prim.Native.Nat.{ℕ, _+_, _-_, _*_, _/_, _^_, _<_, _≤_, min}
+use Prim.Native.Nat.{ℕ, suc, _+_, _-_, _*_, _/_, _^_, _<_, _≤_, min}
 use mathlib.Core.Path.{_≡_, refl, sym, ap, subst}
 use mathlib.Core.Bool.{Bool, true, false, not, false≢true}
 use mathlib.Core.List.{List, [], _∷_, List·Memᴰ·not-nil}
@@ -13,10 +13,12 @@ use Rattle.allocator.specs.Round.{roundUp}
 use Rattle.answer.specs.Numbers.{brokenRecord, noFreeFrame}
 use Rattle.frame.proofs.Steps.{span-with}
 use Rattle.frame.specs.Frames.{withMark}
+use Rattle.release.specs.Levels.{up}
 use Rattle.paging.specs.Map.{memory, zeroFrame}
 use Rattle.paging.specs.declared.Walked.{Walked}
 use Rattle.paging.specs.declared.Walked.the-variants.{At, Stop}
-use Rattle.tree.proofs.Books.{bare-live, bare-tabled}
+use Rattle.tree.proofs.Ordered.{reachIn}
+use Rattle.tree.proofs.Books.{Tabled, bare-live, bare-tabled}
 use Rattle.tree.proofs.Start.{unused, fresh-accounted, fresh-plain, fresh-only}
 use Rattle.slots.specs.Slots.{every}
 use Rattle.regions.specs.declared.VMRegion.{VMRegion}
@@ -28,9 +30,10 @@ use Rattle.board.proofs.Outcomes.{start-cases}
 use Rattle.release.specs.Calls.{Call, vmallocs, vfrees, mmaps, munmaps, play, after, Event, events, turnedAway}
 use Rattle.release.specs.Demand3.{noneTurnedAway, Region, liveStep, liveFrom, bookStep, bookFrom}
 use Rattle.release.proofs.Regions.{KernelList, UserList}
-use Rattle.release.proofs.Invariant.{Leftover, nothingLeft, Paged, Inv}
-use Rattle.release.proofs.Kernel.{morePages, vmalloc-step, vfree-step}
-use Rattle.release.proofs.User.{mmap-step, munmap-step}
+use Rattle.release.proofs.Paged.{Paged}
+use Rattle.release.proofs.Invariant.{Leftover, nothingLeft, Inv, Tidy}
+use Rattle.release.proofs.Kernel.{morePages, vmalloc-step, vfree-step, vmalloc-tidy, vfree-tidy}
+use Rattle.release.proofs.User.{mmap-step, munmap-step, mmap-tidy, munmap-tidy}
 
 -- the pages ever mapped, call by call
 abbrev pub everStep : List ℕ → Call → Walked → List ℕ
@@ -44,17 +47,25 @@ everFrom ever [] = ever
 everFrom ever (e ∷ es) = everFrom (everStep ever (e .call) (e .answer)) es
 
 -- one call
-pub step : {b : Board} {k : List VMRegion} {u : List MappedRegion} {l : List Region} {ever : List ℕ} {left : Leftover} → Inv left b k u l ever → (c : Call) → turnedAway (play b c .answer) ≡ false
-    → (u′ : List MappedRegion) × Inv left (play b c .board) (bookStep k c (play b c .answer)) u′ (liveStep l c (play b c .answer)) (everStep ever c (play b c .answer))
+pub step : {b : Board} {k : List VMRegion} {u : List MappedRegion} {l : List Region} {left : Leftover} → Inv left b k u l → (c : Call) → turnedAway (play b c .answer) ≡ false
+    → (u′ : List MappedRegion) × Inv left (play b c .board) (bookStep k c (play b c .answer)) u′ (liveStep l c (play b c .answer))
 unfolding play
 step {u = u} h (vmallocs size) e = (u, vmalloc-step h size e)
 step {u = u} h (vfrees a) e = (u, vfree-step h a)
 step h (mmaps wish size prot flags) e = mmap-step h wish size prot flags e
 step h (munmaps a size) e = munmap-step h a size
 
+pub tidy-step : {b : Board} {k : List VMRegion} {u : List MappedRegion} {l : List Region} {ever : List ℕ} {left : Leftover} → Inv left b k u l → Tidy b k ever
+    → (c : Call) → turnedAway (play b c .answer) ≡ false → Tidy (play b c .board) (bookStep k c (play b c .answer)) (everStep ever c (play b c .answer))
+unfolding play
+tidy-step h t (vmallocs size) e = vmalloc-tidy h t size e
+tidy-step h t (vfrees a) e = vfree-tidy h t a
+tidy-step h t (mmaps wish size prot flags) e = mmap-tidy h t wish size prot flags e
+tidy-step h t (munmaps a size) e = munmap-tidy h t a size
+
 -- a list of calls
-pub run-inv : (cs : List Call) {b : Board} {k : List VMRegion} {u : List MappedRegion} {l : List Region} {ever : List ℕ} {left : Leftover} → Inv left b k u l ever → noneTurnedAway (events b cs) ≡ true
-    → (u′ : List MappedRegion) × Inv left (after b cs) (bookFrom k (events b cs)) u′ (liveFrom l (events b cs)) (everFrom ever (events b cs))
+pub run-inv : (cs : List Call) {b : Board} {k : List VMRegion} {u : List MappedRegion} {l : List Region} {left : Leftover} → Inv left b k u l → noneTurnedAway (events b cs) ≡ true
+    → (u′ : List MappedRegion) × Inv left (after b cs) (bookFrom k (events b cs)) u′ (liveFrom l (events b cs))
 unfolding after events bookFrom liveFrom every
 run-inv [] {u = u} h e = (u, h)
 run-inv (c ∷ cs) {b} h e =
@@ -62,13 +73,21 @@ run-inv (c ∷ cs) {b} h e =
     let s = step h c (not-true (turnedAway (play b c .answer)) (r .0)) in
     run-inv cs (s .1) (r .1)
 
+pub run-tidy : (cs : List Call) {b : Board} {k : List VMRegion} {u : List MappedRegion} {l : List Region} {ever : List ℕ} {left : Leftover} → Inv left b k u l → Tidy b k ever
+    → noneTurnedAway (events b cs) ≡ true → Tidy (after b cs) (bookFrom k (events b cs)) (everFrom ever (events b cs))
+unfolding after events bookFrom every
+run-tidy [] h t e = t
+run-tidy (c ∷ cs) {b} h t e =
+    let r = both-true (not (turnedAway (play b c .answer))) _ e in
+    let q = not-true (turnedAway (play b c .answer)) (r .0) in
+    run-tidy cs (step h c q .1) (tidy-step h t c q) (r .1)
+
 -- ---- a fresh board
 
 fresh-kernel : KernelList (window ∷ []) []
 unfolding usedSize
 fresh-kernel = record {
   rows = (record { from = omega arith; even = refl; whole = refl; some = omega arith }, omega arith);
-  apart = tt;
   few = omega arith;
   used = λ a n e. absurd (unused (eqb windowStart a) a n e);
   live = λ a n m. absurd (List·Memᴰ·not-nil m);
@@ -95,15 +114,21 @@ refused n a c e = apart (ap (λ (d : Did). d .answer) e)
     apart q = let z : _≡_ {A = ℕ} 0 1 = cc in omega arith
 
 module _ (old : Board) (s t : ℕ) (some : 0 < t) (few : t ≤ 8192) (enough : t * 512 ≤ length (old .mem .words)) (low : s + t ≤ 2 ^ 40) where
-  begun-inv : Inv nothingLeft (begun old s (withMark (unused s t) 0)) (window ∷ []) [] [] []
+  from-first : s ≡ withMark (unused s t) 0 .fa .start
+  from-first = sym (span-with (unused s t) 0 .start)
+
+  -- only the root is reached
+  root-only : (p : List ℕ) (f : ℕ) → reachIn (memory (zeroFrame (old .mem .words) s s) (withMark (unused s t) 0)) s p ≡ At f → p ≡ []
+  root-only p f e = fresh-only (old .mem .words) s t (suc up) some few enough low p f e .0
+
+  begun-inv : Inv nothingLeft (begun old s (withMark (unused s t) 0)) (window ∷ []) [] []
   begun-inv = record {
-    paged = subst (λ (x : ℕ). Paged (memory (zeroFrame (old .mem .words) x s) (withMark (unused s t) 0)) s [] [] []) first (record {
-      account = fresh-accounted (old .mem .words) s t 4 some few enough low;
-      plain = fresh-plain (old .mem .words) s t 4 some few enough low;
-      live = bare-live (λ p f e. fresh-only (old .mem .words) s t 4 some few enough low p f e .0);
-      tabled = bare-tabled (λ p f e. fresh-only (old .mem .words) s t 4 some few enough low p f e .0);
+    paged = subst (λ (x : ℕ). Paged up (memory (zeroFrame (old .mem .words) x s) (withMark (unused s t) 0)) s [] []) from-first (record {
+      account = fresh-accounted (old .mem .words) s t (suc up) some few enough low;
+      plain = fresh-plain (old .mem .words) s t (suc up) some few enough low;
+      live = bare-live root-only;
     });
-    first = first;
+    first = from-first;
     kernelIs = refl;
     kernelList = fresh-kernel;
     userIs = refl;
@@ -111,15 +136,26 @@ module _ (old : Board) (s t : ℕ) (some : 0 < t) (few : t ≤ 8192) (enough : t
     next = refl;
     once = tt;
   }
-    where
-      first : s ≡ withMark (unused s t) 0 .fa .start
-      first = sym (span-with (unused s t) 0 .start)
+
+  begun-tidy : Tidy (begun old s (withMark (unused s t) 0)) (window ∷ []) []
+  begun-tidy = record {
+    apart = tt;
+    tabled = subst (λ (x : ℕ). Tabled (memory (zeroFrame (old .mem .words) x s) (withMark (unused s t) 0)) s up []) from-first (bare-tabled root-only);
+  }
 
 -- 'what any met start leaves, whatever the lent record held before'
-pub fresh-inv : (old fresh : Board) (from to : ℕ) → start old from to ≡ did (At 0) fresh → Inv nothingLeft fresh (window ∷ []) [] [] []
-fresh-inv old fresh from to =
-    start-cases old from to (λ (d : Did). d ≡ did (At 0) fresh → Inv nothingLeft fresh (window ∷ []) [] [] [])
-    (λ le top some enough e. subst (λ (x : Board). Inv nothingLeft x (window ∷ []) [] [] []) (ap (λ (d : Did). d .board) e)
-    (begun-inv old (from / 4096) (min ((to - from) / 4096) 8192) some (omega arith) enough (omega arith)))
-    (λ e. absurd (refused brokenRecord old fresh e))
-    (λ e. absurd (refused noFreeFrame old fresh e))
+module _ (old fresh : Board) (from to : ℕ) where
+  begun-cases : (P : Board → Type 0)
+      → ((s t : ℕ) → 0 < t → t ≤ 8192 → t * 512 ≤ length (old .mem .words) → s + t ≤ 2 ^ 40 → P (begun old s (withMark (unused s t) 0)))
+      → start old from to ≡ did (At 0) fresh → P fresh
+  begun-cases P holds =
+      start-cases old from to (λ (d : Did). d ≡ did (At 0) fresh → P fresh)
+      (λ le top some enough e. subst P (ap (λ (d : Did). d .board) e) (holds (from / 4096) (min ((to - from) / 4096) 8192) some (omega arith) enough (omega arith)))
+      (λ e. absurd (refused brokenRecord old fresh e))
+      (λ e. absurd (refused noFreeFrame old fresh e))
+
+  pub fresh-inv : start old from to ≡ did (At 0) fresh → Inv nothingLeft fresh (window ∷ []) [] []
+  fresh-inv = begun-cases (λ x. Inv nothingLeft x (window ∷ []) [] []) (begun-inv old)
+
+  pub fresh-tidy : start old from to ≡ did (At 0) fresh → Tidy fresh (window ∷ []) []
+  fresh-tidy = begun-cases (λ x. Tidy x (window ∷ []) []) (begun-tidy old)

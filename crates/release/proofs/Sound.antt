@@ -35,7 +35,7 @@ unfolding soundMappings
 mappings-sound {u} next h e =
     rw (le-leb _ _ (h .few), listed-filled noUserSlot u, rising-test 0 u (h .rising), rising-placed 0 u (h .rising), eq-eqb (next % 4096) 0 e)
 
-module _ {b : Board} {k : List VMRegion} {u : List MappedRegion} {l : List Region} {ever : List ℕ} {left : Leftover} (h : Inv left b k u l ever) where
+module _ {b : Board} {k : List VMRegion} {u : List MappedRegion} {l : List Region} {left : Leftover} (h : Inv left b k u l) where
   pub kernel-sound : soundKernel (kernelOf b) (b .root) ≡ true
   kernel-sound = rw (ordered-whole (h .paged .account .order), h .kernelIs) (regions-sound (h .kernelList))
 

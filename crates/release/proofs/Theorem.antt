@@ -4,7 +4,7 @@ use mathlib.Core.Bool.{true}
 use mathlib.Core.Path.{_≡_, refl, sym, _∙_, ap, subst}
 use mathlib.Core.Logic.{_⊎_, inl, inr, ⊎-elim, ∥∥₁-elim}
 use mathlib.Core.HLevel.{⊥-prop}
-use mathlib.Core.List.{List, [], _∷_, foldl, List·Memᴰ, List·Memᴰ·head, List·Memᴰ·tail, List·Memᴰ·cases-cons, List·Memᴰ·not-nil, List·Memᴰ·append-cases, Memᴰ·append-left, Memᴰ·append-right, List·Nodup, nodup-nil, nodup-cons}
+use mathlib.Core.List.{List, [], _∷_, _++_, List·Memᴰ, List·Memᴰ·head, List·Memᴰ·tail, List·Memᴰ·cases-cons, List·Memᴰ·not-nil, List·Memᴰ·append-cases, Memᴰ·append-left, Memᴰ·append-right, List·Nodup, nodup-nil, nodup-cons}
 use native.Mathlib.Omega.{arith}
 use native.Mathlib.Decide.{ℕ-discrete}
 use lib.ListN.{length, take, length-take}
@@ -15,6 +15,7 @@ use Rattle.entry.proofs.Entry.{length-indices}
 use Rattle.frame.proofs.Laws.{inside-yes, inside-from, inside-under}
 use Rattle.bitmap.specs.Bitmap.{marked}
 use Rattle.allocator.specs.Round.{roundUp}
+use Rattle.release.specs.Levels.{up}
 use Rattle.paging.specs.declared.Walked.{Walked}
 use Rattle.paging.specs.declared.Walked.the-variants.{At, Stop}
 use Rattle.paging.specs.Walk.{reach}
@@ -32,13 +33,12 @@ use Rattle.regions.proofs.Rows.{Rows, rows-earlier}
 use Rattle.mmap.specs.declared.MappedRegion.{MappedRegion}
 use Rattle.board.specs.Board.{Board}
 use Rattle.release.specs.Calls.{Call, vmallocs, vfrees, mmaps, munmaps, after, Event, events}
-use Rattle.release.specs.Demand3.{bornBy, everLive, pagesFrom, pagesOf, runsOf, concat, leadingRuns, different, PageTable, book, neverCut, Ended, partsRise, BookHolds, BookRises, Demand3}
+use Rattle.release.specs.Demand3.{bornBy, everLive, pagesFrom, pagesOf, runsTo, runsOf, concat, leadingRuns, different, PageTable, book, neverCut, Ended, partsRise, BookHolds, BookRises, Demand3}
 use Rattle.release.proofs.Lists.{Once, concat-append, concat-member, member-concat}
 use Rattle.release.proofs.Different.{among-member, member-among, different-from, different-all, different-once}
-use Rattle.release.proofs.Invariant.{nothingLeft, Inv}
-use Rattle.release.proofs.Run.{everStep, everFrom, run-inv, fresh-inv}
-use Rattle.release.proofs.Ends.{kernelAfter, userAfter}
-use Rattle.release.proofs.Orders.{order-end, one-board}
+use Rattle.release.proofs.Invariant.{nothingLeft, Inv, Tidy}
+use Rattle.release.proofs.Run.{everStep, everFrom, run-inv, run-tidy, fresh-inv, fresh-tidy}
+use Rattle.release.proofs.Orders.{order-end, one-board, ended-tidy}
 use Rattle.release.proofs.Window.{whole-run, whole-window, whole-end, one-window}
 
 -- ---- the pages ever mapped are those of the regions ever live
@@ -85,73 +85,84 @@ pages-ever (e ∷ es) ever v m =
 
 -- ---- runs of leading indices
 
-run-lead : (v : ℕ) (p : List ℕ) → List·Memᴰ p (runsOf v) → Leads p (upper 3 v) × (1 ≤ length p)
-run-lead v p m = ⊎-elim (λ e. by 1 e (omega arith) (omega arith)) (λ m1. ⊎-elim (λ e. by 2 e (omega arith) (omega arith)) (λ m2. ⊎-elim (λ e. by 3 e (omega arith) (omega arith)) (λ m3. absurd (List·Memᴰ·not-nil m3)) (List·Memᴰ·cases-cons m2)) (List·Memᴰ·cases-cons m1)) (List·Memᴰ·cases-cons m)
+runs-to : (n : ℕ) (q p : List ℕ) → List·Memᴰ p (runsTo n q) → (j : ℕ) × (1 ≤ j) × (j ≤ n) × (p ≡ take j q)
+unfolding runsTo
+runs-to zero q p m = absurd (List·Memᴰ·not-nil m)
+runs-to (suc n) q p m =
+    ⊎-elim (λ i. let r = runs-to n q p i in (r .0, r .1, omega (arith, r .2), r .3))
+    (λ i. (suc n, omega arith, omega arith, ⊎-elim (λ e. e) (λ x. absurd (List·Memᴰ·not-nil x)) (List·Memᴰ·cases-cons i))) (List·Memᴰ·append-cases (runsTo n q) m)
+
+to-runs : (n : ℕ) (q : List ℕ) (j : ℕ) → 1 ≤ j → j ≤ n → List·Memᴰ (take j q) (runsTo n q)
+unfolding runsTo
+to-runs zero q j ge le = absurd (omega arith)
+to-runs (suc n) q j ge le = by (ℕ-discrete j (suc n)) (to-runs n q j ge)
   where
-    by : (j : ℕ) → p ≡ take j (indices 4 v) → j ≤ 3 → 1 ≤ j → Leads p (upper 3 v) × (1 ≤ length p)
-    by j e le ge = (
-      subst (λ (x : List ℕ). Leads x (upper 3 v)) (sym (e ∙ sym (take-take j 3 (indices 4 v) le))) (take-leads j (upper 3 v)),
-      omega (arith, ap length e, length-take j (indices 4 v), length-indices 4 v),
+    by : Dec (j ≡ suc n) → (j ≤ n → List·Memᴰ (take j q) (runsTo n q)) → List·Memᴰ (take j q) (runsTo n q ++ (take (suc n) q ∷ []))
+    by (yes e) more = Memᴰ·append-right (runsTo n q) (List·Memᴰ·head (ap (λ (x : ℕ). take x q) e))
+    by (no d) more = Memᴰ·append-left (take (suc n) q ∷ []) (more (omega arith))
+
+-- those of a page are the leading runs of the indices above its last, but the empty one
+run-lead : (v : ℕ) (p : List ℕ) → List·Memᴰ p (runsOf v) → Leads p (upper up v) × (1 ≤ length p)
+run-lead v p m =
+    let r = runs-to up (indices (suc up) v) p m in
+    let j = r .0 in (
+      subst (λ (x : List ℕ). Leads x (upper up v)) (sym (r .3 ∙ sym (take-take j up (indices (suc up) v) (r .2)))) (take-leads j (upper up v)),
+      omega (arith, r .1, r .2, ap length (r .3), length-take j (indices (suc up) v), length-indices (suc up) v),
     )
 
-lead-run : (v : ℕ) (p : List ℕ) → Leads p (upper 3 v) → 1 ≤ length p → List·Memᴰ p (runsOf v)
-lead-run v p d ge = by (length p) refl (leads-take d) (leads-length d)
-  where
-    by : (j : ℕ) → length p ≡ j → p ≡ take (length p) (upper 3 v) → length p ≤ length (upper 3 v) → List·Memᴰ p (runsOf v)
-    by zero e q le = absurd (omega arith)
-    by (suc zero) e q le = List·Memᴰ·head (q ∙ ap (λ (x : ℕ). take x (upper 3 v)) e ∙ take-take 1 3 (indices 4 v) (omega arith))
-    by (suc (suc zero)) e q le = List·Memᴰ·tail (List·Memᴰ·head (q ∙ ap (λ (x : ℕ). take x (upper 3 v)) e ∙ take-take 2 3 (indices 4 v) (omega arith)))
-    by (suc (suc (suc zero))) e q le = List·Memᴰ·tail (List·Memᴰ·tail (List·Memᴰ·head (q ∙ ap (λ (x : ℕ). take x (upper 3 v)) e ∙ take-take 3 3 (indices 4 v) (omega arith))))
-    by (suc (suc (suc (suc j)))) e q le = absurd (omega (arith, length-upper 3 v))
+lead-run : (v : ℕ) (p : List ℕ) → Leads p (upper up v) → 1 ≤ length p → List·Memᴰ p (runsOf v)
+lead-run v p d ge =
+    let le : length p ≤ up = omega (arith, leads-length d, length-upper up v) in
+    subst (λ (x : List ℕ). List·Memᴰ x (runsOf v)) (sym (leads-take d ∙ take-take (length p) up (indices (suc up) v) le)) (to-runs up (indices (suc up) v) (length p) ge le)
 
 -- ---- a board with no live region
 
-module _ {x : Board} {k : List VMRegion} {u : List MappedRegion} (es : List Event) (h : Inv nothingLeft x k u [] (everFrom [] es)) where
-  none-live : Live (x .mem) (x .root) 3 []
+module _ {x : Board} {k : List VMRegion} {u : List MappedRegion} (es : List Event) (h : Inv nothingLeft x k u []) (t : Tidy x k (everFrom [] es)) where
+  none-live : Live (x .mem) (x .root) up []
   none-live = h .paged .live
 
-  ordered : Ordered (x .mem) (x .root) 4
+  ordered : Ordered (x .mem) (x .root) (suc up)
   ordered = h .paged .account .order
 
   -- its page tables are the leading runs
-  table-run : (p : List ℕ) (f : ℕ) → 1 ≤ length p → length p ≤ 3 → reachIn (x .mem) (x .root) p ≡ At f → List·Memᴰ p (leadingRuns es)
+  table-run : (p : List ℕ) (f : ℕ) → 1 ≤ length p → length p ≤ up → reachIn (x .mem) (x .root) p ≡ At f → List·Memᴰ p (leadingRuns es)
   table-run p f ge le r =
-      let t = h .paged .tabled .tables p f ge le r in
-      let v : List·Memᴰ (t .0) (concat pagesOf (everLive es)) = ⊎-elim (λ q. absurd (List·Memᴰ·not-nil q)) (λ q. q) (ever-pages es [] (t .0) (t .1)) in
-      member-concat runsOf p (t .0) (concat pagesOf (everLive es)) v (lead-run (t .0) p (t .2) ge)
+      let w = t .tabled .tables p f ge le r in
+      let v : List·Memᴰ (w .0) (concat pagesOf (everLive es)) = ⊎-elim (λ q. absurd (List·Memᴰ·not-nil q)) (λ q. q) (ever-pages es [] (w .0) (w .1)) in
+      member-concat runsOf p (w .0) (concat pagesOf (everLive es)) v (lead-run (w .0) p (w .2) ge)
 
-  run-table : (p : List ℕ) → List·Memᴰ p (leadingRuns es) → (f : ℕ) × (reachIn (x .mem) (x .root) p ≡ At f) × (1 ≤ length p) × (length p ≤ 3)
+  run-table : (p : List ℕ) → List·Memᴰ p (leadingRuns es) → (f : ℕ) × (reachIn (x .mem) (x .root) p ≡ At f) × (1 ≤ length p) × (length p ≤ up)
   run-table p m =
       let c = concat-member runsOf p (concat pagesOf (everLive es)) m in
       let d = run-lead (c .0) p (c .2) in
-      let t = h .paged .tabled .runs (c .0) (pages-ever es [] (c .0) (inr (c .1))) p (d .0) in
-      (t .0, t .1, d .1, omega (arith, leads-length (d .0), length-upper 3 (c .0)))
+      let w = t .tabled .runs (c .0) (pages-ever es [] (c .0) (inr (c .1))) p (d .0) in
+      (w .0, w .1, d .1, omega (arith, leads-length (d .0), length-upper up (c .0)))
 
-  -- no path of four indices is reached
-  no-page : (p : List ℕ) (f : ℕ) → length p ≡ 4 → reachIn (x .mem) (x .root) p ≡ At f → ⊥
+  -- no whole path is reached
+  no-page : (p : List ℕ) (f : ℕ) → length p ≡ suc up → reachIn (x .mem) (x .root) p ≡ At f → ⊥
   no-page p f e r = List·Memᴰ·not-nil (none-live .only p f e r .1)
 
   -- the root and the tables are all that is reached
-  all-reached : (p : List ℕ) (f : ℕ) → length p ≤ 4 → reachIn (x .mem) (x .root) p ≡ At f → List·Memᴰ p ([] ∷ different (leadingRuns es))
+  all-reached : (p : List ℕ) (f : ℕ) → length p ≤ suc up → reachIn (x .mem) (x .root) p ≡ At f → List·Memᴰ p ([] ∷ different (leadingRuns es))
   all-reached [] f le r = List·Memᴰ·head refl
-  all-reached (i ∷ p) f le r = List·Memᴰ·tail (different-all (i ∷ p) (leadingRuns es) (by (ℕ-discrete (length (i ∷ p)) 4)))
+  all-reached (i ∷ p) f le r = List·Memᴰ·tail (different-all (i ∷ p) (leadingRuns es) (by (ℕ-discrete (length (i ∷ p)) (suc up))))
     where
-      by : Dec (length (i ∷ p) ≡ 4) → List·Memᴰ (i ∷ p) (leadingRuns es)
+      by : Dec (length (i ∷ p) ≡ suc up) → List·Memᴰ (i ∷ p) (leadingRuns es)
       by (yes e) = absurd (no-page (i ∷ p) f e r)
       by (no d) = table-run (i ∷ p) f (omega arith) (omega arith) r
 
-  each-reached : (p : List ℕ) → List·Memᴰ p ([] ∷ different (leadingRuns es)) → (f : ℕ) × (length p ≤ 4) × (reachIn (x .mem) (x .root) p ≡ At f)
+  each-reached : (p : List ℕ) → List·Memᴰ p ([] ∷ different (leadingRuns es)) → (f : ℕ) × (length p ≤ suc up) × (reachIn (x .mem) (x .root) p ≡ At f)
   unfolding reach
   each-reached p m =
       ⊎-elim (λ e. (x .root, omega (arith, ap length e), ap (reachIn (x .mem) (x .root)) e))
-      (λ q. let t = run-table p (different-from p (leadingRuns es) q) in (t .0, omega (arith, t .3), t .1)) (List·Memᴰ·cases-cons m)
+      (λ q. let w = run-table p (different-from p (leadingRuns es) q) in (w .0, omega (arith, w .3), w .1)) (List·Memᴰ·cases-cons m)
 
   once-each : (l : List (List ℕ)) → Once l → List·Nodup l
   once-each [] o = nodup-nil
   once-each (p ∷ l) o = nodup-cons .1 ((λ m. ∥∥₁-elim m ⊥-prop (o .0)), once-each l (o .1))
 
   nil-new : List·Memᴰ [] (different (leadingRuns es)) → ⊥
-  nil-new m = let t = run-table [] (different-from [] (leadingRuns es) m) in omega (arith, t .2)
+  nil-new m = let w = run-table [] (different-from [] (leadingRuns es) m) in omega (arith, w .2)
 
   pub counter-is : x .mem .frames .fa .allocated ≡ 1 + length (different (leadingRuns es))
   counter-is =
@@ -169,7 +180,7 @@ module _ {x : Board} {k : List VMRegion} {u : List MappedRegion} (es : List Even
       (inside-yes (startOf (x .mem)) (totalOf (x .mem)) (startOf (x .mem) + f) (omega arith) (omega arith)) (ap (marked (x .mem .frames .bits)) back ∙ mark) in
       by (r .path) (r .short) (r .comes)
     where
-      by : (p : List ℕ) → length p ≤ 3 → reachIn (x .mem) (x .root) p ≡ At (startOf (x .mem) + f) → (f ≡ 0) ⊎ PageTable x (startOf (x .mem) + f)
+      by : (p : List ℕ) → length p ≤ up → reachIn (x .mem) (x .root) p ≡ At (startOf (x .mem) + f) → (f ≡ 0) ⊎ PageTable x (startOf (x .mem) + f)
       by [] le e = let q : x .root ≡ startOf (x .mem) + f = cc in inl (omega (arith, h .first))
       by (i ∷ p) le e = inr (record { path = i ∷ p; proper = omega arith; above = le; reached = e })
 
@@ -179,22 +190,22 @@ nothing r s e = omega arith
 -- ---- the theorem
 
 -- an end is one with no live region
-ended : {x : Board} {k : List VMRegion} {u : List MappedRegion} (es : List Event) → Inv nothingLeft x k u [] (everFrom [] es)
+ended : {x : Board} {k : List VMRegion} {u : List MappedRegion} (es : List Event) → Inv nothingLeft x k u [] → Tidy x k (everFrom [] es)
     → (neverCut es ≡ true → k ≡ window ∷ []) → Ended es x
-ended {x} es g whole =
+ended {x} es g d whole =
     let tree = g .paged .account .order .tree in
     record {
-      no-address = λ v. silent (none-live es g) (g .paged .account .order) (g .paged .plain) v;
+      no-address = λ v. silent (none-live es g d) (g .paged .account .order) (g .paged .plain) v;
       root-first = g .first;
-      root-marked = ap (marked (x .mem .frames .bits)) (nothing _ _ (g .first)) ∙ root-kept es g;
+      root-marked = ap (marked (x .mem .frames .bits)) (nothing _ _ (g .first)) ∙ root-kept es g d;
       tables-marked = λ f t.
           let ins = tree .into (t .path) f (omega (arith, t .above)) (t .reached) in
           let from = inside-from (startOf (x .mem)) (totalOf (x .mem)) f ins in
           (from, omega (arith, from, inside-under (startOf (x .mem)) (totalOf (x .mem)) f ins), tree .kept (t .path) f (omega (arith, t .above)) (t .reached));
-      no-other-marked = other-marked es g;
-      counter = counter-is es g;
-      run-has-table = λ p m. let t = run-table es g p (among-member p (leadingRuns es) m) in (t .0, t .1);
-      table-has-run = λ f t. member-among (t .path) (leadingRuns es) (table-run es g (t .path) f (t .proper) (t .above) (t .reached));
+      no-other-marked = other-marked es g d;
+      counter = counter-is es g d;
+      run-has-table = λ p m. let t = run-table es g d p (among-member p (leadingRuns es) m) in (t .0, t .1);
+      table-has-run = λ f t. member-among (t .path) (leadingRuns es) (table-run es g d (t .path) f (t .proper) (t .above) (t .reached));
       one-run-each = λ f t t′. tree .once (t .path) (t′ .path) f (omega (arith, t .above)) (omega (arith, t′ .above)) (t .reached) (t′ .reached);
       root-no-table = λ t.
           let q = tree .once (t .path) [] (x .root) (omega (arith, t .above)) (omega arith) (t .reached) (reach-end (x .mem .words) (startOf (x .mem)) (totalOf (x .mem)) (x .root) refl) in
@@ -205,15 +216,15 @@ ended {x} es g whole =
 pub demand3 : Demand3
 demand3 old fresh from to st cs ne lr rs rs′ o o′ =
     let es = events fresh cs in
-    let b = after fresh cs in
-    let r = run-inv cs (fresh-inv old fresh from to st) ne in
+    let start = fresh-inv old fresh from to st in
+    let r = run-inv cs start ne in
     let e = order-end (r .1) o in
-    let g : Inv nothingLeft (after b rs) (foldl kernelAfter (book es) (o .0)) (foldl userAfter (r .0) (o .0)) [] (everFrom [] es) =
-    subst (λ (y : Board). Inv nothingLeft y (foldl kernelAfter (book es) (o .0)) (foldl userAfter (r .0) (o .0)) [] (everFrom [] es)) (sym (e .leaves)) (e .inv) in
+    let t = ended-tidy (r .1) (run-tidy cs start (fresh-tidy old fresh from to st) ne) (o .0) in
     record {
       met = e .met;
       same = one-board (r .1) o o′;
-      ended = ended es g (λ q. one-window (g .kernelList) (whole-end (o .0) (book es) (whole-run cs (fresh-inv old fresh from to st) ne q whole-window)));
+      ended = subst (Ended es) (sym (e .leaves)) (ended es (e .inv) t (λ q.
+          one-window (e .inv .kernelList) (t .apart) (whole-end (o .0) (book es) (whole-run cs start ne q whole-window))));
     }
 
 pub book-holds : BookHolds

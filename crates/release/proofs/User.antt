@@ -1,17 +1,19 @@
 -- mmap and munmap keep the invariant, and step the live regions as the statement says.
-use Prim.Native.Nat.{ℕ, suc, _+_, _-_, _/_, _<_, _≤_}
+use Prim.Native.Nat.{ℕ, zero, suc, _+_, _-_, _/_, _<_, _≤_}
 use mathlib.Core.Path.{_≡_, refl, sym, _∙_, ap, subst}
 use mathlib.Core.Bool.{Bool, true, false, true≢false, false≢true}
 use mathlib.Core.Logic.{⊎-elim}
 use mathlib.Core.List.{List, [], _∷_, _++_, List·Memᴰ, List·Memᴰ·head, Memᴰ·append-left}
 use native.Mathlib.Omega.{arith}
 use lib.IntN.{ℤ}
-use lib.Dec.{eqb}
+use lib.Dec.{eqb, leb, ltb}
 use lib.ListN.{length}
 use borrow.Author.Tests.{eq-eqb}
 use Rattle.bits.specs.Bit.{pick}
-use Rattle.allocator.specs.Round.{roundUp}
+use Rattle.bits.proofs.Choice.{pick-cases}
+use Rattle.allocator.specs.Round.{roundUp, lastPage}
 use Rattle.allocator.proofs.Round.{round-multiple, round-pos}
+use Rattle.release.specs.Levels.{up}
 use Rattle.paging.specs.declared.Walked.{Walked}
 use Rattle.paging.specs.declared.Walked.the-variants.{At, Stop}
 use Rattle.paging.specs.Map.{Memory}
@@ -20,23 +22,27 @@ use Rattle.tree.proofs.Paths.{path}
 use Rattle.tree.proofs.Ordered.{reachIn}
 use Rattle.tree.proofs.Books.{Takes, none, more}
 use Rattle.tree.proofs.Runs.{run, map-pages-met}
-use Rattle.slots.specs.Slots.{listed, store}
+use Rattle.slots.specs.Slots.{Slots, listed, store}
 use Rattle.slots.proofs.Filled.{filled, listed-filled, store-filled}
 use Rattle.regions.specs.declared.VMRegion.{VMRegion}
 use Rattle.mmap.specs.declared.MappedRegion.{MappedRegion}
-use Rattle.mmap.specs.Regions.{writable, region, starts, insert, holds, remove}
+use Rattle.mmap.specs.declared.InTheWay.{InTheWay}
+use Rattle.mmap.specs.declared.InTheWay.the-variants.{Nothing, Until}
+use Rattle.mmap.specs.declared.Wish.the-variants.{Anywhere, Wished}
+use Rattle.mmap.specs.Regions.{writable, fixed, region, userEnd, inTheWay, orPast, searchFrom, findFree, starts, insert, holds, remove}
 use Rattle.mmap.specs.Regions.{noSlot as noUserSlot}
 use Rattle.regions.proofs.Placed.{Placed}
 use Rattle.mmap.specs.declared.Wish.{Wish}
-use Rattle.mmap.specs.Calls.{user, Did, did, full, userPages, mapped, mmap, munmap}
-use Rattle.mmap.proofs.Rising.{holds-placed, holds-one, holds-none}
+use Rattle.mmap.specs.Calls.{User, user, Did, did, onPage, chosen, full, userPages, leftover, mapped, mmap, munmap}
+use Rattle.mmap.proofs.Rising.{holds-placed, holds-one, holds-none, length-remove}
 use Rattle.mmap.proofs.Calls.{room, mmap-cases, munmap-cases, chosen-place}
 use Rattle.board.specs.Board.{Board}
-use Rattle.release.specs.Calls.{mmaps, munmaps, userOf, withUser, play, turnedAway}
-use Rattle.release.specs.Demand3.{Region, users, liveStep, pagesFrom, pagesOf}
+use Rattle.release.specs.Calls.{mmaps, munmaps, userOf, withUser, turnedAway}
+use Rattle.release.specs.Demand3.{Region, users, dropUser, liveStep, pagesFrom, pagesOf}
 use Rattle.release.proofs.Lists.{member-concat}
 use Rattle.release.proofs.Regions.{kernel-more, kernel-fewer, user-take, user-give, drop-user}
-use Rattle.release.proofs.Invariant.{Leftover, with-is, Inv, inv-perm, paged-take, paged-stop, take-start, paged-give, give-start}
+use Rattle.release.proofs.Paged.{paged-take, paged-stop, tabled-take, take-start, paged-give, tabled-give, give-start}
+use Rattle.release.proofs.Invariant.{Leftover, with-is, Inv, Tidy, inv-perm}
 use Rattle.release.proofs.Sound.{user-sound}
 use Rattle.release.proofs.Kernel.{morePages}
 
@@ -51,19 +57,91 @@ starts-holds a (r ∷ l) h = by (eqb (r .start) a) h (starts-holds a l)
     by false g later = later g
 
 -- a run of pages that is had begins at a page that was not reached
-first-off : {root v : ℕ} {m m′ : Memory} (l : List ℕ) → Takes root 3 m l m′ → (k : List ℕ) → l ≡ v ∷ k → (x : ℕ) → reachIn m root (path 3 v) ≡ At x → ⊥
+first-off : {root v : ℕ} {m m′ : Memory} (l : List ℕ) → Takes root up m l m′ → (k : List ℕ) → l ≡ v ∷ k → (x : ℕ) → reachIn m root (path up v) ≡ At x → ⊥
 first-off [] none k e x r = let z : _≡_ {A = ℕ} 0 1 = cc in omega arith
-first-off {root} {v} {m} (v′ ∷ l) (more t s) k e x r = let q : v′ ≡ v = cc in t .off x (ap (λ (y : ℕ). reachIn m root (path 3 y)) q ∙ r)
+first-off {root} {v} {m} (v′ ∷ l) (more t s) k e x r = let q : v′ ≡ v = cc in t .off x (ap (λ (y : ℕ). reachIn m root (path up y)) q ∙ r)
 
-module _ {b : Board} {k : List VMRegion} {u : List MappedRegion} {l : List Region} {ever : List ℕ} {left : Leftover} (h : Inv left b k u l ever) where
+-- where no range is found it is 2, 3 or 15, which are neither 11 nor 13
+search-quiet : (j : ℕ) (l : List MappedRegion) (n a : ℕ) → turnedAway (searchFrom j l n a) ≡ false
+unfolding searchFrom
+search-quiet zero l n a = refl
+search-quiet (suc j) l n a = pick-cases (λ (w : Walked). turnedAway w ≡ false) (ltb (a + n) userEnd) _ _ (λ _. by (inTheWay a n l) (search-quiet j l n)) (λ _. refl)
+  where
+    by : (y : InTheWay) → ((e : ℕ) → turnedAway (searchFrom j l n e) ≡ false) → turnedAway (orPast y (At a) (searchFrom j l n)) ≡ false
+    by Nothing on = refl
+    by (Until e) on = on e
+
+chosen-quiet : (s : User) (wish : Wish) (n : ℕ) (flags : ℤ) → turnedAway (chosen s wish n flags) ≡ false
+unfolding chosen
+chosen-quiet s Anywhere n flags = search-quiet _ (listed (s .regions)) n (s .next)
+chosen-quiet s (Wished a) n flags =
+    pick-cases Quiet (fixed flags) _ _
+    (λ _. pick-cases Quiet (onPage a) _ _ (λ _. pick-cases Quiet (leb (a + n) lastPage) _ _ (λ _. refl) (λ _. refl)) (λ _. refl))
+    (λ _. pick-cases Quiet (onPage a) _ _ (λ _. pick-cases Quiet (leb (a + n) lastPage) _ _ (λ _. by (inTheWay a n (listed (s .regions)))) (λ _. refl)) (λ _. found))
+  where
+    Quiet : Walked → Type 0
+    Quiet w = turnedAway w ≡ false
+
+    found : Quiet (findFree (listed (s .regions)) (s .next) n)
+    found = search-quiet _ (listed (s .regions)) n (s .next)
+
+    by : (y : InTheWay) → Quiet (orPast y (At a) (λ _. findFree (listed (s .regions)) (s .next) n))
+    by Nothing = refl
+    by (Until e) = found
+
+module _ {b : Board} {k : List VMRegion} {u : List MappedRegion} {l : List Region} {left : Leftover} (h : Inv left b k u l) where
   pub user-listed : listed (b .user) ≡ u
   user-listed = ap listed (h .userIs) ∙ listed-filled noUserSlot u
 
-  pub user-stored : (u′ : List MappedRegion) → length u′ ≤ 256 → store noUserSlot u′ (b .user) ≡ filled noUserSlot u′
+  user-stored : (u′ : List MappedRegion) → length u′ ≤ 256 → store noUserSlot u′ (b .user) ≡ filled noUserSlot u′
   user-stored u′ few = ap (store noUserSlot u′) (h .userIs) ∙ store-filled noUserSlot u u′ (h .userList .few) few
 
+  pub slots-removed : (a : ℕ) → store noUserSlot (remove a (listed (b .user))) (b .user) ≡ filled noUserSlot (remove a u)
+  slots-removed a =
+      ap (λ (x : List MappedRegion). store noUserSlot (remove a x) (b .user)) user-listed
+      ∙ user-stored (remove a u) (omega (arith, length-remove a u, h .userList .few))
+
+  -- every outcome of an mmap: refused with nothing changed, met, turned away with 11 or 13
+  pub mmap-outcomes : (wish : Wish) (size : ℕ) (prot flags : ℤ) (P : Did → Type 0) → let n = roundUp 12 size in
+      ((e : ℕ) → turnedAway (Stop e) ≡ false → P (did (Stop e) (userOf b)))
+      → ((a x : ℕ) → Placed a n → full (userOf b) a ≡ false → userPages up (b .mem) (b .root) a n prot .walked ≡ At x
+      → P (did (At a) (user (userPages up (b .mem) (b .root) a n prot .mem) (store noUserSlot (insert (region a n prot flags) u) (b .user)) (a + n))))
+      → ((a e : ℕ) → chosen (userOf b) wish n flags ≡ At a → userPages up (b .mem) (b .root) a n prot .walked ≡ Stop e → turnedAway (Stop e) ≡ true
+      → P (did (Stop e) (user (leftover up (b .root) a e (userPages up (b .mem) (b .root) a n prot .done) (userPages up (b .mem) (b .root) a n prot .mem)) (b .user) (b .next))))
+      → P (mmap up (userOf b) (b .root) wish size prot flags)
+  mmap-outcomes wish size prot flags P refused met stopped =
+      mmap-cases up (userOf b) (b .root) wish size prot flags P
+      (λ e. absurd (true≢false (sym (user-sound h) ∙ e))) (refused _ refl) (refused _ refl)
+      (λ e f. refused e (ap turnedAway (sym f) ∙ chosen-quiet (userOf b) wish n flags)) (refused _ refl)
+      (λ s pos le a c f.
+      let q = chosen-place (userOf b) wish n flags a (rw user-listed (h .userList .rising)) (h .next) c in
+      by a (record { even = q .0; whole = round-multiple 12 size; some = round-pos 12 size pos; end = q .1 }) c f (userPages up (b .mem) (b .root) a n prot .walked) refl)
+    where
+      n : ℕ
+      n = roundUp 12 size
+
+      by : (a : ℕ) → Placed a n → chosen (userOf b) wish n flags ≡ At a → full (userOf b) a ≡ false → (w : Walked) → userPages up (b .mem) (b .root) a n prot .walked ≡ w
+          → P (mapped up (userOf b) (b .root) a n prot flags w (userPages up (b .mem) (b .root) a n prot .done) (userPages up (b .mem) (b .root) a n prot .mem))
+      by a p c f (At x) e =
+          subst (λ (y : List MappedRegion). P (did (At a) (user (userPages up (b .mem) (b .root) a n prot .mem) (store noUserSlot (insert (region a n prot flags) y) (b .user)) (a + n))))
+          (sym user-listed) (met a x p f e)
+      by a p c f (Stop x) e = stopped a x c e (paged-stop (writable prot) true (h .paged) a (n / 4096) x e)
+
+  -- every outcome of a munmap
+  pub munmap-outcomes : (a size : ℕ) (P : Did → Type 0)
+      → ((e : ℕ) → P (did (Stop e) (userOf b)))
+      → ((n : ℕ) → holds a n u ≡ true → P (did (At 0) (user (freePages up (b .mem) (b .root) a (n / 4096)) (filled noUserSlot (remove a u)) (b .next))))
+      → P (munmap up (userOf b) (b .root) a size)
+  munmap-outcomes a size P refused met =
+      munmap-cases up (userOf b) (b .root) a size P
+      (λ e. absurd (true≢false (sym (user-sound h) ∙ e))) (λ e f. refused e)
+      (λ s pos le e. subst (λ (s : Slots MappedRegion). P (did (At 0) (user (freePages up (b .mem) (b .root) a (roundUp 12 size / 4096)) s (b .next)))) (sym (slots-removed a))
+      (met (roundUp 12 size) (subst (λ (x : List MappedRegion). holds a (roundUp 12 size) x ≡ true) user-listed e)))
+
+  -- ---- the invariant
+
   -- the first page of a live region is mapped
-  first-page : (a n : ℕ) → List·Memᴰ (users a n) l → Placed a n → (x : ℕ) × (reachIn (b .mem) (b .root) (path 3 a) ≡ At x)
+  first-page : (a n : ℕ) → List·Memᴰ (users a n) l → Placed a n → (x : ℕ) × (reachIn (b .mem) (b .root) (path up a) ≡ At x)
   unfolding pagesFrom
   first-page a n m p =
       let q : (j : ℕ) × (n / 4096 ≡ suc j) = (n / 4096 - 1, omega (arith, p .whole, p .some)) in
@@ -73,7 +151,7 @@ module _ {b : Board} {k : List VMRegion} {u : List MappedRegion} {l : List Regio
       begin j = List·Memᴰ·head refl
 
   -- so a range that is had does not start where a live region does
-  new-start : (a n x : ℕ) (prot : ℤ) → Placed a n → userPages 3 (b .mem) (b .root) a n prot .walked ≡ At x → starts a u ≡ false
+  new-start : (a n x : ℕ) (prot : ℤ) → Placed a n → userPages up (b .mem) (b .root) a n prot .walked ≡ At x → starts a u ≡ false
   new-start a n x prot p met = by (starts a u) refl
     where
       by : (y : Bool) → starts a u ≡ y → starts a u ≡ false
@@ -85,9 +163,8 @@ module _ {b : Board} {k : List VMRegion} {u : List MappedRegion} {l : List Regio
           absurd (first-off (run a (n / 4096)) (map-pages-met (writable prot) true (n / 4096) (h .paged .account .order) a 0 x met) (run (a + 4096) (q .0)) (ap (run a) (q .1)) (r .0) (r .1))
 
   -- a region that is taken
-  took : (n a x : ℕ) (prot flags : ℤ) → Placed a n → full (userOf b) a ≡ false → userPages 3 (b .mem) (b .root) a n prot .walked ≡ At x
-      → Inv left (withUser b (user (userPages 3 (b .mem) (b .root) a n prot .mem) (store noUserSlot (insert (region a n prot flags) u) (b .user)) (a + n))) k (insert (region a n prot flags) u) (users a n ∷ l)
-      (pagesFrom a (n / 4096) ++ ever)
+  took : (n a x : ℕ) (prot flags : ℤ) → Placed a n → full (userOf b) a ≡ false → userPages up (b .mem) (b .root) a n prot .walked ≡ At x
+      → Inv left (withUser b (user (userPages up (b .mem) (b .root) a n prot .mem) (store noUserSlot (insert (region a n prot flags) u) (b .user)) (a + n))) k (insert (region a n prot flags) u) (users a n ∷ l)
   took n a x prot flags p f met =
       let s = new-start a n x prot p met in
       let few : length u < 256 = ⊎-elim (λ e. rw user-listed at e) (λ e. absurd (true≢false (sym (rw user-listed at e) ∙ s))) (room (userOf b) a f) in
@@ -103,58 +180,49 @@ module _ {b : Board} {k : List VMRegion} {u : List MappedRegion} {l : List Regio
         once = ((λ m. true≢false (sym (h .userList .live a n m) ∙ holds-none a n u s)), h .once);
       }
 
-  -- mmap
-  pub mmap-step : (wish : Wish) (size : ℕ) (prot flags : ℤ) → let d = mmap 3 (userOf b) (b .root) wish size prot flags in turnedAway (d .answer) ≡ false
-      → (u′ : List MappedRegion) × Inv left (withUser b (d .user)) k u′ (liveStep l (mmaps wish size prot flags) (d .answer)) (morePages ever (d .answer) (roundUp 12 size))
+  -- a region that is released
+  gave : (a n : ℕ) → holds a n u ≡ true
+      → Inv left (withUser b (user (freePages up (b .mem) (b .root) a (n / 4096)) (filled noUserSlot (remove a u)) (b .next))) k (remove a u) (dropUser a l)
+  gave a n e =
+      let p = drop-user a n l (h .userList .held a n e) (λ m r. holds-one a m n u (h .userList .live a m r) e) in
+      let g = inv-perm p h in
+      record {
+        paged = paged-give a (n / 4096) (g .paged);
+        first = h .first ∙ sym (give-start up (b .mem) (b .root) a (n / 4096));
+        kernelIs = h .kernelIs;
+        kernelList = kernel-fewer a n (g .kernelList);
+        userIs = refl;
+        userList = user-give a n (g .userList) (g .once);
+        next = h .next;
+        once = g .once .1;
+      }
+
+  pub mmap-step : (wish : Wish) (size : ℕ) (prot flags : ℤ) → let d = mmap up (userOf b) (b .root) wish size prot flags in turnedAway (d .answer) ≡ false
+      → (u′ : List MappedRegion) × Inv left (withUser b (d .user)) k u′ (liveStep l (mmaps wish size prot flags) (d .answer))
   mmap-step wish size prot flags =
-      mmap-cases 3 (userOf b) (b .root) wish size prot flags P
-      (λ e. absurd (true≢false (sym (user-sound h) ∙ e))) (λ _. (u, h)) (λ _. (u, h)) (λ e f _. (u, h)) (λ _. (u, h))
-      (λ s pos le a c f.
-      let q = chosen-place (userOf b) wish (roundUp 12 size) flags a (rw user-listed (h .userList .rising)) (h .next) c in
-      by a (record { even = q .0; whole = round-multiple 12 size; some = round-pos 12 size pos; end = q .1 }) f (userPages 3 (b .mem) (b .root) a (roundUp 12 size) prot .walked) refl)
-    where
-      P : Did → Type 0
-      P d = turnedAway (d .answer) ≡ false → (u′ : List MappedRegion) × Inv left (withUser b (d .user)) k u′ (liveStep l (mmaps wish size prot flags) (d .answer)) (morePages ever (d .answer) (roundUp 12 size))
+      mmap-outcomes wish size prot flags
+      (λ (d : Did). turnedAway (d .answer) ≡ false → (u′ : List MappedRegion) × Inv left (withUser b (d .user)) k u′ (liveStep l (mmaps wish size prot flags) (d .answer)))
+      (λ e _ _. (u, h)) (λ a x p f met _. (insert (region a (roundUp 12 size) prot flags) u, took (roundUp 12 size) a x prot flags p f met))
+      (λ a e c met t ex. absurd (true≢false (sym t ∙ ex)))
 
-      by : (a : ℕ) → Placed a (roundUp 12 size) → full (userOf b) a ≡ false → (w : Walked) → userPages 3 (b .mem) (b .root) a (roundUp 12 size) prot .walked ≡ w
-          → P (mapped 3 (userOf b) (b .root) a (roundUp 12 size) prot flags w (userPages 3 (b .mem) (b .root) a (roundUp 12 size) prot .done) (userPages 3 (b .mem) (b .root) a (roundUp 12 size) prot .mem))
-      by a p f (At x) met = λ _. (insert (region a (roundUp 12 size) prot flags) u, rw user-listed (took (roundUp 12 size) a x prot flags p f met))
-      by a p f (Stop e) met = λ ex. absurd (true≢false (sym (paged-stop (writable prot) true (h .paged) a (roundUp 12 size / 4096) e met) ∙ ex))
+  pub munmap-step : (a size : ℕ) → let d = munmap up (userOf b) (b .root) a size in
+      (u′ : List MappedRegion) × Inv left (withUser b (d .user)) k u′ (liveStep l (munmaps a size) (d .answer))
+  munmap-step a size =
+      munmap-outcomes a size (λ (d : Did). (u′ : List MappedRegion) × Inv left (withUser b (d .user)) k u′ (liveStep l (munmaps a size) (d .answer)))
+      (λ e. (u, h)) (λ n e. (remove a u, gave a n e))
 
-  -- munmap
-  module _ (a size : ℕ) where
-    abbrev Unmapped : Type 0
-    Unmapped = (u′ : List MappedRegion) × Inv left (play b (munmaps a size) .board) k u′ (liveStep l (munmaps a size) (play b (munmaps a size) .answer)) ever
+  -- ---- and what holds besides while no call is turned away with 11 or 13
 
-    unmap-refused : (e : ℕ) → munmap 3 (userOf b) (b .root) a size ≡ did (Stop e) (userOf b) → Unmapped
-    unfolding play
-    unmap-refused e q = rw q (u, h)
+  module _ {ever : List ℕ} (t : Tidy b k ever) where
+    pub mmap-tidy : (wish : Wish) (size : ℕ) (prot flags : ℤ) → let d = mmap up (userOf b) (b .root) wish size prot flags in turnedAway (d .answer) ≡ false
+        → Tidy (withUser b (d .user)) k (morePages ever (d .answer) (roundUp 12 size))
+    mmap-tidy wish size prot flags =
+        mmap-outcomes wish size prot flags (λ (d : Did). turnedAway (d .answer) ≡ false → Tidy (withUser b (d .user)) k (morePages ever (d .answer) (roundUp 12 size)))
+        (λ e _ _. t)
+        (λ a x p f met _. record { apart = t .apart; tabled = tabled-take (writable prot) true (h .paged) a (roundUp 12 size / 4096) x met (t .tabled) })
+        (λ a e c met s ex. absurd (true≢false (sym s ∙ ex)))
 
-    unmap-met : (n : ℕ) → holds a n u ≡ true
-        → munmap 3 (userOf b) (b .root) a size ≡ did (At 0) (user (freePages 3 (b .mem) (b .root) a (n / 4096)) (store noUserSlot (remove a u) (b .user)) (b .next)) → Unmapped
-    unfolding play
-    unmap-met n e q =
-        let p = drop-user a n l (h .userList .held a n e) (λ m r. holds-one a m n u (h .userList .live a m r) e) in
-        let g = inv-perm p h in
-        let r = user-give a n (g .userList) (g .once) in
-        rw q (
-          remove a u,
-          record {
-            paged = paged-give a (n / 4096) (g .paged);
-            first = h .first ∙ sym (give-start (b .mem) (b .root) a (n / 4096));
-            kernelIs = h .kernelIs;
-            kernelList = kernel-fewer a n (g .kernelList);
-            userIs = user-stored (remove a u) (r .few);
-            userList = r;
-            next = h .next;
-            once = g .once .1;
-          },
-        )
-
-    pub munmap-step : Unmapped
-    munmap-step =
-        munmap-cases 3 (userOf b) (b .root) a size (λ (d : Did). munmap 3 (userOf b) (b .root) a size ≡ d → Unmapped)
-        (λ e. absurd (true≢false (sym (user-sound h) ∙ e))) (λ e f. unmap-refused e)
-        (λ s pos le e q.
-        unmap-met (roundUp 12 size) (subst (λ (x : List MappedRegion). holds a (roundUp 12 size) x ≡ true) user-listed e) (rw user-listed at q))
-        refl
+    pub munmap-tidy : (a size : ℕ) → Tidy (withUser b (munmap up (userOf b) (b .root) a size .user)) k ever
+    munmap-tidy a size =
+        munmap-outcomes a size (λ (d : Did). Tidy (withUser b (d .user)) k ever)
+        (λ e. t) (λ n e. record { apart = t .apart; tabled = tabled-give a (n / 4096) (h .paged .account .order) (t .tabled) })

@@ -11,17 +11,17 @@ use Rattle.bits.specs.Bit.{pick, both}
 use Rattle.bits.proofs.Choice.{both-true}
 use Rattle.allocator.specs.Round.{roundUp}
 use Rattle.answer.specs.Numbers.{regionNotFound}
-use Rattle.paging.specs.declared.Walked.{Walked}
+use Rattle.release.specs.Levels.{up}
 use Rattle.paging.specs.declared.Walked.the-variants.{At, Stop}
 use Rattle.slots.specs.Slots.{every}
 use Rattle.regions.specs.declared.VMRegion.{VMRegion}
 use Rattle.regions.specs.Regions.{windowStart, windowEnd, window, firstFit, takeFirst, usedSize, freeFirst, merge}
-use Rattle.vmalloc.specs.Calls.{Did, kernelPages, mapped, vmalloc}
+use Rattle.vmalloc.specs.Calls.{Did, vmalloc}
 use Rattle.regions.proofs.Merge.{freedAll}
 use Rattle.regions.proofs.Rows.{freed-first}
 use Rattle.regions.proofs.Used.{all-free}
-use Rattle.regions.proofs.Tiles.{apart-merged, Tiled, tiled-freed, tiled-merge, tiled-taken, taken-exact, one-region}
-use Rattle.vmalloc.proofs.Calls.{vmalloc-cases, walked-cases}
+use Rattle.regions.proofs.Tiles.{Apart, apart-merged, Tiled, tiled-freed, tiled-merge, tiled-taken, taken-exact, one-region}
+use Rattle.vmalloc.proofs.Calls.{walked-cases}
 use Rattle.mmap.specs.declared.MappedRegion.{MappedRegion}
 use Rattle.board.specs.Board.{Board}
 use Rattle.release.specs.Calls.{Call, vmallocs, vfrees, mmaps, munmaps, kernelOf, play, events, turnedAway}
@@ -29,7 +29,7 @@ use Rattle.release.specs.Demand3.{noneTurnedAway, Region, kernels, users
 use Rattle.release.proofs.Book.{take-cut, exceeds-larger, free-part, join-parts}
 use Rattle.release.proofs.Regions.{KernelList, not-both}
 use Rattle.release.proofs.Invariant.{Leftover, Inv}
-use Rattle.release.proofs.Kernel.{kernel-listed}
+use Rattle.release.proofs.Kernel.{vmalloc-outcomes}
 use Rattle.release.proofs.Run.{step}
 use Rattle.release.proofs.Ends.{kernelAfter}
 
@@ -38,20 +38,14 @@ abbrev pub Whole : List VMRegion → Type 0
 Whole k = Tiled windowStart windowEnd k
 
 -- a vmalloc that is met answers the first region large enough
-fit-of : {b : Board} {k : List VMRegion} {u : List MappedRegion} {l : List Region} {ever : List ℕ} {left : Leftover} → Inv left b k u l ever → (size a : ℕ)
-    → vmalloc 3 (kernelOf b) (b .root) size .answer ≡ At a → firstFit (roundUp 12 size) k ≡ At a
+fit-of : {b : Board} {k : List VMRegion} {u : List MappedRegion} {l : List Region} {left : Leftover} → Inv left b k u l → (size a : ℕ)
+    → vmalloc up (kernelOf b) (b .root) size .answer ≡ At a → firstFit (roundUp 12 size) k ≡ At a
 fit-of {b} {k} h size a =
-    vmalloc-cases 3 (kernelOf b) (b .root) size (λ (d : Did). d .answer ≡ At a → firstFit (roundUp 12 size) k ≡ At a)
-    (λ _ e. absurd (not-both e refl)) (λ e. absurd (not-both e refl)) (λ e. absurd (not-both e refl)) (λ n f e. absurd (not-both e refl))
-    (λ s pos le c f. by c (subst (λ (x : List VMRegion). firstFit (roundUp 12 size) x ≡ At c) (kernel-listed h) f) (kernelPages 3 (b .mem) (b .root) c (roundUp 12 size) .walked))
-  where
-    by : (c : ℕ) → firstFit (roundUp 12 size) k ≡ At c → (w : Walked)
-        → mapped c (roundUp 12 size) (b .kernel) w (kernelPages 3 (b .mem) (b .root) c (roundUp 12 size) .mem) .answer ≡ At a → firstFit (roundUp 12 size) k ≡ At a
-    by c f (At x) e = f ∙ e
-    by c f (Stop n) e = absurd (not-both e refl)
+    vmalloc-outcomes h size (λ (d : Did). d .answer ≡ At a → firstFit (roundUp 12 size) k ≡ At a)
+    (λ e _ q. absurd (not-both q refl)) (λ c x pos f met q. f ∙ q) (λ c e pos f met t q. absurd (not-both q refl))
 
 -- one call
-module _ {b : Board} {k : List VMRegion} {u : List MappedRegion} {l : List Region} {ever : List ℕ} {left : Leftover} (h : Inv left b k u l ever) (t : Whole k) where
+module _ {b : Board} {k : List VMRegion} {u : List MappedRegion} {l : List Region} {left : Leftover} (h : Inv left b k u l) (t : Whole k) where
   whole-take : (n a : ℕ) → firstFit n k ≡ At a → both (leb 256 (length k)) (exceeds a n k) ≡ false → Whole (takePart a n (ltb (length k) 256) k)
   whole-take n a f q = rw (take-cut n a windowStart windowEnd (ltb (length k) 256) k (h .kernelList .rows) f) (by (ltb (length k) 256) refl)
     where
@@ -69,15 +63,15 @@ module _ {b : Board} {k : List VMRegion} {u : List MappedRegion} {l : List Regio
   whole-step : (c : Call) → cuts k c (play b c .answer) ≡ false → Whole (bookStep k c (play b c .answer))
   unfolding play
   whole-step (vmallocs size) =
-      walked-cases (λ w. (vmalloc 3 (kernelOf b) (b .root) size .answer ≡ w) → cuts k (vmallocs size) w ≡ false → Whole (bookStep k (vmallocs size) w))
-      (vmalloc 3 (kernelOf b) (b .root) size .answer)
+      walked-cases (λ w. (vmalloc up (kernelOf b) (b .root) size .answer ≡ w) → cuts k (vmallocs size) w ≡ false → Whole (bookStep k (vmallocs size) w))
+      (vmalloc up (kernelOf b) (b .root) size .answer)
       (λ a _ e q. whole-take (roundUp 12 size) a (fit-of h size a e) q) (λ n _ e q. t) refl
   whole-step (vfrees a) = walked-cases (λ w. cuts k (vfrees a) w ≡ false → Whole (bookStep k (vfrees a) w)) (play b (vfrees a) .answer) (λ x _ q. whole-give a) (λ n _ q. t)
   whole-step (mmaps wish size prot flags) = λ q. t
   whole-step (munmaps a size) = λ q. t
 
 -- a list of calls
-pub whole-run : (cs : List Call) {b : Board} {k : List VMRegion} {u : List MappedRegion} {l : List Region} {ever : List ℕ} {left : Leftover} → Inv left b k u l ever → noneTurnedAway (events b cs) ≡ true
+pub whole-run : (cs : List Call) {b : Board} {k : List VMRegion} {u : List MappedRegion} {l : List Region} {left : Leftover} → Inv left b k u l → noneTurnedAway (events b cs) ≡ true
     → uncutFrom k (events b cs) ≡ true → Whole k → Whole (bookFrom k (events b cs))
 unfolding events bookFrom uncutFrom every
 whole-run [] h e q t = t
@@ -105,8 +99,8 @@ used-number a e (r ∷ k) h = by (both (eqb (r .start) a) (r .used)) h (used-num
     by true g more = absurd (not-both refl g)
     by false g more = more g
 
-pub one-window : {k : List VMRegion} → KernelList k [] → Whole k → k ≡ window ∷ []
-one-window {k} h t = sym (apart-merged k (h .apart)) ∙ one-region windowStart windowEnd k (omega arith) (all-free k none) t
+pub one-window : {k : List VMRegion} → KernelList k [] → Apart k → Whole k → k ≡ window ∷ []
+one-window {k} h d t = sym (apart-merged k d) ∙ one-region windowStart windowEnd k (omega arith) (all-free k none) t
   where
     none : (a : ℕ) → usedSize a k ≡ Stop regionNotFound
     none a = walked-cases (λ w. usedSize a k ≡ w → usedSize a k ≡ Stop regionNotFound) (usedSize a k)

@@ -6,6 +6,7 @@ use lib.IntN.{ℤ}
 use lib.Dec.{eqb}
 use Rattle.bits.specs.Bit.{pick}
 use Rattle.answer.specs.Numbers.{noFreeFrame, mapPageFailed}
+use Rattle.release.specs.Levels.{up}
 use Rattle.paging.specs.declared.Walked.{Walked}
 use Rattle.paging.specs.declared.Walked.the-variants.{At, Stop}
 use Rattle.vmalloc.specs.Calls.{Kernel, kernel, vmalloc, vfree}
@@ -41,12 +42,12 @@ byKernel b d = did (d .answer) (withKernel b (d .kernel))
 abbrev pub byUser : Board → UserDid → Did
 byUser b d = did (d .answer) (withUser b (d .user))
 
--- a call on a board of four levels: its answer, and the board that it leaves
+-- a call on a board of `up` levels above the last: its answer, and the board that it leaves
 unfoldable pub play : Board → Call → Did
-play b (vmallocs size) = byKernel b (vmalloc 3 (kernelOf b) (b .root) size)
-play b (vfrees a) = byKernel b (vfree 3 (kernelOf b) (b .root) a)
-play b (mmaps wish size prot flags) = byUser b (mmap 3 (userOf b) (b .root) wish size prot flags)
-play b (munmaps a size) = byUser b (munmap 3 (userOf b) (b .root) a size)
+play b (vmallocs size) = byKernel b (vmalloc up (kernelOf b) (b .root) size)
+play b (vfrees a) = byKernel b (vfree up (kernelOf b) (b .root) a)
+play b (mmaps wish size prot flags) = byUser b (mmap up (userOf b) (b .root) wish size prot flags)
+play b (munmaps a size) = byUser b (munmap up (userOf b) (b .root) a size)
 
 -- the board after a list of calls, 'each call on the state the last one left'
 unfoldable pub after : Board → List Call → Board

@@ -13,6 +13,7 @@ use Rattle.answer.specs.Numbers.{notMapped}
 use Rattle.answer.specs.declared.CountAnswer.the-variants.{Count}
 use Rattle.entry.specs.Entry.{indices}
 use Rattle.bitmap.specs.Bitmap.{marked as markOf}
+use Rattle.release.specs.Levels.{up}
 use Rattle.paging.specs.declared.Walked.{Walked}
 use Rattle.paging.specs.declared.Walked.the-variants.{At, Stop}
 use Rattle.paging.specs.Walk.{reach}
@@ -134,7 +135,7 @@ Order l cs = (m : List Region) × Reordered l m × EachReleased m cs
 pub record PageTable (b : Board) (f : ℕ) : Type 0 where
   pub path : List ℕ
   pub proper : 1 ≤ length path
-  pub above : length path ≤ 3
+  pub above : length path ≤ up
   pub reached : reach (b .mem .words) (startOf (b .mem)) (totalOf (b .mem)) (b .root) path ≡ At f
 
 -- the pages of a region: n of them from v on
@@ -145,9 +146,14 @@ pagesFrom v (suc n) = v ∷ pagesFrom (v + 4096) n
 abbrev pub pagesOf : Region → List ℕ
 pagesOf r = pagesFrom (startIs r) (sizeIs r / 4096)
 
+-- the runs of 1 .. n leading indices of a path
+unfoldable pub runsTo : ℕ → List ℕ → List (List ℕ)
+runsTo zero p = []
+runsTo (suc n) p = runsTo n p ++ (take (suc n) p ∷ [])
+
 -- 'run of leading indices, neither empty nor whole', of a page
 abbrev pub runsOf : ℕ → List (List ℕ)
-runsOf v = take 1 (indices 4 v) ∷ take 2 (indices 4 v) ∷ take 3 (indices 4 v) ∷ []
+runsOf v = runsTo up (indices (suc up) v)
 
 unfoldable pub concat : {A B : Type 0} → (A → List B) → List A → List B
 concat f [] = []
@@ -240,7 +246,7 @@ neverCut es = uncutFrom (window ∷ []) es
 -- what holds of the board e that is left when all regions are released which the events es left live
 pub record Ended (es : List Event) (e : Board) : Type 0 where
   -- 'There no address translates'
-  pub no-address : (v : ℕ) → translate 3 (e .mem .words) (startOf (e .mem)) (totalOf (e .mem)) (e .root) v ≡ Stop notMapped
+  pub no-address : (v : ℕ) → translate up (e .mem .words) (startOf (e .mem)) (totalOf (e .mem)) (e .root) v ≡ Stop notMapped
   -- 'exactly the root and the page tables are still marked': the root is the first of the lent frames
   pub root-first : e .root ≡ startOf (e .mem)
   pub root-marked : markOf (e .mem .frames .bits) 0 ≡ 1

@@ -1,2 +1,3 @@
+pub mod Levels
 pub mod Calls
 pub mod Demand3
