@@ -98,8 +98,8 @@ fn collect(mut pipe: impl Read + Send + 'static, most: Option<usize>) -> mpsc::R
 /// A terminal: its two ends, one for the test and one for the program.
 pub fn terminal() -> Result<(std::fs::File, std::fs::File), String> {
     use std::ffi::CStr;
-    use std::os::unix::io::FromRawFd;
     use std::os::unix::fs::OpenOptionsExt;
+    use std::os::unix::io::FromRawFd;
     extern "C" {
         fn posix_openpt(flags: i32) -> i32;
         fn grantpt(fd: i32) -> i32;
