@@ -105,9 +105,9 @@ module _ {b : Board} {k : List VMRegion} {u : List MappedRegion} {l : List Regio
   -- ---- the invariant
 
   -- a region that is taken
-  took : (size a x : ℕ) → let n = roundUp 12 size in 0 < n → firstFit n k ≡ At a → kernelPages up (b .mem) (b .root) a n .walked ≡ At x
+  pub kernel-took : (size a x : ℕ) → let n = roundUp 12 size in 0 < n → firstFit n k ≡ At a → kernelPages up (b .mem) (b .root) a n .walked ≡ At x
       → Inv left (withKernel b (kernel (kernelPages up (b .mem) (b .root) a n .mem) (filled noKernelSlot (taken true n k)))) (takePart a n (ltb (length k) 256) k) u (kernels a n ∷ l)
-  took size a x pos f met =
+  kernel-took size a x pos f met =
       let n = roundUp 12 size in
       rw (take-cut n a windowStart windowEnd (ltb (length k) 256) k (h .kernelList .rows) f) (record {
         paged = paged-take true false (h .paged) a (n / 4096) x met;
@@ -145,7 +145,7 @@ module _ {b : Board} {k : List VMRegion} {u : List MappedRegion} {l : List Regio
   vmalloc-step size =
       vmalloc-outcomes size
       (λ (d : Did). turnedAway (d .answer) ≡ false → Inv left (withKernel b (d .kernel)) (bookStep k (vmallocs size) (d .answer)) u (liveStep l (vmallocs size) (d .answer)))
-      (λ e _ _. h) (λ a x pos f met _. took size a x pos f met) (λ a e pos f met t ex. absurd (true≢false (sym t ∙ ex)))
+      (λ e _ _. h) (λ a x pos f met _. kernel-took size a x pos f met) (λ a e pos f met t ex. absurd (true≢false (sym t ∙ ex)))
 
   pub vfree-step : (a : ℕ) → let d = vfree up (kernelOf b) (b .root) a in
       Inv left (withKernel b (d .kernel)) (bookStep k (vfrees a) (d .answer)) u (liveStep l (vfrees a) (d .answer))

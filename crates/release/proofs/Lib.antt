@@ -3,10 +3,12 @@ pub mod Book
 pub mod Different
 pub mod Regions
 pub mod Paged
+pub mod Stopped
 pub mod Invariant
 pub mod Sound
 pub mod Kernel
 pub mod User
+pub mod Refused
 pub mod Run
 pub mod Ends
 pub mod Orders

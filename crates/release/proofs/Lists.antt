@@ -26,7 +26,7 @@ perm-map f (List·Permᴰ·swap e e′) = List·Permᴰ·swap (ap f e) (ap f e�
 perm-map f (List·Permᴰ·trans d d′) = List·Permᴰ·trans (perm-map f d) (perm-map f d′)
 
 -- two lists in front of a third change places
-exchange : {A : Type 0} (a b c : List A) → List·Permᴰ (a ++ (b ++ c)) (b ++ (a ++ c))
+pub exchange : {A : Type 0} (a b c : List A) → List·Permᴰ (a ++ (b ++ c)) (b ++ (a ++ c))
 exchange [] b c = Permᴰ·refl (b ++ c)
 exchange (x ∷ a) b c = List·Permᴰ·trans (List·Permᴰ·cons refl (exchange a b c)) (Permᴰ·symm (Permᴰ·middle x b (a ++ c)))
 

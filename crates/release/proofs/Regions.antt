@@ -1,23 +1,25 @@
 -- How the two region lists and the live regions go together, step by step.
-use Prim.Native.Nat.{ℕ, _%_, _<_, _≤_}
+use Prim.Native.Nat.{ℕ, _+_, _-_, _%_, _<_, _≤_}
 use mathlib.Core.Path.{_≡_, refl, sym, _∙_, ap, subst}
-use mathlib.Core.Bool.{Bool, true, false, true≢false}
+use mathlib.Core.Bool.{Bool, true, false, not, true≢false}
 use mathlib.Core.Logic.{⊎-elim}
 use mathlib.Core.List.{List, [], _∷_, List·Memᴰ, List·Memᴰ·head, List·Memᴰ·tail, List·Memᴰ·cases-cons, List·Memᴰ·not-nil, List·Permᴰ, List·Permᴰ·cons, List·Permᴰ·swap, List·Permᴰ·trans, Permᴰ·refl}
 use native.Mathlib.Omega.{arith}
 use native.Mathlib.Decide.{ℕ-discrete}
 use lib.IntN.{ℤ}
-use lib.Dec.{eqb, ltb}
+use lib.Dec.{eqb, leb, ltb}
 use lib.ListN.{length}
-use borrow.Author.Tests.{eqb-true, eqb-false, ltb-true}
-use Rattle.bits.specs.Bit.{pick}
+use borrow.Author.Tests.{eqb-true, eqb-false, ltb-true, not-true}
+use Rattle.bits.specs.Bit.{pick, both}
+use Rattle.bits.proofs.Choice.{both-true, both-false}
 use Rattle.answer.specs.Numbers.{regionNotFound}
 use Rattle.paging.specs.declared.Walked.{Walked}
 use Rattle.paging.specs.declared.Walked.the-variants.{At, Stop}
 use Rattle.regions.specs.declared.VMRegion.{VMRegion}
-use Rattle.regions.specs.Regions.{windowStart, windowEnd, firstFit, takeFirst, usedSize, merge}
+use Rattle.regions.specs.Regions.{windowStart, windowEnd, fits, firstFit, behind, takeFirst, taken, usedSize, merge}
+use Rattle.regions.specs.Regions.{region as kernelRegion}
 use Rattle.regions.proofs.Merge.{freedAll}
-use Rattle.regions.proofs.Rows.{Rows, rows-taken, length-taken, rows-freed, length-freed, rows-merge, length-merge}
+use Rattle.regions.proofs.Rows.{Rows, rows-taken, taken-few, length-taken, rows-freed, length-freed, rows-merge, length-merge}
 use Rattle.regions.proofs.Used.{used-merge, used-freed, used-gone, taken-used, taken-was-free, taken-others}
 use Rattle.mmap.specs.declared.MappedRegion.{MappedRegion}
 use Rattle.mmap.specs.Regions.{region, starts, holds, insert, remove}
@@ -91,6 +93,31 @@ kernel-take a n {k} {l} full pos h f = record {
         let q : kernels b m ≡ kernels a n = cc in
         List·Memᴰ·head q
     by b m e (no d) = List·Memᴰ·tail (h .used b m (sym (taken-others n room true a b k f d) ∙ e))
+
+-- a region is cut and stays free: what is used is so still
+used-cut : (n : ℕ) (room : Bool) (b : ℕ) (l : List VMRegion) → usedSize b (takeFirst false n room l) ≡ usedSize b l
+unfolding takeFirst usedSize
+used-cut n room b [] = refl
+used-cut n room b (r ∷ l) = by (fits n r) refl (used-cut n room b l)
+  where
+    rest : (x : Bool) → usedSize b (pick x (kernelRegion (r .start + n) (r .size - n) false ∷ l) l) ≡ usedSize b l
+    rest true = rw (both-false (eqb (r .start + n) b))
+    rest false = refl
+
+    by : (x : Bool) → fits n r ≡ x → usedSize b (takeFirst false n room l) ≡ usedSize b l
+        → usedSize b (pick x (kernelRegion (r .start) n false ∷ behind n room r l) (r ∷ takeFirst false n room l)) ≡ usedSize b (r ∷ l)
+    by true f later =
+        let free : r .used ≡ false = not-true (r .used) (both-true (not (r .used)) (leb n (r .size)) f .0) in
+        rw (free, both-false (eqb (r .start) b)) (rest (both room (ltb n (r .size))))
+    by false f later = ap (pick (both (eqb (r .start) b) (r .used)) (At (r .size))) later
+
+pub kernel-cut : (n : ℕ) {k : List VMRegion} {l : List Region} → n % 4096 ≡ 0 → 0 < n → KernelList k l → KernelList (taken false n k) l
+kernel-cut n {k} {l} full pos h = record {
+  rows = rows-taken false n (ltb (length k) 256) full pos windowStart windowEnd k (h .rows);
+  few = taken-few false n k (h .few);
+  used = λ b m e. h .used b m (sym (used-cut n (ltb (length k) 256) b k) ∙ e);
+  live = λ b m e. used-cut n (ltb (length k) 256) b k ∙ h .live b m e;
+}
 
 -- the region at a is released
 pub kernel-give : (a n : ℕ) {k : List VMRegion} {l : List Region} → KernelList k (kernels a n ∷ l) → Once (kernels a n ∷ l) → KernelList (merge (freedAll a k)) l

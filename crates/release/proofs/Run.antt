@@ -34,6 +34,7 @@ use Rattle.release.proofs.Paged.{Paged}
 use Rattle.release.proofs.Invariant.{Leftover, nothingLeft, Inv, Tidy}
 use Rattle.release.proofs.Kernel.{morePages, vmalloc-step, vfree-step, vmalloc-tidy, vfree-tidy}
 use Rattle.release.proofs.User.{mmap-step, munmap-step, mmap-tidy, munmap-tidy}
+use Rattle.release.proofs.Refused.{leftFrom, listFrom, run-any}
 
 -- the pages ever mapped, call by call
 abbrev pub everStep : List ℕ → Call → Walked → List ℕ
@@ -159,3 +160,8 @@ module _ (old fresh : Board) (from to : ℕ) where
 
   pub fresh-tidy : start old from to ≡ did (At 0) fresh → Tidy fresh (window ∷ []) []
   fresh-tidy = begun-cases (λ x. Tidy x (window ∷ []) []) (begun-tidy old)
+
+-- so from a fresh board on the invariant holds along every list of calls, with what those turned away leave behind
+pub fresh-any : (old fresh : Board) (from to : ℕ) → start old from to ≡ did (At 0) fresh → (cs : List Call)
+    → (u : List MappedRegion) × Inv (leftFrom nothingLeft fresh cs) (after fresh cs) (listFrom (window ∷ []) (events fresh cs)) u (liveFrom [] (events fresh cs))
+fresh-any old fresh from to st cs = run-any cs (fresh-inv old fresh from to st)

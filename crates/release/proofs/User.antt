@@ -163,9 +163,9 @@ module _ {b : Board} {k : List VMRegion} {u : List MappedRegion} {l : List Regio
           absurd (first-off (run a (n / 4096)) (map-pages-met (writable prot) true (n / 4096) (h .paged .account .order) a 0 x met) (run (a + 4096) (q .0)) (ap (run a) (q .1)) (r .0) (r .1))
 
   -- a region that is taken
-  took : (n a x : ℕ) (prot flags : ℤ) → Placed a n → full (userOf b) a ≡ false → userPages up (b .mem) (b .root) a n prot .walked ≡ At x
+  pub user-took : (n a x : ℕ) (prot flags : ℤ) → Placed a n → full (userOf b) a ≡ false → userPages up (b .mem) (b .root) a n prot .walked ≡ At x
       → Inv left (withUser b (user (userPages up (b .mem) (b .root) a n prot .mem) (store noUserSlot (insert (region a n prot flags) u) (b .user)) (a + n))) k (insert (region a n prot flags) u) (users a n ∷ l)
-  took n a x prot flags p f met =
+  user-took n a x prot flags p f met =
       let s = new-start a n x prot p met in
       let few : length u < 256 = ⊎-elim (λ e. rw user-listed at e) (λ e. absurd (true≢false (sym (rw user-listed at e) ∙ s))) (room (userOf b) a f) in
       let r = user-take a n prot flags p (h .userList) s few in
@@ -202,7 +202,7 @@ module _ {b : Board} {k : List VMRegion} {u : List MappedRegion} {l : List Regio
   mmap-step wish size prot flags =
       mmap-outcomes wish size prot flags
       (λ (d : Did). turnedAway (d .answer) ≡ false → (u′ : List MappedRegion) × Inv left (withUser b (d .user)) k u′ (liveStep l (mmaps wish size prot flags) (d .answer)))
-      (λ e _ _. (u, h)) (λ a x p f met _. (insert (region a (roundUp 12 size) prot flags) u, took (roundUp 12 size) a x prot flags p f met))
+      (λ e _ _. (u, h)) (λ a x p f met _. (insert (region a (roundUp 12 size) prot flags) u, user-took (roundUp 12 size) a x prot flags p f met))
       (λ a e c met t ex. absurd (true≢false (sym t ∙ ex)))
 
   pub munmap-step : (a size : ℕ) → let d = munmap up (userOf b) (b .root) a size in
