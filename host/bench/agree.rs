@@ -1,0 +1,257 @@
+//! `same` beside the port: random calls on boards that calls led to, on boards near them, and on damaged
+//! parts. Answers and all parts must be equal, so that what the rows compare does the same work.
+
+use crate::same;
+use crate::trio::{alike, state};
+use gadulnos::{Board, Frames, Kernel, Line, Marked, Region, Slot, User};
+use paper::call::{user, writable, Call};
+use paper::generate::{Generator, Parts, Profile, Random};
+use paper::{KERNEL_WINDOW, PAGE, USER_WINDOW};
+
+const SEQUENCES: u64 = 1500;
+
+/// The answers of a call, of a translation also those of the user question, and of the counts all three.
+macro_rules! player {
+    ($name:ident, $calls:ident) => {
+        pub fn $name(board: &mut Board, call: &Call) -> [Line; 3] {
+            let Frames { start_frame: first, total, .. } = board.frames();
+            let Board { words, fields, bits, root, kernel, user: list, marked } = board;
+            let root = *root;
+            let one = match *call {
+                Call::Vmalloc { size } => $calls::vmalloc(words, fields, bits, root, kernel, size),
+                Call::Vfree { addr } => $calls::vfree(words, fields, bits, root, kernel, addr),
+                Call::Mmap { given, addr, size, prot, flags } => {
+                    $calls::mmap(words, fields, bits, root, list, given, addr, size, prot, flags)
+                }
+                Call::Munmap { addr, size } => {
+                    $calls::munmap(words, fields, bits, root, list, addr, size)
+                }
+                Call::Fault { addr, code } => {
+                    $calls::handle_page_fault(words, fields, bits, root, marked, addr, code)
+                }
+                Call::SecondFault { addr, code } => {
+                    $calls::handle_page_fault_second(words, fields, bits, root, addr, code)
+                }
+                Call::Translate { addr } => {
+                    return [
+                        $calls::translate(words, first, total, root, addr),
+                        $calls::user_may(words, first, total, root, addr, false),
+                        $calls::user_may(words, first, total, root, addr, true),
+                    ]
+                }
+                Call::MapPage { virt, phys, flags } => {
+                    let (w, u) = (writable(flags), user(flags));
+                    $calls::map_page(words, fields, bits, root, virt, phys, w, u)
+                }
+                Call::UnmapPage { virt } => $calls::unmap_page(words, first, total, root, virt),
+                Call::MapHugePage { virt, phys, gigabyte, flags } => {
+                    let (w, u) = (writable(flags), user(flags));
+                    $calls::map_huge_page(words, fields, bits, root, virt, phys, gigabyte, w, u)
+                }
+                Call::MarkCow { addr } => $calls::mark_cow(marked, addr),
+                Call::UnmarkCow { addr } => $calls::unmark_cow(marked, addr),
+                Call::IsCow { addr } => $calls::is_cow(marked, addr),
+                Call::AllocateFrame => $calls::allocate_frame(fields, bits),
+                Call::DeallocateFrame { frame } => $calls::deallocate_frame(fields, bits, frame),
+                Call::MarkAllocated { frame } => $calls::mark_allocated(fields, bits, frame),
+                Call::IsAllocated { frame } => $calls::is_allocated(fields, bits, frame),
+                Call::Counts => {
+                    return [
+                        $calls::free_frames(fields, bits),
+                        $calls::allocated_frames(fields, bits),
+                        $calls::total_frames(fields, bits),
+                    ]
+                }
+                // On numbers alone: no row has them.
+                Call::IsVmallocAddr { .. } | Call::Mprotect { .. } => Line::met(0),
+            };
+            [one; 3]
+        }
+    };
+}
+
+player!(on_port, gadulnos);
+player!(on_same, same);
+
+fn copy(board: &Board) -> Board {
+    Board {
+        words: board.words.clone(),
+        fields: board.fields.clone(),
+        bits: board.bits.clone(),
+        root: board.root,
+        kernel: board.kernel.clone(),
+        user: board.user.clone(),
+        marked: board.marked.clone(),
+    }
+}
+
+/// A call on both, which must leave both alike.
+fn both(port: &mut Board, same: &mut Board, call: &Call) -> Result<(), String> {
+    let (one, other) = (on_port(port, call), on_same(same, call));
+    if one != other {
+        return Err(format!("{call}: {one:?} and {other:?}"));
+    }
+    alike(port, same).map_err(|part| format!("{call}: {part}"))
+}
+
+/// A start on both, whatever the parts hold.
+fn start(port: &mut Board, same: &mut Board, from: u64, to: u64) -> Result<(), String> {
+    let Board { words, fields, bits, root, kernel, user, marked } = same;
+    let other = same::start(words, fields, bits, root, kernel, user, marked, from, to);
+    let one = port.start(from, to);
+    let told = || format!("start {from:x} {to:x}");
+    if one != other {
+        return Err(format!("{}: {one:?} and {other:?}", told()));
+    }
+    alike(port, same).map_err(|part| format!("{}: {part}", told()))
+}
+
+pub fn play() -> Result<(), String> {
+    let mut random = Random::new(1);
+    for i in 0..SEQUENCES {
+        let profile = random.one_of(&Profile::ALL);
+        let mut generator = Generator::new(random.word(), profile);
+        let (from, to) = generator.board();
+        // The few boards of thousands of frames take long to copy.
+        if to - from < 600 * PAGE {
+            sequence(&mut random, &mut generator, from, to)
+                .map_err(|why| format!("sequence {i}, {}: {why}", generator.label()))?;
+        }
+    }
+    Ok(())
+}
+
+fn sequence(
+    random: &mut Random,
+    generator: &mut Generator,
+    from: u64,
+    to: u64,
+) -> Result<(), String> {
+    let mut port = Board::lend(((to - from) / PAGE) as usize);
+    generator.fill(&mut port.words);
+    let mut same = copy(&port);
+    start(&mut port, &mut same, from, to)?;
+    for _ in 0..generator.length() {
+        let stands = state(&port).ok_or("parts that stand for no state")?;
+        let call = generator.next(&stands);
+        // Large boards take longer to copy.
+        if random.chance(16, stands.total) {
+            on_changed(random, generator, copy(&port), (from, to))?;
+        }
+        both(&mut port, &mut same, &call)?;
+    }
+    Ok(())
+}
+
+/// A call and a start on a board that is changed before.
+fn on_changed(
+    random: &mut Random,
+    generator: &mut Generator,
+    mut port: Board,
+    (from, to): (u64, u64),
+) -> Result<(), String> {
+    let mut parts = generator.perturb(&state(&port).ok_or("parts that stand for no state")?);
+    if random.chance(1, 3) {
+        crowd(random, &mut parts);
+    }
+    if random.chance(1, 2) {
+        set(&mut port, &parts);
+    }
+    // Nothing is drawn on a list that is longer than 256.
+    let Some(stands) = state(&port) else { return Ok(()) };
+    let call = generator.next(&stands);
+    for _ in 0..random.below(3) {
+        damage(random, &mut port);
+    }
+    let mut same = copy(&port);
+    both(&mut port, &mut same, &call)?;
+    let end = random.one_of(&[to, from, from.wrapping_sub(1), (1 << 52) + 1]);
+    start(&mut port, &mut same, from, end)
+}
+
+/// Other lists: at times full ones, or nearly so, and regions of any size over the pages that stand.
+fn crowd(random: &mut Random, parts: &mut Parts) {
+    let count = random.one_of(&[2, 9, 254, 255, 256]);
+    let mut ranges = |window: u64| -> Vec<(u64, u64)> {
+        let range = |i: u64| {
+            let most = if i % 8 == 0 { 1 << random.below(20) } else { 1 };
+            let before = random.below(most);
+            let pages = 2 * before + 1 + random.below(4);
+            (window + 4 * i * PAGE - before * PAGE, pages * PAGE)
+        };
+        (0..count).map(range).collect()
+    };
+    let slot = |(start, size)| paper::state::Slot { start, size, used: size & PAGE != 0 };
+    parts.slots = ranges(KERNEL_WINDOW.0).into_iter().map(slot).collect();
+    let region = |(start, size)| paper::state::Region { start, size, prot: 3, flags: 0x22 };
+    parts.regions = ranges(USER_WINDOW.0).into_iter().map(region).collect();
+    parts.regions.sort_by_key(|region| region.start);
+    parts.regions.dedup_by_key(|region| region.start);
+    parts.marked = (0..count).map(|i| USER_WINDOW.0 + 2 * i * PAGE).collect();
+}
+
+/// Sets a board to a state near its own.
+fn set(board: &mut Board, parts: &Parts) {
+    for &(index, word) in &parts.words {
+        board.words[index] = word;
+    }
+    board.fields = Frames { allocated: parts.allocated, ..board.frames() }.pack();
+    board.bits = gadulnos::pack_bitmap(&parts.bitmap);
+    board.root = parts.root;
+    let none = Slot { start: 0, size: 0, used: false };
+    let mut kernel = Kernel { count: parts.slots.len() as u64, slots: [none; 256] };
+    for (to, s) in kernel.slots.iter_mut().zip(&parts.slots) {
+        *to = Slot { start: s.start, size: s.size, used: s.used };
+    }
+    board.kernel = kernel.pack();
+    let none = Region { start: 0, size: 0, prot: 0, flags: 0 };
+    let (count, next_addr) = (parts.regions.len() as u64, parts.next_addr);
+    let mut user = User { count, next_addr, slots: [none; 256] };
+    for (to, r) in user.slots.iter_mut().zip(&parts.regions) {
+        *to = Region { start: r.start, size: r.size, prot: r.prot, flags: r.flags };
+    }
+    board.user = user.pack();
+    let mut marked = Marked { count: parts.marked.len() as u64, pages: [0; 256] };
+    marked.pages.iter_mut().zip(&parts.marked).for_each(|(to, page)| *to = *page);
+    board.marked = marked.pack();
+}
+
+/// Another root or other frames, a root that leads to itself, or a byte or a length that is another
+/// than it was, whatever that makes of the part.
+fn damage(random: &mut Random, board: &mut Board) {
+    let Frames { start_frame, total, allocated } = board.frames();
+    let Board { words, fields, bits, root, kernel, user, marked } = board;
+    let part = match random.below(10) {
+        0 => return words.truncate(words.len().saturating_sub(random.below(2) as usize)),
+        1 => return *root = root.wrapping_add(random.one_of(&[u64::MAX, 1, 600])),
+        2 => {
+            let start_frame = start_frame.wrapping_add(1 << random.one_of(&[12, 39, 40, 63]));
+            *fields = Frames { start_frame, total, allocated }.pack();
+            return *root = start_frame;
+        }
+        3 => {
+            let first = root.wrapping_sub(start_frame).min(8192) as usize * 512;
+            let table = words.get_mut(first..first + 512).unwrap_or_default();
+            let entries = table.iter_mut().enumerate();
+            let on_the_way = entries.filter(|(i, _)| [0, 32, 256, 511].contains(i));
+            return on_the_way.for_each(|(_, entry)| *entry = root.wrapping_mul(PAGE) | 7);
+        }
+        4 | 5 => fields,
+        6 => bits,
+        7 => kernel,
+        8 => user,
+        _ => marked,
+    };
+    match random.below(8) {
+        0 => part.push(0),
+        1 => part.truncate(part.len().saturating_sub(1 + random.below(8) as usize)),
+        2 => part.clear(),
+        _ => {
+            let most = random.one_of(&[32, 72, part.len() as u64]).min(part.len() as u64);
+            if let Some(byte) = part.get_mut(random.below(most) as usize) {
+                let any = random.word() as u8;
+                *byte = random.one_of(&[0, 1, 2, *byte ^ 1, *byte ^ 16, any]);
+            }
+        }
+    }
+}

@@ -1,0 +1,126 @@
+//! vmalloc with vfree, mmap with munmap, and refusals.
+
+use crate::sides::Side;
+use crate::table::{timed, Row, Table, Work};
+use crate::trio::{each, state, Trio};
+use crate::{LARGE, SMALL};
+use paper::PAGE;
+use std::hint::black_box;
+
+/// Frames, pages, regions, and whether the line stands in the first table.
+const SIZES: [(u64, u64, u64, bool); 14] = [
+    (LARGE, 1, 2, true),
+    (LARGE, 16, 2, true),
+    (LARGE, 512, 2, true),
+    (LARGE, 1, 200, true),
+    (LARGE, 16, 200, true),
+    (LARGE, 512, 200, true),
+    (SMALL, 1, 2, true),
+    (LARGE, 1, 50, false),
+    (LARGE, 1, 100, false),
+    (LARGE, 1, 250, false),
+    (LARGE, 4, 2, false),
+    (LARGE, 64, 2, false),
+    (LARGE, 256, 2, false),
+    (LARGE, 2048, 2, false),
+];
+
+fn on(frames: u64, pages: u64, regions: u64) -> String {
+    let pages = if pages == 1 { "1 page".to_string() } else { format!("{pages} pages") };
+    let frames = if frames == LARGE { String::new() } else { format!("{frames} frames, ") };
+    format!("{frames}{pages}, {regions} regions")
+}
+
+/// How many pairs of calls a round makes.
+fn pairs(pages: u64) -> u64 {
+    (512 / pages).clamp(2, 64)
+}
+
+pub fn rows(table: &mut Table) {
+    for (frames, pages, regions, main) in SIZES {
+        let goal = Some(if pages < 16 { 8.0 } else { 1.5 });
+        let row = Row { what: "vmalloc, vfree", on: on(frames, pages, regions), goal, main };
+        table.row(row, || (kernel_board(frames, regions), Vmalloc { pages }));
+    }
+    for (frames, pages, regions, main) in SIZES {
+        let (on, goal) = (on(frames, pages, regions), Some(1.5));
+        let row = Row { what: "mmap, munmap", on, goal, main };
+        table.row(row, || {
+            let trio = user_board(frames, regions);
+            let next_addr = state(&trio.port.board).map_or(0, |state| state.next_addr);
+            (trio, Mmap { pages, next_addr })
+        });
+    }
+    for (regions, main) in [(2, true), (200, false)] {
+        let row = |what| Row { what, on: format!("{regions} regions"), goal: None, main };
+        let size_zero = row("refused: vmalloc of size 0");
+        table.row(size_zero, || (kernel_board(LARGE, regions), SizeZero));
+        let unknown = row("refused: munmap of an unknown address");
+        table.row(unknown, || (user_board(LARGE, regions), Unknown));
+    }
+}
+
+/// A board with so many vmalloc regions, all but the last one used.
+fn kernel_board(frames: u64, regions: u64) -> Trio {
+    let mut trio = Trio::start(frames);
+    each!(trio, side => for _ in 1..regions {
+        assert!(side.vmalloc(PAGE).is_some());
+    });
+    trio
+}
+
+/// A board on which one mmap more makes so many regions.
+fn user_board(frames: u64, regions: u64) -> Trio {
+    let mut trio = Trio::start(frames);
+    each!(trio, side => for _ in 1..regions {
+        assert!(side.mmap(PAGE).is_some());
+    });
+    trio
+}
+
+struct Vmalloc {
+    pages: u64,
+}
+
+impl Work for Vmalloc {
+    fn round<S: Side>(&self, side: &mut S) -> f64 {
+        timed(pairs(self.pages), |_| {
+            let found = side.vmalloc(black_box(self.pages * PAGE)).unwrap_or(0);
+            side.vfree(black_box(found))
+        })
+    }
+}
+
+/// next_addr is set back after each round, outside the timed part.
+struct Mmap {
+    pages: u64,
+    next_addr: u64,
+}
+
+impl Work for Mmap {
+    fn round<S: Side>(&self, side: &mut S) -> f64 {
+        let time = timed(pairs(self.pages), |_| {
+            let size = black_box(self.pages * PAGE);
+            let found = side.mmap(size).unwrap_or(0);
+            side.munmap(black_box(found), size)
+        });
+        side.set_next_addr(self.next_addr);
+        time
+    }
+}
+
+struct SizeZero;
+
+impl Work for SizeZero {
+    fn round<S: Side>(&self, side: &mut S) -> f64 {
+        timed(1000, |_| side.vmalloc(black_box(0)))
+    }
+}
+
+struct Unknown;
+
+impl Work for Unknown {
+    fn round<S: Side>(&self, side: &mut S) -> f64 {
+        timed(1000, |_| side.munmap(black_box(0x5000_0000_0000), black_box(PAGE)))
+    }
+}

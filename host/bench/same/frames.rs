@@ -1,0 +1,172 @@
+//! The frame record and its bitmap.
+
+use super::packed::{are_zero, put, word};
+use super::{line, Answer, BROKEN};
+use gadulnos::Line;
+
+/// A record that was tested.
+#[derive(Clone, Copy)]
+struct Record {
+    start: u64,
+    total: u64,
+    allocated: u64,
+}
+
+impl Record {
+    #[inline(always)]
+    fn read(fields: &[u8], bits: &[u8]) -> Option<Record> {
+        if fields.len() != 24 || bits.len() != 1024 {
+            return None;
+        }
+        let record =
+            Record { start: word(fields, 0), total: word(fields, 1), allocated: word(fields, 2) };
+        let sound = record.total <= 8192
+            && record.start <= (1 << 40) - record.total
+            && record.allocated == count(bits, record.total);
+        sound.then_some(record)
+    }
+
+    /// The place of a lent frame's bit.
+    #[inline]
+    fn place(&self, frame: u64) -> Option<u64> {
+        let i = frame.wrapping_sub(self.start);
+        (i < self.total).then_some(i)
+    }
+}
+
+/// The set bits below total. Frames are taken lowest first: words at the front are full, and nothing
+/// is marked behind the first that is not.
+#[inline(never)]
+fn count(bits: &[u8], total: u64) -> u64 {
+    let (whole, rest) = (total as usize / 64, total % 64);
+    let ones = |from: usize, end: usize| -> u64 {
+        (from..end).map(|k| u64::from(word(bits, k).count_ones())).sum()
+    };
+    let full = (0..whole).take_while(|&k| word(bits, k) == u64::MAX).count();
+    let near = whole.min(full + 1);
+    let mixed = match are_zero(bits, near, whole) {
+        true => ones(full, near),
+        false => ones(full, whole),
+    };
+    let last = if rest == 0 { 0 } else { word(bits, whole) & ((1 << rest) - 1) };
+    64 * full as u64 + mixed + u64::from(last.count_ones())
+}
+
+/// The record with the parts that hold it, for calls that change them.
+pub struct Frames<'a> {
+    fields: &'a mut [u8],
+    bits: &'a mut [u8],
+    record: Record,
+}
+
+impl<'a> Frames<'a> {
+    #[inline(always)]
+    pub fn sound(fields: &'a mut [u8], bits: &'a mut [u8]) -> Option<Frames<'a>> {
+        let record = Record::read(fields, bits)?;
+        Some(Frames { fields, bits, record })
+    }
+
+    #[inline]
+    pub fn start(&self) -> u64 {
+        self.record.start
+    }
+
+    #[inline]
+    pub fn total(&self) -> u64 {
+        self.record.total
+    }
+
+    #[inline]
+    fn set_allocated(&mut self, allocated: u64) {
+        self.record.allocated = allocated;
+        put(self.fields, 2, allocated);
+    }
+
+    /// Marks the lowest free frame.
+    #[inline]
+    pub fn take(&mut self) -> Answer {
+        let Record { start, total, allocated } = self.record;
+        for k in 0..(total as usize + 63) / 64 {
+            let marks = word(self.bits, k);
+            if marks != u64::MAX {
+                let bit = marks.trailing_ones();
+                let i = 64 * k as u64 + u64::from(bit);
+                if i >= total {
+                    return Err(11);
+                }
+                put(self.bits, k, marks | 1 << bit);
+                self.set_allocated(allocated + 1);
+                return Ok(start + i);
+            }
+        }
+        Err(11)
+    }
+
+    /// Marks a frame or frees it; only a bit that changes moves the counter.
+    #[inline]
+    fn set(&mut self, frame: u64, marked: bool) {
+        let Some(i) = self.record.place(frame) else { return };
+        let (k, bit) = (i as usize / 64, 1 << (i % 64));
+        let marks = word(self.bits, k);
+        if (marks & bit != 0) == marked {
+            return;
+        }
+        put(self.bits, k, marks ^ bit);
+        let allocated = self.record.allocated;
+        self.set_allocated(if marked { allocated + 1 } else { allocated - 1 });
+    }
+
+    #[inline]
+    pub fn free(&mut self, frame: u64) {
+        self.set(frame, false);
+    }
+}
+
+#[inline(never)]
+pub fn allocate_frame(fields: &mut [u8], bits: &mut [u8]) -> Line {
+    line(Frames::sound(fields, bits).ok_or(BROKEN).and_then(|mut frames| frames.take()))
+}
+
+#[inline]
+fn set_frame(fields: &mut [u8], bits: &mut [u8], frame: u64, marked: bool) -> Line {
+    let Some(mut frames) = Frames::sound(fields, bits) else { return Line::refused(BROKEN) };
+    frames.set(frame, marked);
+    Line::met(0)
+}
+
+#[inline(never)]
+pub fn deallocate_frame(fields: &mut [u8], bits: &mut [u8], frame: u64) -> Line {
+    set_frame(fields, bits, frame, false)
+}
+
+#[inline(never)]
+pub fn mark_allocated(fields: &mut [u8], bits: &mut [u8], frame: u64) -> Line {
+    set_frame(fields, bits, frame, true)
+}
+
+/// A question to a record that is only read.
+#[inline]
+fn asked(fields: &[u8], bits: &[u8], question: impl FnOnce(Record) -> u64) -> Line {
+    Record::read(fields, bits).map_or(Line::refused(BROKEN), |record| Line::met(question(record)))
+}
+
+#[inline(never)]
+pub fn is_allocated(fields: &[u8], bits: &[u8], frame: u64) -> Line {
+    let is_marked = |i: u64| word(bits, i as usize / 64) >> (i % 64) & 1;
+    asked(fields, bits, |record| record.place(frame).map_or(1, is_marked))
+}
+
+#[inline(never)]
+pub fn free_frames(fields: &[u8], bits: &[u8]) -> Line {
+    asked(fields, bits, |record| record.total - record.allocated)
+}
+
+#[inline(never)]
+pub fn allocated_frames(fields: &[u8], bits: &[u8]) -> Line {
+    asked(fields, bits, |record| record.allocated)
+}
+
+#[inline(never)]
+pub fn total_frames(fields: &[u8], bits: &[u8]) -> Line {
+    asked(fields, bits, |record| record.total)
+}

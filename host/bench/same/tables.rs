@@ -1,0 +1,168 @@
+//! The page tables: walks on lent words, and the mapper's calls.
+
+use super::memory::Memory;
+use super::{line, Answer, BROKEN, PAGE};
+use gadulnos::Line;
+
+pub const PRESENT: u64 = 1;
+const WRITABLE: u64 = 2;
+const USER: u64 = 4;
+const HUGE: u64 = 128;
+const ADDR_MASK: u64 = 0x000F_FFFF_FFFF_F000;
+
+/// The lent frames and the root, by their numbers.
+#[derive(Clone, Copy)]
+pub struct Tables {
+    pub start: u64,
+    pub total: u64,
+    pub root: u64,
+}
+
+impl Tables {
+    #[inline]
+    pub fn are_broken(&self, words: &[u64]) -> bool {
+        self.total > 8192
+            || (words.len() as u64) < self.total * 512
+            || self.start > (1 << 40) - self.total
+            || self.place(self.root).is_none()
+    }
+
+    /// The first word of a lent frame.
+    #[inline]
+    pub fn place(&self, frame: u64) -> Option<usize> {
+        let i = frame.wrapping_sub(self.start);
+        (i < self.total).then_some(i as usize * 512)
+    }
+
+    /// The entry at which a translation ends, and its level.
+    #[inline]
+    fn leaf(&self, words: &[u64], virt: u64) -> Result<(u64, u32), u64> {
+        let mut table = self.root;
+        for level in 0..4 {
+            let entry = words[self.place(table).ok_or(19u64)? + index(virt, level)];
+            if entry & PRESENT == 0 {
+                return Err(14);
+            }
+            if level == 3 || level == 2 && entry & HUGE != 0 {
+                return Ok((entry, level));
+            }
+            table = frame_of(entry);
+        }
+        Err(14)
+    }
+
+    #[inline]
+    pub fn translate(&self, words: &[u64], virt: u64) -> Answer {
+        let (entry, level) = self.leaf(words, virt)?;
+        let low = if level == 2 { 21 } else { 12 };
+        Ok((entry & ADDR_MASK) + virt % (1 << low))
+    }
+
+    /// Takes a page out of its table, and gives the frame that it was mapped to.
+    #[inline]
+    pub fn unmap(&self, words: &mut [u64], virt: u64) -> Answer {
+        let mut table = self.root;
+        for level in 0..3 {
+            let entry = words[self.place(table).ok_or(19u64)? + index(virt, level)];
+            if entry & PRESENT == 0 {
+                return Err(14);
+            }
+            table = frame_of(entry);
+        }
+        let at = self.place(table).ok_or(19u64)? + index(virt, 3);
+        let entry = words[at];
+        if entry & PRESENT == 0 {
+            return Err(14);
+        }
+        words[at] = 0;
+        Ok(frame_of(entry))
+    }
+}
+
+/// The index of an address at a level, counted from the root.
+#[inline]
+pub fn index(virt: u64, level: u32) -> usize {
+    (virt >> (39 - 9 * level)) as usize % 512
+}
+
+#[inline]
+pub fn frame_of(entry: u64) -> u64 {
+    (entry & ADDR_MASK) / PAGE
+}
+
+#[inline]
+pub fn entry(phys: u64, writable: bool, user: bool) -> u64 {
+    let writable = if writable { WRITABLE } else { 0 };
+    let user = if user { USER } else { 0 };
+    phys & ADDR_MASK | PRESENT | writable | user
+}
+
+#[inline(never)]
+pub fn translate(words: &[u64], start: u64, total: u64, root: u64, virt: u64) -> Line {
+    let tables = Tables { start, total, root };
+    if tables.are_broken(words) {
+        return Line::refused(BROKEN);
+    }
+    line(tables.translate(words, virt))
+}
+
+#[inline(never)]
+pub fn user_may(words: &[u64], start: u64, total: u64, root: u64, virt: u64, write: bool) -> Line {
+    let tables = Tables { start, total, root };
+    if tables.are_broken(words) {
+        return Line::refused(BROKEN);
+    }
+    let need = if write { USER | WRITABLE } else { USER };
+    let leaf = tables.leaf(words, virt);
+    Line::met(leaf.map_or(0, |(entry, level)| u64::from(level == 3 && entry & need == need)))
+}
+
+#[inline(never)]
+pub fn unmap_page(words: &mut [u64], start: u64, total: u64, root: u64, virt: u64) -> Line {
+    let tables = Tables { start, total, root };
+    if tables.are_broken(words) {
+        return Line::refused(BROKEN);
+    }
+    line(tables.unmap(words, virt))
+}
+
+#[inline(never)]
+#[allow(clippy::too_many_arguments)]
+pub fn map_page(
+    words: &mut [u64],
+    fields: &mut [u8],
+    bits: &mut [u8],
+    root: u64,
+    virt: u64,
+    phys: u64,
+    writable: bool,
+    user: bool,
+) -> Line {
+    let Some(mut memory) = Memory::sound(words, fields, bits, root) else {
+        return Line::refused(BROKEN);
+    };
+    line(memory.map(virt, 3, user, entry(phys, writable, user)))
+}
+
+#[inline(never)]
+#[allow(clippy::too_many_arguments)]
+pub fn map_huge_page(
+    words: &mut [u64],
+    fields: &mut [u8],
+    bits: &mut [u8],
+    root: u64,
+    virt: u64,
+    phys: u64,
+    gigabyte: bool,
+    writable: bool,
+    user: bool,
+) -> Line {
+    let Some(mut memory) = Memory::sound(words, fields, bits, root) else {
+        return Line::refused(BROKEN);
+    };
+    let (size, depth) = if gigabyte { (1 << 30, 2) } else { (1 << 21, 3) };
+    if (virt | phys) % size != 0 {
+        return Line::refused(4);
+    }
+    line(memory.map(virt, depth, user, entry(phys, writable, user) | HUGE))
+}
