@@ -60,8 +60,6 @@ fn main() {
     report.tell("keys: tapes of any bytes", any_bytes(&options));
     report.tell("keys: long tapes", long(&options));
     report.tell("keys: tapes that come in pieces", pieces(&options));
-    // From here on each run has a limit of its own.
-    guard::within(0);
     match draw_any(&mut options.random(7), 9000) {
         Ok(calls) => ends::check(&mut report, &tape::serialise(&calls)),
         Err(why) => report.check("keys: ends", Err(why)),
