@@ -3,7 +3,7 @@
 set -euo pipefail
 cd "$(dirname "$0")/.."
 script="create target/staticlib/libdesk.a"
-for part in desk_memory desk_regions desk_faults; do
+for part in desk_numbers desk_memory desk_regions desk_faults; do
     rt staticlib "$part"
     script+=$'\n'"addlib target/staticlib/lib$part.a"
 done

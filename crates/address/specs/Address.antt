@@ -4,8 +4,8 @@ use mathlib.Core.Bool.{Bool}
 use lib.Dec.{eqb, leb}
 use Rattle.bits.specs.Bit.{pick}
 use Rattle.answer.specs.declared.Line.{Line}
-use Rattle.answer.specs.declared.CountAnswer.{CountAnswer}
-use Rattle.answer.specs.declared.CountAnswer.the-variants.{Count, NoCount}
+use Rattle.answer.specs.declared.Outcome.{Outcome}
+use Rattle.answer.specs.declared.Outcome.the-variants.{Value, Stop}
 use Rattle.allocator.specs.Round.{alignUp}
 use Rattle.address.specs.declared.VirtAnswer.{VirtAnswer}
 use Rattle.address.specs.declared.VirtAnswer.the-variants.{AtVirt, NoVirt}
@@ -20,14 +20,18 @@ use Rattle.address.specs.declared.MemoryZone.the-variants.{Dma, Normal, 
 abbrev pub aligned : ℕ → ℕ → Bool
 aligned x a = pick (eqb a 0) (eqb x 0) (eqb (x % a) 0)
 
--- a rounded number as an address of each kind
-abbrev pub asVirt : CountAnswer → VirtAnswer
-asVirt (Count a) = AtVirt (record { 0 = a })
-asVirt (NoCount n) = NoVirt n
+-- where a call or a step came, as the answer of each kind of call
+abbrev pub asVirt : Outcome → VirtAnswer
+asVirt (Value a) = AtVirt (record { 0 = a })
+asVirt (Stop n) = NoVirt n
 
-abbrev pub asPhys : CountAnswer → PhysAnswer
-asPhys (Count a) = AtPhys (record { 0 = a })
-asPhys (NoCount n) = NoPhys n
+abbrev pub asPhys : Outcome → PhysAnswer
+asPhys (Value a) = AtPhys (record { 0 = a })
+asPhys (Stop n) = NoPhys n
+
+abbrev pub asFrame : Outcome → FrameAnswer
+asFrame (Value f) = AtFrame (record { 0 = f })
+asFrame (Stop n) = NoFrame n
 
 abbrev pub virtUp : ℕ → ℕ → VirtAnswer
 virtUp x a = asVirt (alignUp x a)

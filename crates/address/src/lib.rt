@@ -1,6 +1,6 @@
 // Virtual and physical addresses and frame numbers: three number types that do not mix, and the answers that hand one back.
-use answer::CountAnswer;
 use answer::Line;
+use answer::Outcome;
 ghost use mathlib.Core.Path.{_≡_};
 ghost use Prim.Native.Nat.{_*_, _/_, _%_, _^_};
 ghost use Rattle.allocator.specs.Round.{alignDown};
@@ -113,8 +113,8 @@ impl VirtAddr {
         ensures { λ r. ⌜ r ≡ virtUp (self .0) align ⌝ }
     {
         match allocator::align_up(self.0, align) {
-            CountAnswer::Count(a) => VirtAnswer::AtVirt(VirtAddr(a)),
-            CountAnswer::NoCount(n) => VirtAnswer::NoVirt(n),
+            Outcome::Value(a) => VirtAnswer::AtVirt(VirtAddr(a)),
+            Outcome::Stop(n) => VirtAnswer::NoVirt(n),
         }
     }
 
@@ -160,8 +160,8 @@ impl PhysAddr {
         ensures { λ r. ⌜ r ≡ physUp (self .0) align ⌝ }
     {
         match allocator::align_up(self.0, align) {
-            CountAnswer::Count(a) => PhysAnswer::AtPhys(PhysAddr(a)),
-            CountAnswer::NoCount(n) => PhysAnswer::NoPhys(n),
+            Outcome::Value(a) => PhysAnswer::AtPhys(PhysAddr(a)),
+            Outcome::Stop(n) => PhysAnswer::NoPhys(n),
         }
     }
 

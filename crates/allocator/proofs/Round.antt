@@ -10,7 +10,7 @@ use lib.Bits.{bitAnd, and-high}
 use lib.Pow.{pow-pos, pow-mono, shr-mod, high-ones}
 use borrow.Author.Tests.{le-leb, lt-leb, leb-true, leb-false}
 use Rattle.bits.specs.Bit.{pick}
-use Rattle.answer.specs.declared.CountAnswer.the-variants.{Count, NoCount}
+use Rattle.answer.specs.declared.Outcome.the-variants.{Value, Stop}
 use Rattle.answer.specs.Numbers.{tooLarge}
 use Rattle.allocator.specs.Round.{alignDown, alignUp, roundUp, lastPage, rounded}
 
@@ -27,14 +27,14 @@ align-down k x l h =
     let e : (64 - k) + k ≡ 64 = omega arith in
     subst (λ (n : ℕ). x < 2 ^ n → bitAnd x (2 ^ n - 1 - (2 ^ k - 1)) ≡ x / 2 ^ k * 2 ^ k) e (high-mask (64 - k) k x) h
 
-pub align-up : (k x : ℕ) → k ≤ 63 → alignUp x (2 ^ k) ≡ pick (leb x (2 ^ 64 - 2 ^ k)) (Count (roundUp k x)) (NoCount tooLarge)
+pub align-up : (k x : ℕ) → k ≤ 63 → alignUp x (2 ^ k) ≡ pick (leb x (2 ^ 64 - 2 ^ k)) (Value (roundUp k x)) (Stop tooLarge)
 unfolding alignUp
 align-up k x l = by-test (leb x (2 ^ 64 - 2 ^ k)) refl
   where
     small : 2 ^ k ≤ 2 ^ 63
     small = pow-mono l
 
-    by-test : (t : Bool) → leb x (2 ^ 64 - 2 ^ k) ≡ t → alignUp x (2 ^ k) ≡ pick t (Count (roundUp k x)) (NoCount tooLarge)
+    by-test : (t : Bool) → leb x (2 ^ 64 - 2 ^ k) ≡ t → alignUp x (2 ^ k) ≡ pick t (Value (roundUp k x)) (Stop tooLarge)
     by-test true e =
         let sum : x + (2 ^ k - 1) ≤ 2 ^ 64 - 1 = omega (arith, leb-true x (2 ^ 64 - 2 ^ k) e, pow-pos k, small) in
         simp (le-leb _ _ sum, align-down k (x + (2 ^ k - 1)) l (omega arith))
@@ -48,11 +48,11 @@ unfolding rounded
 rounded-align x = sym (align-up 12 x (lit≤ tt))
 
 -- up to the last page a size is rounded, and above it is 3
-pub rounded-met : (x : ℕ) → x ≤ lastPage → rounded x ≡ Count (roundUp 12 x)
+pub rounded-met : (x : ℕ) → x ≤ lastPage → rounded x ≡ Value (roundUp 12 x)
 unfolding rounded
 rounded-met x h = simp (le-leb _ _ h)
 
-pub rounded-above : (x : ℕ) → lastPage < x → rounded x ≡ NoCount tooLarge
+pub rounded-above : (x : ℕ) → lastPage < x → rounded x ≡ Stop tooLarge
 unfolding rounded
 rounded-above x h = simp (lt-leb _ _ h)
 

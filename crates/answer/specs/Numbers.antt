@@ -4,8 +4,8 @@ use Rattle.bits.specs.Bit.{one}
 use Rattle.answer.specs.declared.Line.{Line}
 use Rattle.answer.specs.declared.Answer.{Answer}
 use Rattle.answer.specs.declared.Answer.the-variants.{Met, Refused}
-use Rattle.answer.specs.declared.CountAnswer.{CountAnswer}
-use Rattle.answer.specs.declared.CountAnswer.the-variants.{Count, NoCount}
+use Rattle.answer.specs.declared.Outcome.{Outcome}
+use Rattle.answer.specs.declared.Outcome.the-variants.{Value, Stop}
 use Rattle.answer.specs.declared.FlagAnswer.{FlagAnswer}
 use Rattle.answer.specs.declared.FlagAnswer.the-variants.{Flag, NoFlag}
 
@@ -98,9 +98,9 @@ abbrev pub answerLine : Answer → Line
 answerLine Met = record { number = 0; value = 0 }
 answerLine (Refused n) = record { number = n; value = 0 }
 
-abbrev pub countLine : CountAnswer → Line
-countLine (Count v) = record { number = 0; value = v }
-countLine (NoCount n) = record { number = n; value = 0 }
+abbrev pub countLine : Outcome → Line
+countLine (Value v) = record { number = 0; value = v }
+countLine (Stop n) = record { number = n; value = 0 }
 
 abbrev pub flagLine : FlagAnswer → Line
 flagLine (Flag b) = record { number = 0; value = one b }

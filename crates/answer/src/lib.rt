@@ -50,10 +50,10 @@ pub enum Answer {
     Refused(u64),
 }
 
-// A call that hands back a number.
-pub enum CountAnswer {
-    Count(u64),
-    NoCount(u64),
+// A call or a step that comes to a number (a count, a size, a frame, an address; 0 where it hands back nothing), or the number of its refusal.
+pub enum Outcome {
+    Value(u64),
+    Stop(u64),
 }
 
 // A call that hands back yes or no.
@@ -84,15 +84,15 @@ pub fn answer_line(a: Answer) -> Line
     }
 }
 
-pub fn count_line(a: CountAnswer) -> Line
+pub fn count_line(a: Outcome) -> Line
     ensures { λ r. ⌜ r ≡ countLine a ⌝ }
 {
     match a {
-        CountAnswer::Count(v) => Line {
+        Outcome::Value(v) => Line {
             number: 0,
             value: v,
         },
-        CountAnswer::NoCount(n) => Line {
+        Outcome::Stop(n) => Line {
             number: n,
             value: 0,
         },

@@ -166,17 +166,3 @@ pub fn clear_all(bitmap: &mut [u64; 128])
 {
     *bitmap = [0u64; 128];
 }
-
-fn slice_len(words: &[u64]) -> usize
-    ensures { λ r. ⌜ r ≡ length (now (words .entry)) ⌝ }
-{
-    words.len()
-}
-
-// A lent bitmap has 128 words: for callers whose proof asks its length.
-pub fn word_count(bitmap: &[u64; 128]) -> usize
-    ensures { λ r. ⌜ r ≡ 128 ⌝ }
-    ensures { λ _. ⌜ length (now (bitmap .entry)) ≡ 128 ⌝ }
-{
-    slice_len(bitmap)
-}

@@ -1,22 +1,24 @@
-// The board: all that is lent to a run of calls, and its start.
+// The board: all that is lent to a run of calls, and its start. Its lists are lent as packed bytes.
 use address::Frame;
-use address::FrameAnswer;
 use answer::Answer;
 use frame::FrameAllocator;
-use mmap::MemoryMapper;
-use regions::VMAllocator;
+use frame::Marks;
 ghost use mathlib.Core.Path.{_≡_};
-ghost use lib.ListN.{length, replicate};
+ghost use mathlib.Core.Bool.{true};
+ghost use lib.Dec.{eqb};
+ghost use lib.ListN.{length};
 ghost use Prim.Native.Nat.{_≤_};
-ghost use Rattle.board.specs.Board.{boardOf, started, frameCount, mayStart, start as startOf};
+ghost use Rattle.bits.specs.Bit.{both};
+ghost use Rattle.vm_list.specs.Packed.{vmSize};
+ghost use Rattle.mappings.specs.Packed.{mmapSize};
+ghost use Rattle.cow.specs.Packed.{markedSize};
+ghost use Rattle.board.specs.Board.{frameCount, mayStart, start as startOf};
+ghost use Rattle.board.specs.Packed.{boardBytes, boardOut, boardOf, BoardStands, listsLong, startedBytes, startOn};
 
-// A board's records, beside its words, its bitmap and the slots of its marked pages; `count` pages are marked.
+// A board's records, beside its words, its bitmap and its lists.
 pub struct Records {
     pub frames: FrameAllocator,
     pub root: Frame,
-    pub kernel: VMAllocator,
-    pub user: MemoryMapper,
-    pub count: u64,
 }
 
 pub struct Started {
@@ -43,7 +45,7 @@ fn may_start(len: usize, from: u64, to: u64) -> Answer
     if from > to {
         return Answer::Refused(answer::BROKEN_RECORD);
     }
-    if to > 0x10_0000_0000_0000 {
+    if to > frame::ADDRESS_END {
         return Answer::Refused(answer::BROKEN_RECORD);
     }
     let total = frame_count(from, to) as usize;
@@ -56,77 +58,84 @@ fn may_start(len: usize, from: u64, to: u64) -> Answer
     Answer::Met
 }
 
-// No page is marked, and all slots are zero.
-fn clear_marked(marked: &mut [u64; 256])
-    ensures { λ _. ⌜ now (marked .exit) ≡ replicate 256 0 ⌝ }
+// Whether lists of so many bytes have their lengths.
+fn are_long(kernel: usize, user: usize, marked: usize) -> bool
+    ensures { λ r. ⌜ r ≡ both (eqb kernel vmSize) (both (eqb user mmapSize) (eqb marked markedSize)) ⌝ }
 {
-    *marked = [0u64; 256];
+    if kernel != vm_list::VM_SIZE {
+        return false;
+    }
+    if user != mappings::MMAP_SIZE {
+        return false;
+    }
+    marked == cow::list::MARKED_SIZE
 }
 
-// The start itself, which is known to be met.
+// The start itself, which is known to be met: of fresh frames the lowest is the first.
 fn begin(
     words: &mut [u64],
-    bitmap: &mut [u64; 128],
-    marked: &mut [u64; 256],
+    bitmap: &mut Marks,
+    kernel: &mut [u8],
+    user: &mut [u8],
+    marked: &mut [u8],
     records: Records,
     from: u64,
     to: u64,
-) -> Started
+) -> Records
     requires { ⌜ mayStart (length (now words)) from to ≡ Answer.Met ⌝ }
-    ensures { λ r. ⌜ r ≡ started (startOf (boardOf (now (words .entry)) (now (bitmap .entry)) (now (marked .entry)) records) from to) ⌝ }
-    ensures { λ r. ⌜ now (words .exit) ≡ startOf (boardOf (now (words .entry)) (now (bitmap .entry)) (now (marked .entry)) records) from to .board .mem .words ⌝ }
-    ensures { λ r. ⌜ now (bitmap .exit) ≡ startOf (boardOf (now (words .entry)) (now (bitmap .entry)) (now (marked .entry)) records) from to .board .mem .frames .bits ⌝ }
-    ensures { λ r. ⌜ now (marked .exit) ≡ startOf (boardOf (now (words .entry)) (now (bitmap .entry)) (now (marked .entry)) records) from to .board .marked .slots ⌝ }
+    requires { ⌜ listsLong (boardBytes (now words) (now bitmap) (now kernel) (now user) (now marked) records) ≡ true ⌝ }
+    ensures { λ r. ⌜ boardBytes (now (words .exit)) (now (bitmap .exit)) (now (kernel .exit)) (now (user .exit)) (now (marked .exit)) r
+        ≡ boardOut (startOf (boardOf (now (words .entry)) (now (bitmap .entry)) (now (kernel .entry)) (now (user .entry)) (now (marked .entry)) records)
+        from to .board) ⌝ }
+    ensures { λ r. ⌜ BoardStands (boardBytes (now (words .exit)) (now (bitmap .exit)) (now (kernel .exit)) (now (user .exit)) (now (marked .exit)) r)
+        (startOf (boardOf (now (words .entry)) (now (bitmap .entry)) (now (kernel .entry)) (now (user .entry)) (now (marked .entry)) records) from to .board) ⌝ }
 {
     let old = records.frames;
-    let fresh = old.init(bitmap, from, to);
-    let frames = fresh.frames;
-    let taken = frame::inner::take_frame(bitmap, frames);
-    let answer = taken.answer;
-    let left = taken.frames;
-    match answer {
-        FrameAnswer::NoFrame(n) => Started {
-            answer: Answer::Refused(n),
-            records,
-        },
-        FrameAnswer::AtFrame(root) => {
-            mapper::inner::zero_frame(words, walk::entry_place(frames.start, root.0, 0));
-            clear_marked(marked);
-            let kernel = VMAllocator::new();
-            let user = MemoryMapper::new();
-            Started {
-                answer: Answer::Met,
-                records: Records {
-                    frames: left,
-                    root,
-                    kernel,
-                    user,
-                    count: 0,
-                },
-            }
-        }
+    let fresh = frame::held::init(old, bitmap, from, to);
+    let unused = fresh.frames;
+    let root = unused.start;
+    let frames = frame::inner::mark_frame(bitmap, unused, root);
+    mapper::inner::zero_frame(words, 0);
+    vm_list::start(kernel);
+    mappings::start(user);
+    cow::list::start(marked);
+    Records {
+        frames,
+        root: Frame(root),
     }
 }
 
 // A board started anew, whatever it held before: the lowest frame is its root, the vmalloc window is one free region, and the other lists are empty.
 pub fn start(
     words: &mut [u64],
-    bitmap: &mut [u64; 128],
-    marked: &mut [u64; 256],
+    bitmap: &mut Marks,
+    kernel: &mut [u8],
+    user: &mut [u8],
+    marked: &mut [u8],
     records: Records,
     from: u64,
     to: u64,
 ) -> Started
-    ensures { λ r. ⌜ r ≡ started (startOf (boardOf (now (words .entry)) (now (bitmap .entry)) (now (marked .entry)) records) from to) ⌝ }
-    ensures { λ r. ⌜ now (words .exit) ≡ startOf (boardOf (now (words .entry)) (now (bitmap .entry)) (now (marked .entry)) records) from to .board .mem .words ⌝ }
-    ensures { λ r. ⌜ now (bitmap .exit) ≡ startOf (boardOf (now (words .entry)) (now (bitmap .entry)) (now (marked .entry)) records) from to .board .mem .frames .bits ⌝ }
-    ensures { λ r. ⌜ now (marked .exit) ≡ startOf (boardOf (now (words .entry)) (now (bitmap .entry)) (now (marked .entry)) records) from to .board .marked .slots ⌝ }
+    ensures { λ r. ⌜ startedBytes r (now (words .exit)) (now (bitmap .exit)) (now (kernel .exit)) (now (user .exit)) (now (marked .exit))
+        ≡ startOn (boardBytes (now (words .entry)) (now (bitmap .entry)) (now (kernel .entry)) (now (user .entry)) (now (marked .entry)) records) from to ⌝ }
+    ensures { λ r. ⌜ (r .answer ≡ Answer.Met
+        → BoardStands (boardBytes (now (words .exit)) (now (bitmap .exit)) (now (kernel .exit)) (now (user .exit)) (now (marked .exit)) (r .records))
+        (startOf (boardOf (now (words .entry)) (now (bitmap .entry)) (now (kernel .entry)) (now (user .entry)) (now (marked .entry)) records) from to .board)) ⌝ }
 {
+    if !are_long(kernel.len(), user.len(), marked.len()) {
+        return Started {
+            answer: Answer::Refused(answer::BROKEN_RECORD),
+            records,
+        };
+    }
     match may_start(words.len(), from, to) {
         Answer::Refused(n) => Started {
             answer: Answer::Refused(n),
             records,
         },
-        Answer::Met => begin(words, bitmap, marked, records, from, to),
+        Answer::Met => Started {
+            answer: Answer::Met,
+            records: begin(words, bitmap, kernel, user, marked, records, from, to),
+        },
     }
 }

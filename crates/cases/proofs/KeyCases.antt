@@ -10,21 +10,20 @@ use borrow.Author.Tests.{eqb-true}
 use Rattle.bits.specs.Bit.{pick}
 use Rattle.bits.proofs.Choice.{both-true}
 use Rattle.allocator.specs.Round.{rounded}
-use Rattle.paging.specs.declared.Walked.the-variants.{At, Stop}
+use Rattle.answer.specs.declared.Outcome.the-variants.{Value, Stop}
 use Rattle.paging.specs.Calls.{whole}
 use Rattle.frame.specs.Frames.{init, isAllocated}
 use Rattle.frame.proofs.Laws.{inside-low, inside-high, reads-outside}
 use Rattle.answer.specs.declared.FlagAnswer.the-variants.{Flag}
 use Rattle.slots.specs.Slots.{listed, every}
 use Rattle.regions.specs.Regions.{window, firstFit}
-use Rattle.regions.specs.Regions.{noSlot as noVmSlot}
+use Rattle.regions.specs.Regions.{noVmRegion}
 use Rattle.vmalloc.specs.Calls.{vmalloc}
-use Rattle.mmap.specs.declared.MappedRegion.{MappedRegion}
-use Rattle.mmap.specs.Regions.{userStart, inTheWay, searchFrom, risingFrom, wellPlacedRegion, soundMappings, holds}
+use Rattle.mappings.specs.declared.MappedRegion.{MappedRegion}
+use Rattle.mappings.specs.Regions.{userStart, emptySlots, inTheWay, searchFrom, risingFrom, wellPlacedMapping, soundMappings, holds}
 use Rattle.mmap.specs.Calls.{User, onPage, soundUser, mmap, munmap}
-use Rattle.mmap.specs.List.{emptySlots}
-use Rattle.mmap.proofs.Rising.{holds-one}
-use Rattle.board.specs.Board.{Board, Did, did, start}
+use Rattle.mappings.proofs.Rising.{holds-one}
+use Rattle.board.specs.Board.{Board, BoardDid, boardDid, start}
 use Rattle.board.proofs.Outcomes.{start-cases}
 use Rattle.release.proofs.Sound.{kernel-sound}
 use Rattle.release.proofs.Run.{fresh-inv}
@@ -39,14 +38,14 @@ one-size a l h = by (holds a 4096 l) refl
     by true e = let z : _≡_ {A = ℕ} 8192 4096 = holds-one a 8192 4096 l h e in absurd (omega arith)
 
 -- a recorded region starts at a page
-placed-start : (a n : ℕ) (l : List MappedRegion) → every wellPlacedRegion l ≡ true → holds a n l ≡ true → onPage a ≡ true
+placed-start : (a n : ℕ) (l : List MappedRegion) → every wellPlacedMapping l ≡ true → holds a n l ≡ true → onPage a ≡ true
 unfolding every holds
 placed-start a n [] h g = absurd (false≢true g)
-placed-start a n (r ∷ l) h g = by (eqb (r .start) a) refl g (placed-start a n l (both-true (wellPlacedRegion r) _ h .1))
+placed-start a n (r ∷ l) h g = by (eqb (r .start) a) refl g (placed-start a n l (both-true (wellPlacedMapping r) _ h .1))
   where
     by : (x : Bool) → eqb (r .start) a ≡ x → pick x (eqb (r .size) n) (holds a n l) ≡ true → (holds a n l ≡ true → onPage a ≡ true) → onPage a ≡ true
     by true e g more =
-        subst (λ (s : ℕ). onPage s ≡ true) (eqb-true (r .start) a e) (both-true (eqb (r .start % 4096) 0) _ (both-true (wellPlacedRegion r) _ h .0) .0)
+        subst (λ (s : ℕ). onPage s ≡ true) (eqb-true (r .start) a e) (both-true (eqb (r .start % 4096) 0) _ (both-true (wellPlacedMapping r) _ h .0) .0)
     by false e g more = more g
 
 sound-start : (s : User) (root a n : ℕ) → soundUser s root ≡ true → holds a n (listed (s .regions)) ≡ true → onPage a ≡ true
@@ -54,21 +53,21 @@ unfolding soundMappings
 sound-start s root a n h g =
     let m = both-true (whole (s .mem) root) _ h .1 in
     let t = both-true (risingFrom 0 (listed (s .regions))) _ (both-true (leb (s .regions .count) 256) _ m .1) .1 in
-    placed-start a n (listed (s .regions)) (both-true (every wellPlacedRegion (listed (s .regions))) _ t .0) g
+    placed-start a n (listed (s .regions)) (both-true (every wellPlacedMapping (listed (s .regions))) _ t .0) g
 
 -- the lists that a met start leaves
 pub record Fresh (b : Board) : Type 0 where
-  pub kernel : b .kernel ≡ record { slots = window ∷ replicate 255 noVmSlot; count = 1 }
+  pub kernel : b .kernel ≡ record { slots = window ∷ replicate 255 noVmRegion; count = 1 }
   pub user : b .user ≡ emptySlots
   pub next : b .next ≡ userStart
 
-fresh-lists : (old fresh : Board) (from to : ℕ) → start old from to ≡ did (At 0) fresh → Fresh fresh
+fresh-lists : (old fresh : Board) (from to : ℕ) → start old from to ≡ boardDid (Value 0) fresh → Fresh fresh
 fresh-lists old fresh from to =
-    start-cases old from to (λ (d : Did). d ≡ did (At 0) fresh → Fresh fresh)
-    (λ _ _ _ _ e. subst Fresh (ap (λ (d : Did). d .board) e) (record { kernel = refl; user = refl; next = refl }))
-    (λ e. absurd (refused (ap (λ (d : Did). d .answer) e))) (λ e. absurd (refused (ap (λ (d : Did). d .answer) e)))
+    start-cases old from to (λ (d : BoardDid). d ≡ boardDid (Value 0) fresh → Fresh fresh)
+    (λ _ _ _ _ e. subst Fresh (ap (λ (d : BoardDid). d .board) e) (record { kernel = refl; user = refl; next = refl }))
+    (λ e. absurd (refused (ap (λ (d : BoardDid). d .answer) e))) (λ e. absurd (refused (ap (λ (d : BoardDid). d .answer) e)))
   where
-    refused : {n : ℕ} → Stop n ≡ At 0 → ⊥
+    refused : {n : ℕ} → Stop n ≡ Value 0 → ⊥
     refused q = let z : _≡_ {A = ℕ} 0 1 = cc in omega arith
 
 pub key-cases : KeyCases
@@ -88,5 +87,5 @@ key-cases = record {
   k9 = λ old fresh from to h. let f = fresh-lists old fresh from to h in (rw (f .user, f .next), rw (f .user, f .next));
   k10 = λ old fresh from to h. let f = fresh-lists old fresh from to h in rw (kernel-sound (fresh-inv old fresh from to h), ap listed (f .kernel));
   k11 = λ s root a h g. let e = sound-start s root a 8192 h g in (rw (h, e, g), rw (h, e, one-size a _ g));
-  k12 = λ s root wish prot flags h. rw h;
+  k12 = λ s root hint prot flags h. rw h;
 }

@@ -1,2 +1,2 @@
+pub mod RoundTrip
 pub mod Marked
-pub mod Place

@@ -1,154 +1,223 @@
--- The marked pages: the test for a broken list, what the calls come to by it, and that they stay sorted.
-use Prim.Native.Nat.{ℕ, suc, _+_, _-_, _<_, _≤_}
+-- The marked pages: the test for a broken list, what the calls come to by it, and what a call on packed bytes says.
+use Prim.Native.Nat.{ℕ, _<_, _≤_}
 use mathlib.Core.Path.{_≡_, refl, sym, _∙_, ap}
-use mathlib.Core.Bool.{Bool, true, false}
-use mathlib.Core.List.{List, [], _∷_}
+use mathlib.Core.Bool.{Bool, true, false, false≢true}
+use mathlib.Core.List.{List}
 use native.Mathlib.Omega.{arith}
-use lib.Dec.{eqb, leb, ltb}
-use borrow.Author.Tests.{le-leb, lt-leb, leb-true, ltb-true, ltb-false, eqb-false}
-use lib.ListN.{length, take, length-take}
-use Rattle.bits.specs.Bit.{pick, both}
-use Rattle.bits.proofs.Choice.{pick-cases, both-true}
+use lib.Dec.{leb}
+use borrow.Author.Tests.{le-leb, lt-leb, leb-true, eqb-true, ne-eqb}
+use lib.ListN.{length, getD, set, take, length-take}
+use lib.Seq.{set-getD}
+use Rattle.bits.specs.Bit.{unless, both}
+use Rattle.bits.proofs.Choice.{both-true}
 use Rattle.answer.specs.Numbers.{brokenRecord, listFull}
+use Rattle.answer.specs.declared.Answer.{Answer}
 use Rattle.answer.specs.declared.Answer.the-variants.{Met, Refused}
 use Rattle.answer.specs.declared.FlagAnswer.the-variants.{Flag, NoFlag}
+use Rattle.packed.proofs.RoundTrip.{Bytes}
 use Rattle.slots.specs.Slots.{Slots, listed}
 use Rattle.slots.specs.Shifts.{putIn, takenOut}
-use Rattle.cow.specs.Marked.{slotsOf, pageOf, pagesRise, soundMarked, isListed, withPage, withoutPage, placeOf, storePages, DidMark, didMark, marking, markCow, unmarkCow, isCow}
-use Rattle.cow.proofs.Place.{place-le, place-under, with-there, with-new, without-none, without-there}
-use Rattle.slots.proofs.Stored.{store-count, stored-again, in-long, out-long}
-
-two : (a b : Bool) → a ≡ true → b ≡ true → both a b ≡ true
-two a b h k = rw (h, k)
+use Rattle.slots.specs.Sorted.{risingFrom, hasKey, insert, remove, placeOf}
+use Rattle.slots.proofs.Sorted.{place-le, place-under, key-at, insert-there, insert-new, remove-none, remove-there}
+use Rattle.slots.proofs.Stored.{stored-again}
+use Rattle.cow.specs.Marked.{pageOf, pageKey, soundMarked, storePages, MarkedDid, markedDid, markCow, unmarkCow, isCow}
+use Rattle.cow.specs.Packed.{markedSize, markedIn, markedOut, markedFit, markedBytes, onMarked, MarkedReads}
+use Rattle.cow.proofs.RoundTrip.{marked-back, slots-long}
 
 -- ---- the test for a broken list, one comparison after the other
 
 module _ (s : Slots ℕ) where
-  pub marked-many : 256 < s .count → soundMarked s ≡ false
-  unfolding soundMarked
-  marked-many h = simp lt-leb
-
-  pub marked-rising : s .count ≤ 256 → soundMarked s ≡ pagesRise 0 (listed s)
-  unfolding soundMarked
-  marked-rising h = simp le-leb
-
-  pub sound-few : soundMarked s ≡ true → s .count ≤ 256
+  sound-few : soundMarked s ≡ true → s .count ≤ 256
   unfolding soundMarked
   sound-few h = leb-true _ _ (both-true _ _ h .0)
 
-  pub sound-rise : soundMarked s ≡ true → pagesRise 0 (listed s) ≡ true
+  sound-rise : soundMarked s ≡ true → risingFrom pageKey 0 (listed s) ≡ true
   unfolding soundMarked
   sound-rise h = both-true (leb (s .count) 256) _ h .1
 
--- ---- the three calls
+module _ (bs : List ℕ) where
+  abbrev sound : Bool
+  sound = both (markedFit bs) (soundMarked (markedIn bs))
 
--- what a contract says of a call: what the code returns of it, and the slots that it leaves
-pub told-mark : {d e : DidMark} → d ≡ e → (marking e ≡ marking d) × (e .marked .slots ≡ d .marked .slots)
-told-mark e = (ap marking (sym e), ap (λ (x : DidMark). x .marked .slots) (sym e))
+  pub other-length : (length bs ≡ markedSize → ⊥) → sound ≡ false
+  other-length h = rw (ne-eqb (length bs) markedSize h)
+
+  module _ (fit : markedFit bs ≡ true) {n : ℕ} (e : n ≡ markedIn bs .count) where
+    pub too-many : 256 < n → sound ≡ false
+    unfolding soundMarked
+    too-many h = rw (fit, ← e, lt-leb n 256 h)
+
+    pub few-enough : n ≤ 256 → sound ≡ risingFrom pageKey 0 (take n (markedIn bs .slots))
+    unfolding soundMarked
+    few-enough h = rw (fit, ← e, le-leb n 256 h)
+
+  -- what a list that was tested has, by the count that code read
+  pub tested : sound ≡ true → {n : ℕ} → n ≡ markedIn bs .count
+      → (markedFit bs ≡ true) × ((n ≤ 256) × (risingFrom pageKey 0 (take n (markedIn bs .slots)) ≡ true))
+  tested h e =
+      let p = both-true (markedFit bs) (soundMarked (markedIn bs)) h in
+      (p .0, (rw e (sound-few (markedIn bs) (p .1)), rw e (sound-rise (markedIn bs) (p .1))))
+
+-- ---- the three calls on slots
+
+-- a page that is listed is put instead of itself
+insert-same : (v : ℕ) (l : List ℕ) → risingFrom pageKey 0 l ≡ true → hasKey pageKey v l ≡ true → insert pageKey v l ≡ l
+insert-same v l rise e =
+    let k = placeOf pageKey v l in
+    let at : getD l k 0 ≡ v = eqb-true (getD l k 0) v (sym (key-at pageKey v 0 0 l rise (place-under pageKey v l e)) ∙ e) in
+    insert-there pageKey v 0 l rise e ∙ ap (set l k) (sym at) ∙ set-getD l k 0
 
 module _ (s : Slots ℕ) (a : ℕ) where
-  pub mark-broken : soundMarked s ≡ false → markCow s a ≡ didMark (Refused brokenRecord) s
+  mark-broken : soundMarked s ≡ false → markCow s a ≡ markedDid (Refused brokenRecord) s
   unfolding markCow
   mark-broken h = rw h
 
-  pub unmark-broken : soundMarked s ≡ false → unmarkCow s a ≡ didMark (Refused brokenRecord) s
+  unmark-broken : soundMarked s ≡ false → unmarkCow s a ≡ markedDid (Refused brokenRecord) s
   unfolding unmarkCow
   unmark-broken h = rw h
 
-  pub cow-broken : soundMarked s ≡ false → isCow s a ≡ NoFlag brokenRecord
+  cow-broken : soundMarked s ≡ false → isCow s a ≡ NoFlag brokenRecord
   unfolding isCow
   cow-broken h = rw h
 
   module _ (h : soundMarked s ≡ true) where
-    pub mark-there : s .count ≤ length (s .slots) → isListed (pageOf a) (listed s) ≡ true → markCow s a ≡ didMark Met s
+    mark-there : s .count ≤ length (s .slots) → hasKey pageKey (pageOf a) (listed s) ≡ true → markCow s a ≡ markedDid Met s
     unfolding markCow
-    mark-there l e = rw (h, e, with-there (pageOf a) 0 (listed s) (sound-rise s h) e) (ap (didMark Met) (stored-again 0 (s .slots) (s .count) l))
+    mark-there l e = rw (h, e, insert-same (pageOf a) (listed s) (sound-rise s h) e) (ap (markedDid Met) (stored-again 0 (s .slots) (s .count) l))
 
-    module _ (e : isListed (pageOf a) (listed s) ≡ false) where
-      pub mark-full : 256 ≤ length (listed s) → markCow s a ≡ didMark (Refused listFull) s
+    module _ (e : hasKey pageKey (pageOf a) (listed s) ≡ false) where
+      mark-full : 256 ≤ length (listed s) → markCow s a ≡ markedDid (Refused listFull) s
       unfolding markCow
       mark-full k = rw (h, e, le-leb 256 (length (listed s)) k)
 
-      pub mark-new : length (listed s) < 256 → markCow s a ≡ didMark Met (storePages (putIn (placeOf (pageOf a) (listed s)) (pageOf a) (listed s)) s)
+      mark-new : length (listed s) < 256
+          → markCow s a ≡ markedDid Met (storePages (putIn (placeOf pageKey (pageOf a) (listed s)) (pageOf a) (listed s)) s)
       unfolding markCow
-      mark-new k = rw (h, e, lt-leb 256 (length (listed s)) k, with-new (pageOf a) (listed s) e)
+      mark-new k = rw (h, e, lt-leb 256 (length (listed s)) k, insert-new pageKey (pageOf a) (listed s) e)
 
-    pub unmark-is : unmarkCow s a ≡ didMark Met (storePages (withoutPage (pageOf a) (listed s)) s)
+    unmark-is : unmarkCow s a ≡ markedDid Met (storePages (remove pageKey (pageOf a) (listed s)) s)
     unfolding unmarkCow
     unmark-is = rw h
 
-    pub cow-is : isCow s a ≡ Flag (isListed (pageOf a) (listed s))
+    cow-is : isCow s a ≡ Flag (hasKey pageKey (pageOf a) (listed s))
     unfolding isCow
     cow-is = rw h
 
--- the list without a page, where it is not listed, and where it is
-module _ (s : Slots ℕ) (v : ℕ) where
-  pub stored-none : s .count ≤ length (s .slots) → isListed v (listed s) ≡ false → storePages (withoutPage v (listed s)) s ≡ s
-  stored-none l e = rw (without-none v (listed s) e) (stored-again 0 (s .slots) (s .count) l)
+-- ---- what a call on packed bytes says: its answer and the bytes, and the pages that they stand for
 
-  pub stored-out : soundMarked s ≡ true → isListed v (listed s) ≡ true
-      → storePages (withoutPage v (listed s)) s ≡ storePages (takenOut (placeOf v (listed s)) (listed s)) s
-  stored-out h e = ap (λ (l : List ℕ). storePages l s) (without-there v 0 (listed s) (sound-rise s h) e)
+module _ (call : Slots ℕ → MarkedDid) (bs : List ℕ) where
+  abbrev Told : Answer → List ℕ → Type 0
+  Told a left = (markedBytes a left ≡ onMarked call bs) × MarkedReads call bs left
 
--- after `put_in` and `take_out`, with the page and the place that the code has
-module _ (l : List ℕ) (n : ℕ) (room : n ≤ length l) (v k : ℕ) (at : k ≡ placeOf v (take n l)) {x : List ℕ} where
-  pub put-told : (a : ℕ) → soundMarked (slotsOf l n) ≡ true → v ≡ pageOf a → isListed v (take n l) ≡ false → n < 256
-      → x ≡ storePages (putIn k v (take n l)) (slotsOf l n) .slots
-      → (record { answer = Met; count = n + 1 } ≡ marking (markCow (slotsOf l n) a)) × (x ≡ markCow (slotsOf l n) a .marked .slots)
-  put-told a h p e f q =
-      let new = mark-new (slotsOf l n) a h (rw (← p) e) (omega (arith, length-take n l)) in
-      let long : k ≤ n = omega (arith, place-le v (take n l), length-take n l) in
-      let c = store-count 0 (putIn k v (take n l)) (slotsOf l n) ∙ in-long 0 l n room k v long in
-      rw (new, ← p, ← at) (λ j. record { answer = Met; count = sym c j }, q)
+  -- pages are left, and the bytes stand for them
+  told : markedFit bs ≡ true → {a : Answer} {s : Slots ℕ} → call (markedIn bs) ≡ markedDid a s
+      → (left : List ℕ) → markedFit left ≡ true → Bytes left → markedIn left ≡ s → Told a left
+  unfolding onMarked
+  told fit {a = a} d left f b e = (
+    rw fit (ap (markedBytes a) (sym (marked-back left f b) ∙ ap markedOut e) ∙ ap (λ (x : MarkedDid). markedBytes (x .answer) (markedOut (x .marked))) (sym d)),
+    λ _. (f, e ∙ ap (λ (x : MarkedDid). x .marked) (sym d)),
+  )
 
-  pub out-told : soundMarked (slotsOf l n) ≡ true → isListed v (take n l) ≡ true → x ≡ storePages (takenOut k (take n l)) (slotsOf l n) .slots
-      → (n - 1 ≡ storePages (withoutPage v (take n l)) (slotsOf l n) .count) × (x ≡ storePages (withoutPage v (take n l)) (slotsOf l n) .slots)
-  out-told h e q =
-      let out = stored-out (slotsOf l n) v h e ∙ ap (λ (j : ℕ). storePages (takenOut j (take n l)) (slotsOf l n)) (sym at) in
-      let under : k < n = omega (arith, place-under v (take n l) e, length-take n l) in
-      let c = store-count 0 (takenOut k (take n l)) (slotsOf l n) ∙ out-long 0 l n room k under in
-      rw out (sym c, q)
+  -- 10, where they stand for none or for a broken list
+  told-broken : both (markedFit bs) (soundMarked (markedIn bs)) ≡ false → Bytes bs
+      → (soundMarked (markedIn bs) ≡ false → call (markedIn bs) ≡ markedDid (Refused brokenRecord) (markedIn bs)) → Told (Refused brokenRecord) bs
+  unfolding onMarked
+  told-broken h b k = by (markedFit bs) refl
+    where
+      by : (x : Bool) → markedFit bs ≡ x → Told (Refused brokenRecord) bs
+      by true fit = told fit (k (rw fit at h)) bs fit b refl
+      by false fit = (rw fit, λ f. absurd (false≢true (sym fit ∙ f)))
 
--- after `unmark`, with the page that the code has
-pub unmark-told : (s : Slots ℕ) (a : ℕ) → soundMarked s ≡ true → {v r : ℕ} {x : List ℕ} → v ≡ pageOf a
-    → (r ≡ storePages (withoutPage v (listed s)) s .count) × (x ≡ storePages (withoutPage v (listed s)) s .slots)
-    → (record { answer = Met; count = r } ≡ marking (unmarkCow s a)) × (x ≡ unmarkCow s a .marked .slots)
-unmark-told s a h {v = v} p q = rw (unmark-is s a h, ← p) (λ j. record { answer = Met; count = q .0 j }, q .1)
+module _ (bs : List ℕ) (a : ℕ) where
+  abbrev mark : Slots ℕ → MarkedDid
+  mark s = markCow s a
 
--- ---- they stay sorted
+  abbrev unmark : Slots ℕ → MarkedDid
+  unmark s = unmarkCow s a
 
--- pages that rise from a bound on rise from any below it
-pub rise-earlier : (k lo : ℕ) (l : List ℕ) → k ≤ lo → pagesRise lo l ≡ true → pagesRise k l ≡ true
-unfolding pagesRise
-rise-earlier k lo [] h e = refl
-rise-earlier k lo (v ∷ l) h e =
-    let r = both-true (leb lo v) (pagesRise (suc v) l) e in
-    two (leb k v) (pagesRise (suc v) l) (le-leb k v (omega (arith, leb-true lo v (r .0)))) (r .1)
+  module _ (h : both (markedFit bs) (soundMarked (markedIn bs)) ≡ false) where
+    pub mark-told-broken : Bytes bs → Told mark bs (Refused brokenRecord) bs
+    mark-told-broken b = told-broken mark bs h b (mark-broken (markedIn bs) a)
 
-pub rise-with : (lo v : ℕ) (l : List ℕ) → lo ≤ v → pagesRise lo l ≡ true → pagesRise lo (withPage v l) ≡ true
-unfolding pagesRise withPage
-rise-with lo v [] h e = two (leb lo v) true (le-leb lo v h) refl
-rise-with lo v (w ∷ l) h e =
-    let r = both-true (leb lo w) (pagesRise (suc w) l) e in
-    let more : suc w ≤ v → pagesRise (suc w) (withPage v l) ≡ true = λ q. rise-with (suc w) v l q (r .1) in
-    pick-cases (λ (k : List ℕ). pagesRise lo k ≡ true) (ltb v w) _ _
-    (λ t. two (leb lo v) (both (leb (suc v) w) (pagesRise (suc w) l)) (le-leb lo v h)
-    (two (leb (suc v) w) (pagesRise (suc w) l) (le-leb (suc v) w (ltb-true v w t)) (r .1)))
-    (λ t. pick-cases (λ (k : List ℕ). pagesRise lo k ≡ true) (eqb v w) _ _ (λ _. e)
-    (λ u. two (leb lo w) (pagesRise (suc w) (withPage v l)) (r .0) (more (above (ltb-false v w t) (eqb-false v w u)))))
-  where
-    above : w ≤ v → (v ≡ w → ⊥) → suc w ≤ v
-    above h d = omega arith
+    pub unmark-told-broken : Bytes bs → Told unmark bs (Refused brokenRecord) bs
+    unmark-told-broken b = told-broken unmark bs h b (unmark-broken (markedIn bs) a)
 
-pub rise-without : (lo v : ℕ) (l : List ℕ) → pagesRise lo l ≡ true → pagesRise lo (withoutPage v l) ≡ true
-unfolding pagesRise withoutPage
-rise-without lo v [] e = refl
-rise-without lo v (w ∷ l) e =
-    let r = both-true (leb lo w) (pagesRise (suc w) l) e in
-    by (eqb w v) (rise-without (suc w) v l (r .1))
-  where
-    by : (x : Bool) → pagesRise (suc w) (withoutPage v l) ≡ true → pagesRise lo (pick x l (w ∷ withoutPage v l)) ≡ true
-    by true more =
-        let r = both-true (leb lo w) (pagesRise (suc w) l) e in
-        rise-earlier lo (suc w) l (omega (arith, leb-true lo w (r .0))) (r .1)
-    by false more = two (leb lo w) (pagesRise (suc w) (withoutPage v l)) (both-true (leb lo w) (pagesRise (suc w) l) e .0) more
+    pub cow-told-broken : NoFlag brokenRecord ≡ unless (markedFit bs) (NoFlag brokenRecord) (isCow (markedIn bs) a)
+    cow-told-broken = by (markedFit bs) refl
+      where
+        by : (x : Bool) → markedFit bs ≡ x → NoFlag brokenRecord ≡ unless x (NoFlag brokenRecord) (isCow (markedIn bs) a)
+        by true fit = sym (cow-broken (markedIn bs) a (rw fit at h))
+        by false fit = refl
+
+  module _ (h : both (markedFit bs) (soundMarked (markedIn bs)) ≡ true) {v : ℕ} (page : v ≡ pageOf a) where
+    pub unmark-told : (left : List ℕ) → Bytes left → (markedIn left ≡ storePages (remove pageKey v (listed (markedIn bs))) (markedIn bs)) × (markedFit left ≡ true)
+        → Told unmark bs Met left
+    unmark-told left b (e, f) =
+        let p = both-true (markedFit bs) (soundMarked (markedIn bs)) h in
+        told unmark bs (p .0) (unmark-is (markedIn bs) a (p .1)) left f b (rw (← page) e)
+
+    pub cow-told : {r : Bool} → r ≡ hasKey pageKey v (listed (markedIn bs)) → Flag r ≡ unless (markedFit bs) (NoFlag brokenRecord) (isCow (markedIn bs) a)
+    cow-told q =
+        let p = both-true (markedFit bs) (soundMarked (markedIn bs)) h in
+        rw (p .0, cow-is (markedIn bs) a (p .1), ← page) (ap Flag q)
+
+-- ---- after `place_of` and `stands_at`: k is page v's place among the n listed, t whether it stands there
+
+module _ (bs : List ℕ) (h : both (markedFit bs) (soundMarked (markedIn bs)) ≡ true) {n : ℕ} (e : n ≡ markedIn bs .count) (v : ℕ) {k : ℕ}
+    (at : k ≡ placeOf pageKey v (take n (markedIn bs .slots))) where
+  abbrev s : Slots ℕ
+  s = markedIn bs
+
+  good : soundMarked s ≡ true
+  good = both-true (markedFit bs) (soundMarked s) h .1
+
+  room : s .count ≤ length (s .slots)
+  room = omega (arith, sound-few s good, slots-long bs)
+
+  place : k ≡ placeOf pageKey v (listed s)
+  place = at ∙ ap (λ (m : ℕ). placeOf pageKey v (take m (s .slots))) e
+
+  pub place-within : k ≤ n
+  place-within = omega (arith, place-le pageKey v (take n (s .slots)), length-take n (s .slots))
+
+  module _ {t : Bool} (stands : t ≡ hasKey pageKey v (take n (s .slots))) where
+    has : {b : Bool} → t ≡ b → hasKey pageKey v (listed s) ≡ b
+    has q = ap (λ (m : ℕ). hasKey pageKey v (take m (s .slots))) (sym e) ∙ sym stands ∙ q
+
+    pub stands-listed : t ≡ hasKey pageKey v (listed s)
+    stands-listed = sym (has refl)
+
+    -- the list without the page: as it is where the page is not listed
+    pub out-none : t ≡ false → s ≡ storePages (remove pageKey v (listed s)) s
+    out-none q = sym (rw (remove-none pageKey v (listed s) (has q)) (stored-again 0 (s .slots) (s .count) room))
+
+    pub out-there : t ≡ true → {z : Slots ℕ} → z ≡ storePages (takenOut k (listed s)) s → z ≡ storePages (remove pageKey v (listed s)) s
+    out-there q z = z ∙ ap (λ (l : List ℕ). storePages l s) (ap (λ (j : ℕ). takenOut j (listed s)) place ∙ sym (remove-there pageKey v 0 (listed s) (sound-rise s good) (has q)))
+
+    pub place-below : t ≡ true → k < n
+    place-below q = omega (arith, place-under pageKey v (take n (s .slots)) (sym stands ∙ q), length-take n (s .slots))
+
+    -- the page marked: as it is where it is listed
+    module _ (a : ℕ) (page : v ≡ pageOf a) where
+      abbrev call : Slots ℕ → MarkedDid
+      call x = markCow x a
+
+      fit : markedFit bs ≡ true
+      fit = both-true (markedFit bs) (soundMarked s) h .0
+
+      key : {b : Bool} → t ≡ b → hasKey pageKey (pageOf a) (listed s) ≡ b
+      key q = rw (← page) (has q)
+
+      few : length (listed s) ≡ n
+      few = omega (arith, length-take (s .count) (s .slots), room)
+
+      pub mark-told-there : t ≡ true → Bytes bs → Told call bs Met bs
+      mark-told-there q b = told call bs fit (mark-there s a good room (key q)) bs fit b refl
+
+      pub mark-told-full : t ≡ false → 256 ≤ n → Bytes bs → Told call bs (Refused listFull) bs
+      mark-told-full q m b = told call bs fit (mark-full s a good (key q) (omega (arith, few))) bs fit b refl
+
+      pub mark-told-new : t ≡ false → n < 256 → (left : List ℕ) → Bytes left → (markedIn left ≡ storePages (putIn k v (listed s)) s) × (markedFit left ≡ true) → Told call bs Met left
+      mark-told-new q m left b (z, f) =
+          told call bs fit (mark-new s a good (key q) (omega (arith, few))) left f b
+          (z ∙ (λ j. storePages (putIn (place j) v (listed s)) s) ∙ ap (λ (w : ℕ). storePages (putIn (placeOf pageKey w (listed s)) w (listed s)) s) page)

@@ -4,100 +4,84 @@ use mathlib.Core.Path.{_≡_, refl, _∙_, ap, subst}
 use mathlib.Core.Bool.{Bool, true, false}
 use mathlib.Core.List.{List}
 use lib.ListN.{getD, take}
-use borrow.Author.Tests.{eqb-true}
-use Rattle.bits.specs.Bit.{both}
+use Rattle.bits.specs.Bit.{pick, unless, both}
 use Rattle.bits.proofs.Choice.{pick-cases, both-true}
-use Rattle.answer.specs.Numbers.{noFreeFrame, answerLine, flagLine}
+use Rattle.answer.specs.Numbers.{brokenRecord, noFreeFrame, answerLine, flagLine}
+use Rattle.answer.specs.declared.Answer.{Answer}
+use Rattle.answer.specs.declared.Answer.the-variants.{Refused}
 use Rattle.answer.specs.declared.FlagAnswer.{FlagAnswer}
+use Rattle.answer.specs.declared.FlagAnswer.the-variants.{NoFlag}
 use Rattle.answer.specs.declared.Line.{Line}
 use Rattle.address.specs.declared.FrameAnswer.{FrameAnswer}
 use Rattle.entry.specs.Entry.{entryOf, indices}
 use Rattle.packed.specs.Words.{pack, unpack}
+use Rattle.packed.proofs.RoundTrip.{Bytes}
 use Rattle.frame.specs.declared.FrameAllocator.{FrameAllocator}
-use Rattle.frame.specs.Frames.{frames, inside, withMark}
-use Rattle.frame.specs.Frames.{Did as Framed}
+use Rattle.frame.specs.Frames.{FramesDid, inside, withMark}
 use Rattle.frame.proofs.Laws.{take-cases}
-use Rattle.paging.specs.declared.Walked.{Walked}
-use Rattle.paging.specs.declared.Walked.the-variants.{At, Stop}
-use Rattle.paging.specs.Map.{Memory, memory, startOf, totalOf, Out, out, goOn, make}
+use Rattle.answer.specs.declared.Outcome.{Outcome}
+use Rattle.answer.specs.declared.Outcome.the-variants.{Value, Stop}
+use Rattle.paging.specs.Levels.{aboveLast}
+use Rattle.paging.specs.Map.{Memory, memory, startFrame, totalOf, Out, out, goOn, make}
 use Rattle.paging.specs.Calls.{whole, mapAt}
 use Rattle.paging.specs.Pages.{freePage}
+use Rattle.paging.specs.Kept.{kept, lentMemory}
 use Rattle.paging.proofs.Map.{goOn-cases}
 use Rattle.slots.specs.Slots.{Slots, listed}
-use Rattle.fault.specs.declared.Faulted.{Faulted}
-use Rattle.cow.specs.declared.MarkedAnswer.{MarkedAnswer}
-use Rattle.cow.specs.Marked.{slotsOf as markedOf, pageOf, soundMarked, isListed, DidMark, marking, fullOfPages, markCow, unmarkCow, isCow}
-use Rattle.fault.specs.Faults.{Faulting, faulting, Did, faulted, isPresent, isWrite, isUser, isReserved, isFetch, asTaken, rawFrame, onlyError, inHeap, valid, mapFrame, demandPage, temporary}
-use Rattle.fault.specs.Faults.{translated, clearedIf, copied, copyPage, copyTo, copyOnWrite, soundFaulting, unmarking, handled, handleFault}
+use Rattle.slots.specs.Sorted.{hasKey}
+use Rattle.cow.specs.Marked.{pageOf, pageKey, soundMarked, MarkedDid, fullOfPages, markCow, unmarkCow, isCow}
+use Rattle.cow.specs.Packed.{markedIn, markedOut, markedFit, MarkedBytes, markedBytes, onMarked}
+use Rattle.cow.proofs.RoundTrip.{marked-back}
+use Rattle.fault.specs.Faults.{Faulting, faulting, FaultDid, isPresent, isWrite, isUser, isReserved, isFetch, asTaken, rawFrame, onlyError, inHeap, valid, mapFrame, demandPage, temporary}
+use Rattle.fault.specs.Faults.{translated, clearedIfMapped, copied, copyPage, copyTo, copyOnWrite, soundFaulting, unmarking, handled, handleFault}
+use Rattle.fault.specs.Packed.{onPages}
 use Rattle.handler.specs.Handler.{overwrite, putOver, mapOver, handleFaultSecond}
 use Rattle.layout.specs.Parts.{fieldsIn, fieldsOut, framesFit}
-use Rattle.layout.specs.Lists.{markedIn, markedOut, markedSlots, markedFit}
 use Rattle.layout.specs.Left.{left, brokenLine, IsRefusal, Unchanged, noLeftovers, faultLeftovers, secondLeftovers}
 use Rattle.layout.specs.Memory.{plainLine, memoryParts}
-use Rattle.layout.proofs.RoundTrip.{Bytes, marked-back}
-use Rattle.layout.proofs.Left.{broken-left, met-left, broken-line, met-line, unchanged-left, FramesBytes, fields-same, bits-same, memory-unchanged}
+use Rattle.layout.proofs.Left.{broken-left, unchanged-left, FramesBytes, fields-same, bits-same, memory-unchanged, list-met}
 use Rattle.layout.proofs.Numbers.{Listed, make-listed}
-use Rattle.desk_faults.specs.Faults.{onMarked, packedMarkCow, packedUnmarkCow, packedIsCow, FaultParts, faultParts, faultFit, faultIn, faultPacked, onFault, packedFault, packedFaultSecond}
+use Rattle.desk_faults.specs.Faults.{leftMarked, packedMarkCow, packedUnmarkCow, packedIsCow, FaultParts, faultParts, faultFit, faultPacked, onFault, packedFault, packedFaultSecond}
 
 -- ---- the marked pages
 
-module _ (call : Slots ℕ → DidMark) (marked : List ℕ) where
-  pub marked-broken : {r : Line} → markedFit marked ≡ false → r ≡ brokenLine → left r marked ≡ onMarked call marked
-  unfolding onMarked
-  marked-broken h e = broken-left marked _ h e
+-- what is told of a choice
+told-of : {A B : Type 0} (told : A → B) (t : Bool) (a b : A) → told (pick t a b) ≡ pick t (told a) (told b)
+told-of told true a b = refl
+told-of told false a b = refl
 
-  pub marked-met : {m pages ms : List ℕ} {n : ℕ} {x : MarkedAnswer} {r : Line} → markedFit marked ≡ true → m ≡ markedIn marked .slots → n ≡ markedIn marked .count
-      → let d = call (markedOf m n) in (x ≡ marking d) × (pages ≡ d .marked .slots)
-      → r ≡ answerLine (x .answer) → ms ≡ markedOut (markedSlots pages (x .count)) → left r ms ≡ onMarked call marked
-  unfolding onMarked
-  marked-met h e f (x, y) r ms =
-      let same : _≡_ {A = DidMark} (call (markedOf _ _)) (call (markedIn marked)) = λ j. call (markedOf (e j) (f j)) in
-      let p = x ∙ ap marking same in
-      let l = r ∙ ap (λ (x : MarkedAnswer). answerLine (x .answer)) p in
-      let ms = ms ∙ (λ j. markedOut (markedSlots ((y ∙ ap (λ (d : DidMark). d .marked .slots) same) j) (p j .count))) in
-      met-left marked h (λ j. left (l j) (ms j))
+module _ (call : Slots ℕ → MarkedDid) (marked : List ℕ) where
+  pub marked-did : {x : Answer} {ms : List ℕ} {r : Line} → markedBytes x ms ≡ onMarked call marked → r ≡ answerLine x → left r ms ≡ leftMarked call marked
+  unfolding onMarked leftMarked
+  marked-did {ms = ms} e r =
+      (λ j. left (r j) ms) ∙ ap (λ (d : MarkedBytes). left (answerLine (d .answer)) (d .list)) e
+      ∙ told-of (λ (d : MarkedBytes). left (answerLine (d .answer)) (d .list)) (markedFit marked) _ _
 
   marked-unchanged : Bytes marked → ((s : Slots ℕ) → IsRefusal noLeftovers (answerLine (call s .answer) .number) → call s .marked ≡ s)
-      → Unchanged noLeftovers marked (onMarked call marked)
-  unfolding onMarked
-  marked-unchanged b law = unchanged-left noLeftovers (markedFit marked) marked _ (λ fit n. ap markedOut (law _ n) ∙ marked-back marked (eqb-true _ _ fit) b)
+      → Unchanged noLeftovers marked (leftMarked call marked)
+  unfolding leftMarked
+  marked-unchanged b law = unchanged-left noLeftovers (markedFit marked) marked _ (λ fit n. ap markedOut (law _ n) ∙ marked-back marked fit b)
 
-module _ (marked : List ℕ) (addr : ℕ) where
-  pub cow-broken : {r : Line} → markedFit marked ≡ false → r ≡ brokenLine → r ≡ packedIsCow marked addr
-  cow-broken h e = broken-line _ h e
-
-  pub cow-met : {m : List ℕ} {n : ℕ} {x : FlagAnswer} {r : Line} → markedFit marked ≡ true → m ≡ markedIn marked .slots → n ≡ markedIn marked .count
-      → x ≡ isCow (markedOf m n) addr → r ≡ flagLine x → r ≡ packedIsCow marked addr
-  cow-met h e f x r = met-line h (r ∙ ap flagLine (x ∙ (λ j. isCow (markedOf (e j) (f j)) addr)))
+pub cow-did : (marked : List ℕ) (addr : ℕ) {x : FlagAnswer} {r : Line} → x ≡ unless (markedFit marked) (NoFlag brokenRecord) (isCow (markedIn marked) addr) → r ≡ flagLine x
+    → r ≡ packedIsCow marked addr
+cow-did marked addr e r = r ∙ ap flagLine e ∙ told-of flagLine (markedFit marked) _ _
 
 -- ---- the first fault path
 
-module _ (call : Faulting → Did) (words fields bits marked : List ℕ) where
+module _ (call : Faulting → FaultDid) (words fields bits marked : List ℕ) where
   abbrev faultLent : FaultParts
   faultLent = faultParts words fields bits marked
 
-  pub fault-broken : {r : Line} → faultFit faultLent ≡ false → r ≡ brokenLine → left r faultLent ≡ onFault call faultLent
+  pub fault-broken : {r : Line} → framesFit fields bits ≡ false → r ≡ brokenLine → left r faultLent ≡ onFault call faultLent
   unfolding onFault
-  fault-broken h e = broken-left faultLent _ h e
+  fault-broken h e = broken-left {ok = faultFit faultLent} faultLent _ (rw h refl) e
 
-  pub fault-met : {b m bm pages ws fs bs ms : List ℕ} {f : FrameAllocator} {n : ℕ} {x : Faulted} {r : Line}
-      → faultFit faultLent ≡ true → b ≡ unpack 128 bits → f ≡ fieldsIn fields → m ≡ markedIn marked .slots → n ≡ markedIn marked .count
-      → let d = call (faulting (memory words (frames b f)) (markedOf m n)) in
-      (x ≡ faulted d) × ((ws ≡ d .state .mem .words) × ((bm ≡ d .state .mem .frames .bits) × (pages ≡ d .state .marked .slots)))
-      → r ≡ answerLine (x .answer) → fs ≡ fieldsOut (x .frames) → bs ≡ pack bm → ms ≡ markedOut (markedSlots pages (x .count))
-      → left r (faultParts ws fs bs ms) ≡ onFault call faultLent
-  unfolding onFault
-  fault-met h e f g i (x, (w, (y, z))) r fs bs ms =
-      let same : _≡_ {A = Did} (call (faulting (memory words (frames _ _)) (markedOf _ _))) (call (faultIn faultLent)) =
-      λ j. call (faulting (memory words (frames (e j) (f j))) (markedOf (g j) (i j)))
-      in
-      let p = x ∙ ap faulted same in
-      let l = r ∙ ap (λ (x : Faulted). answerLine (x .answer)) p in
-      let ws = w ∙ ap (λ (d : Did). d .state .mem .words) same in
-      let fs = fs ∙ ap (λ (x : Faulted). fieldsOut (x .frames)) p in
-      let bs = bs ∙ ap pack (y ∙ ap (λ (d : Did). d .state .mem .frames .bits) same) in
-      let ms = ms ∙ (λ j. markedOut (markedSlots ((z ∙ ap (λ (d : Did). d .state .marked .slots) same) j) (p j .count))) in
-      met-left faultLent h (λ j. left (l j) (faultParts (ws j) (fs j) (bs j) (ms j)))
+  pub fault-met : {b bm ws fs bs ms : List ℕ} {f g : FrameAllocator} {x : Answer} {r : Line}
+      → framesFit fields bits ≡ true → FramesBytes fields bits → b ≡ unpack 128 bits → f ≡ fieldsIn fields
+      → kept x (lentMemory ws bm g) ms ≡ onPages call (lentMemory words b f) marked
+      → r ≡ answerLine x → fs ≡ fieldsOut g → bs ≡ pack bm → left r (faultParts ws fs bs ms) ≡ onFault call faultLent
+  unfolding onFault onPages
+  fault-met = list-met faultParts answerLine words fields bits marked (λ (m : Memory). onPages call m marked) (markedFit marked) (Refused brokenRecord) _ refl refl
 
   fault-unchanged : (leftovers : List ℕ) → FramesBytes fields bits → Bytes marked → ((s : Faulting) → IsRefusal leftovers (plainLine (call s .answer) .number) → call s .state ≡ s)
       → Unchanged leftovers faultLent (onFault call faultLent)
@@ -105,12 +89,12 @@ module _ (call : Faulting → Did) (words fields bits marked : List ℕ) where
   fault-unchanged leftovers b c law =
       unchanged-left leftovers (faultFit faultLent) faultLent _ (λ fit n.
       let f = both-true (framesFit fields bits) (markedFit marked) fit in
-      ap faultPacked (law _ n) ∙ (λ j. faultParts words (fields-same fields bits (f .0) b j) (bits-same fields bits (f .0) b j) (marked-back marked (eqb-true _ _ (f .1)) c j)))
+      ap faultPacked (law _ n) ∙ (λ j. faultParts words (fields-same fields bits (f .0) b j) (bits-same fields bits (f .0) b j) (marked-back marked (f .1) c j)))
 
 -- ---- refusals of the marked pages: 10, and 20 of mark_cow
 
 module _ (addr : ℕ) (s : Slots ℕ) where
-  abbrev CleanMark : DidMark → Type 0
+  abbrev CleanMark : MarkedDid → Type 0
   CleanMark d = IsRefusal noLeftovers (answerLine (d .answer) .number) → d .marked ≡ s
 
   mark-clean : CleanMark (markCow s addr)
@@ -132,21 +116,21 @@ module _ (marked : List ℕ) (b : Bytes marked) (addr : ℕ) where
 -- ---- refusals of the first path: 11 where no frame is left, and nothing changed; then 18 alone
 
 -- both outcomes of a frame taken as it is
-raw-cases : (m : Memory) (P : Out → Type 0) → ((j : ℕ) → P (out (At (startOf m + j)) (memory (m .words) (withMark (m .frames) j)))) → P (out (Stop noFreeFrame) m) → P (rawFrame m)
+raw-cases : (m : Memory) (P : Out → Type 0) → ((j : ℕ) → P (out (Value (startFrame m + j)) (memory (m .words) (withMark (m .frames) j)))) → P (out (Stop noFreeFrame) m) → P (rawFrame m)
 unfolding rawFrame
-raw-cases m P met none = take-cases (m .frames) (λ (d : Framed FrameAnswer). P (asTaken m (d .answer) (d .frames))) (λ j _ _ _. met j) (λ _. none)
+raw-cases m P met none = take-cases (m .frames) (λ (d : FramesDid FrameAnswer). P (asTaken m (d .answer) (d .frames))) (λ j _ _ _. met j) (λ _. none)
 
-error-listed : (w : Walked) → Listed faultLeftovers (onlyError w)
-error-listed (At x) h = h .1 refl
+error-listed : (w : Outcome) → Listed faultLeftovers (onlyError w)
+error-listed (Value x) h = h .1 refl
 error-listed (Stop n) h = h .0 refl
 
 frame-listed : (up : ℕ) (m : Memory) (root v f : ℕ) (w u : Bool) → Listed faultLeftovers (mapFrame up m root v f w u .walked)
 frame-listed up m root v f w u = error-listed (mapAt up up u m root v (entryOf (f * 2 ^ 12) w u) .walked)
 
-copied-listed : (m : Memory) (w : Walked) (f : ℕ) → Listed faultLeftovers (copied m w f .walked)
+copied-listed : (m : Memory) (w : Outcome) (f : ℕ) → Listed faultLeftovers (copied m w f .walked)
 copied-listed m (Stop n) f h = h .0 refl
-copied-listed m (At a) f h =
-    pick-cases (λ (o : Out). Listed faultLeftovers (o .walked)) (inside (startOf m) (totalOf m) (a / 4096)) _ _ (λ _ h. h .1 refl) (λ _ h. h .0 refl) h
+copied-listed m (Value a) f h =
+    pick-cases (λ (o : Out). Listed faultLeftovers (o .walked)) (inside (startFrame m) (totalOf m) (a / 4096)) _ _ (λ _ h. h .1 refl) (λ _ h. h .0 refl) h
 
 module _ (up root v : ℕ) where
   abbrev Lists : Out → Type 0
@@ -155,7 +139,7 @@ module _ (up root v : ℕ) where
   copy-page-listed : (m : Memory) (f : ℕ) → Lists (copyPage up m root v f)
   unfolding copyPage
   copy-page-listed m f =
-      let c = clearedIf (translated up m root temporary) up m root temporary in
+      let c = clearedIfMapped up m root temporary in
       let o = mapFrame up c root temporary f true false in
       goOn-cases Lists o _ (λ n e. subst (Listed faultLeftovers) e (frame-listed up c root temporary f true false)) (λ _ _. copied-listed (o .mem) (translated up (o .mem) root v) f)
 
@@ -165,7 +149,7 @@ module _ (up root v : ℕ) where
       (λ _ _. frame-listed up (freePage up (copyPage up m root v f .mem) root v) root v f true user)
 
 module _ (up root v code : ℕ) (s : Faulting) where
-  abbrev Clean : Did → Type 0
+  abbrev Clean : FaultDid → Type 0
   Clean d = IsRefusal faultLeftovers (plainLine (d .answer) .number) → d .state ≡ s
 
   -- a step that takes a frame, and stops with 18 alone once it has one
@@ -187,8 +171,8 @@ module _ (up root v code : ℕ) (s : Faulting) where
   copy-clean =
       raw-cases (s .mem) (λ (o : Out). CleanStep (goOn o (λ f m′. copyTo up m′ root v f (isUser code)))) (λ j h. absurd (copy-listed up root v _ _ (isUser code) h)) (λ _. refl)
 
-  unmarking-clean : (w : Walked) (m : Memory) → CleanStep (out w m) → Clean (unmarking v (s .marked) (out w m))
-  unmarking-clean (At x) m law h = absurd (h .1 refl)
+  unmarking-clean : (w : Outcome) (m : Memory) → CleanStep (out w m) → Clean (unmarking v (s .marked) (out w m))
+  unmarking-clean (Value x) m law h = absurd (h .1 refl)
   unmarking-clean (Stop n) m law h = ap (λ (m : Memory). faulting m (s .marked)) (law h)
 
   handled-clean : Clean (handled up s root v code)
@@ -198,7 +182,7 @@ module _ (up root v code : ℕ) (s : Faulting) where
       pick-cases Clean (isPresent code) _ _
       (λ _.
       pick-cases Clean (isWrite code) _ _
-      (λ _. pick-cases Clean (isListed v (listed (s .marked))) _ _ (λ _. let o = copyOnWrite up (s .mem) root v (isUser code) in unmarking-clean (o .walked) (o .mem) copy-clean) (λ _ _. refl)) (λ _ _. refl))
+      (λ _. pick-cases Clean (hasKey pageKey v (listed (s .marked))) _ _ (λ _. let o = copyOnWrite up (s .mem) root v (isUser code) in unmarking-clean (o .walked) (o .mem) copy-clean) (λ _ _. refl)) (λ _ _. refl))
       (λ _ h. ap (λ (m : Memory). faulting m (s .marked)) (demand-clean h)))
 
 fault-clean : (up root addr code : ℕ) (s : Faulting) → IsRefusal faultLeftovers (plainLine (handleFault up s root addr code .answer) .number) → handleFault up s root addr code .state ≡ s
@@ -212,9 +196,9 @@ unfolding mapOver overwrite
 over-listed up m root v f w u =
     let path = take up (indices (suc up) v) in
     goOn-cases (λ (o : Out). Listed secondLeftovers (o .walked)) (make u m root path) _ (λ n e. subst (Listed secondLeftovers) e (make-listed u m root path))
-    (λ t _. let m′ = make u m root path .mem in by m′ t (inside (startOf m′) (totalOf m′) t) refl)
+    (λ t _. let m′ = make u m root path .mem in by m′ t (inside (startFrame m′) (totalOf m′) t) refl)
   where
-    by : (m′ : Memory) (t : ℕ) (x : Bool) → inside (startOf m′) (totalOf m′) t ≡ x → Listed secondLeftovers (putOver m′ t (getD (indices (suc up) v) up 0) (entryOf (f * 2 ^ 12) w u) f .walked)
+    by : (m′ : Memory) (t : ℕ) (x : Bool) → inside (startFrame m′) (totalOf m′) t ≡ x → Listed secondLeftovers (putOver m′ t (getD (indices (suc up) v) up 0) (entryOf (f * 2 ^ 12) w u) f .walked)
     by m′ t true e = rw e (λ h. h .1 .1 refl)
     by m′ t false e = rw e (λ h. h .1 .0 refl)
 
@@ -235,7 +219,7 @@ second-clean up root addr code m =
 
 module _ (words fields bits : List ℕ) (b : FramesBytes fields bits) (root addr code : ℕ) where
   pub fault-refused : (marked : List ℕ) → Bytes marked → let p = faultParts words fields bits marked in Unchanged faultLeftovers p (packedFault p root addr code)
-  fault-refused marked c = fault-unchanged (λ (s : Faulting). handleFault 3 s root addr code) words fields bits marked faultLeftovers b c (fault-clean 3 root addr code)
+  fault-refused marked c = fault-unchanged (λ (s : Faulting). handleFault aboveLast s root addr code) words fields bits marked faultLeftovers b c (fault-clean aboveLast root addr code)
 
   pub second-refused : let p = memoryParts words fields bits in Unchanged secondLeftovers p (packedFaultSecond p root addr code)
-  second-refused = memory-unchanged (λ (m : Memory). handleFaultSecond 3 m root addr code) words fields bits secondLeftovers b (second-clean 3 root addr code)
+  second-refused = memory-unchanged (λ (m : Memory). handleFaultSecond aboveLast m root addr code) words fields bits secondLeftovers b (second-clean aboveLast root addr code)

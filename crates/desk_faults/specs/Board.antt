@@ -8,14 +8,13 @@ use Rattle.bits.specs.Bit.{both}
 use Rattle.answer.specs.declared.Answer.{Answer}
 use Rattle.answer.specs.declared.Answer.the-variants.{Met, Refused}
 use Rattle.packed.specs.Words.{pack}
-use Rattle.paging.specs.Calls.{asAnswer}
+use Rattle.answer.specs.Outcomes.{asAnswer}
 use Rattle.paging.specs.Map.{memory}
-use Rattle.regions.specs.List.{listOf}
-use Rattle.mmap.specs.List.{mapper}
-use Rattle.board.specs.declared.Records.{Records}
-use Rattle.board.specs.Board.{Board, Did, start}
-use Rattle.layout.specs.Parts.{fieldsIn, framesIn, framesFit, fieldsOut}
-use Rattle.layout.specs.Lists.{vmSize, vmIn, vmOut, mmapIn, nextIn, mmapOut, mmapFit, markedIn, markedOut, markedFit}
+use Rattle.vm_list.specs.Packed.{vmSize, vmIn, vmOut}
+use Rattle.mappings.specs.Packed.{mmapIn, nextIn, mmapOut, mmapFit}
+use Rattle.cow.specs.Packed.{markedIn, markedOut, markedFit}
+use Rattle.board.specs.Board.{Board, BoardDid, start}
+use Rattle.layout.specs.Parts.{framesIn, framesFit, fieldsOut}
 use Rattle.layout.specs.Left.{Left, left, unlessFit}
 use Rattle.layout.specs.Memory.{plainLine}
 
@@ -35,24 +34,14 @@ boardParts w f b r k u m = record { words = w; fields = f; bits = b; root = r; k
 abbrev pub boardFit : BoardParts → Bool
 boardFit p = both (framesFit (p .fields) (p .bits)) (both (eqb (length (p .kernel)) vmSize) (both (mmapFit (p .user)) (markedFit (p .marked))))
 
-abbrev pub boardIn : BoardParts → Board
-boardIn p = record {
+abbrev pub boardOfParts : BoardParts → Board
+boardOfParts p = record {
   mem = memory (p .words) (framesIn (p .fields) (p .bits));
   root = p .root;
   kernel = vmIn (p .kernel);
   user = mmapIn (p .user);
   next = nextIn (p .user);
   marked = markedIn (p .marked);
-}
-
--- its records alone
-abbrev pub recordsIn : List ℕ → ℕ → List ℕ → List ℕ → List ℕ → Records
-recordsIn fields root kernel user marked = record {
-  frames = fieldsIn fields;
-  root = record { 0 = root };
-  kernel = listOf (vmIn kernel);
-  user = mapper (mmapIn user) (nextIn user);
-  count = markedIn marked .count;
 }
 
 abbrev pub boardPacked : Board → BoardParts
@@ -64,8 +53,8 @@ abbrev pub leftOf : {A : Type 0} → Answer → A → A → A
 leftOf Met old new = new
 leftOf (Refused n) old new = old
 
-abbrev pub startLeft : BoardParts → Did → Left BoardParts
+abbrev pub startLeft : BoardParts → BoardDid → Left BoardParts
 startLeft p d = left (plainLine (d .answer)) (leftOf (asAnswer (d .answer)) p (boardPacked (d .board)))
 
 unfoldable pub packedStart : BoardParts → ℕ → ℕ → Left BoardParts
-packedStart p from to = unlessFit (boardFit p) p (startLeft p (start (boardIn p) from to))
+packedStart p from to = unlessFit (boardFit p) p (startLeft p (start (boardOfParts p) from to))

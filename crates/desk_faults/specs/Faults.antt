@@ -7,25 +7,26 @@ use Rattle.answer.specs.Numbers.{answerLine, flagLine}
 use Rattle.answer.specs.declared.Line.{Line}
 use Rattle.packed.specs.Words.{pack}
 use Rattle.paging.specs.Map.{Memory, memory}
+use Rattle.paging.specs.Levels.{aboveLast}
 use Rattle.slots.specs.Slots.{Slots}
-use Rattle.cow.specs.Marked.{DidMark, markCow, unmarkCow, isCow}
-use Rattle.fault.specs.Faults.{Faulting, faulting, Did, handleFault}
+use Rattle.cow.specs.Marked.{MarkedDid, markCow, unmarkCow, isCow}
+use Rattle.cow.specs.Packed.{markedIn, markedOut, markedFit}
+use Rattle.fault.specs.Faults.{Faulting, faulting, FaultDid, handleFault}
 use Rattle.handler.specs.Handler.{handleFaultSecond}
 use Rattle.layout.specs.Parts.{framesIn, framesFit, fieldsOut}
-use Rattle.layout.specs.Lists.{markedIn, markedOut, markedFit}
 use Rattle.layout.specs.Left.{Left, left, brokenLine, unlessFit}
 use Rattle.layout.specs.Memory.{plainLine, MemoryParts, onMemory}
 
 -- ---- the marked pages alone
 
-unfoldable pub onMarked : (Slots ℕ → DidMark) → List ℕ → Left (List ℕ)
-onMarked call marked = unlessFit (markedFit marked) marked (left (answerLine (call (markedIn marked) .answer)) (markedOut (call (markedIn marked) .marked)))
+unfoldable pub leftMarked : (Slots ℕ → MarkedDid) → List ℕ → Left (List ℕ)
+leftMarked call marked = unlessFit (markedFit marked) marked (left (answerLine (call (markedIn marked) .answer)) (markedOut (call (markedIn marked) .marked)))
 
 abbrev pub packedMarkCow : List ℕ → ℕ → Left (List ℕ)
-packedMarkCow marked addr = onMarked (λ (s : Slots ℕ). markCow s addr) marked
+packedMarkCow marked addr = leftMarked (λ (s : Slots ℕ). markCow s addr) marked
 
 abbrev pub packedUnmarkCow : List ℕ → ℕ → Left (List ℕ)
-packedUnmarkCow marked addr = onMarked (λ (s : Slots ℕ). unmarkCow s addr) marked
+packedUnmarkCow marked addr = leftMarked (λ (s : Slots ℕ). unmarkCow s addr) marked
 
 abbrev pub packedIsCow : List ℕ → ℕ → Line
 packedIsCow marked addr = unless (markedFit marked) brokenLine (flagLine (isCow (markedIn marked) addr))
@@ -44,18 +45,18 @@ faultParts w f b m = record { words = w; fields = f; bits = b; marked = m }
 abbrev pub faultFit : FaultParts → Bool
 faultFit p = both (framesFit (p .fields) (p .bits)) (markedFit (p .marked))
 
-abbrev pub faultIn : FaultParts → Faulting
-faultIn p = faulting (memory (p .words) (framesIn (p .fields) (p .bits))) (markedIn (p .marked))
+abbrev pub faultingIn : FaultParts → Faulting
+faultingIn p = faulting (memory (p .words) (framesIn (p .fields) (p .bits))) (markedIn (p .marked))
 
 abbrev pub faultPacked : Faulting → FaultParts
 faultPacked s = faultParts (s .mem .words) (fieldsOut (s .mem .frames .fa)) (pack (s .mem .frames .bits)) (markedOut (s .marked))
 
-unfoldable pub onFault : (Faulting → Did) → FaultParts → Left FaultParts
-onFault call p = unlessFit (faultFit p) p (left (plainLine (call (faultIn p) .answer)) (faultPacked (call (faultIn p) .state)))
+unfoldable pub onFault : (Faulting → FaultDid) → FaultParts → Left FaultParts
+onFault call p = unlessFit (faultFit p) p (left (plainLine (call (faultingIn p) .answer)) (faultPacked (call (faultingIn p) .state)))
 
 abbrev pub packedFault : FaultParts → ℕ → ℕ → ℕ → Left FaultParts
-packedFault p root addr code = onFault (λ (s : Faulting). handleFault 3 s root addr code) p
+packedFault p root addr code = onFault (λ (s : Faulting). handleFault aboveLast s root addr code) p
 
 -- the second path: no marked pages
 abbrev pub packedFaultSecond : MemoryParts → ℕ → ℕ → ℕ → Left MemoryParts
-packedFaultSecond p root addr code = onMemory (λ (m : Memory). handleFaultSecond 3 m root addr code) p
+packedFaultSecond p root addr code = onMemory (λ (m : Memory). handleFaultSecond aboveLast m root addr code) p

@@ -3,7 +3,6 @@ use address::Frame;
 use address::VirtAddr;
 use answer::Line;
 use layout::lengths;
-use layout::lists;
 use layout::parts;
 ghost use mathlib.Core.Path.{_≡_};
 ghost use Rattle.layout.specs.Left.{left, Unchanged, noLeftovers, faultLeftovers, secondLeftovers};
@@ -17,15 +16,7 @@ pub extern "C" fn gadulnos_mark_cow(marked: &mut [u8], addr: u64) -> Line
     ensures refused { λ r. ⌜ Unchanged noLeftovers (now (marked .entry))
         (left r (now (marked .exit))) ⌝ }
 {
-    if marked.len() != lists::MARKED_SIZE {
-        return parts::broken();
-    }
-    let mut pages = lists::get_marked(marked);
-    let did = cow::mark_cow(&mut pages, lists::marked_count(marked), VirtAddr(addr));
-    let count = did.count;
-    let a = did.answer;
-    lists::put_marked(marked, &pages, count);
-    answer::answer_line(a)
+    answer::answer_line(cow::mark_cow(marked, VirtAddr(addr)))
 }
 
 #[no_mangle]
@@ -35,26 +26,14 @@ pub extern "C" fn gadulnos_unmark_cow(marked: &mut [u8], addr: u64) -> Line
     ensures refused { λ r. ⌜ Unchanged noLeftovers (now (marked .entry))
         (left r (now (marked .exit))) ⌝ }
 {
-    if marked.len() != lists::MARKED_SIZE {
-        return parts::broken();
-    }
-    let mut pages = lists::get_marked(marked);
-    let did = cow::unmark_cow(&mut pages, lists::marked_count(marked), VirtAddr(addr));
-    let count = did.count;
-    let a = did.answer;
-    lists::put_marked(marked, &pages, count);
-    answer::answer_line(a)
+    answer::answer_line(cow::unmark_cow(marked, VirtAddr(addr)))
 }
 
 #[no_mangle]
 pub extern "C" fn gadulnos_is_cow(marked: &[u8], addr: u64) -> Line
     ensures { λ r. ⌜ r ≡ packedIsCow (now (marked .entry)) addr ⌝ }
 {
-    if marked.len() != lists::MARKED_SIZE {
-        return parts::broken();
-    }
-    let pages = lists::get_marked(marked);
-    answer::flag_line(cow::is_cow(&pages, lists::marked_count(marked), VirtAddr(addr)))
+    answer::flag_line(cow::is_cow(marked, VirtAddr(addr)))
 }
 
 // The first path.
@@ -73,29 +52,24 @@ pub extern "C" fn gadulnos_handle_page_fault(
     ensures refused { λ r. ⌜ Unchanged faultLeftovers (faultParts (now (words .entry)) (now (fields .entry)) (now (bits .entry)) (now (marked .entry)))
         (left r (faultParts (now (words .exit)) (now (fields .exit)) (now (bits .exit)) (now (marked .exit)))) ⌝ }
 {
-    if !lengths::three(fields.len(), bits.len(), marked.len(), lists::MARKED_SIZE) {
+    if !lengths::two(fields.len(), bits.len()) {
         return parts::broken();
     }
     let mut bitmap = parts::get_bits(bits);
     let frames = parts::get_fields(fields);
-    let mut pages = lists::get_marked(marked);
-    let n = lists::marked_count(marked);
     let did = fault::handle_page_fault(
         words,
         &mut bitmap,
         frames,
         Frame(root),
-        &mut pages,
-        n,
+        marked,
         VirtAddr(addr),
         code,
     );
     let left = did.frames;
-    let count = did.count;
     let a = did.answer;
     parts::put_fields(fields, left);
     parts::put_bits(bits, &bitmap);
-    lists::put_marked(marked, &pages, count);
     answer::answer_line(a)
 }
 

@@ -3,66 +3,45 @@ use address::Frame;
 use answer::Answer;
 use answer::Line;
 use board::Records;
+use frame::FrameAllocator;
+use frame::Marks;
 use layout::lengths;
-use layout::lists;
 use layout::parts;
 ghost use mathlib.Core.Path.{_≡_};
 ghost use lib.ListN.{length};
-ghost use Rattle.regions.specs.List.{slotsOf};
-ghost use Rattle.mmap.specs.List.{slotsOf as mappedSlots};
-ghost use Rattle.layout.specs.Parts.{fieldsSize};
-ghost use Rattle.layout.specs.Lists.{vmSize, mmapSize, markedSize, vmOut, mmapOut, markedOut, markedSlots};
+ghost use Rattle.packed.specs.Words.{pack};
+ghost use Rattle.layout.specs.Parts.{fieldsSize, bitsSize, fieldsOut};
 ghost use Rattle.layout.specs.Left.{left, Unchanged, noLeftovers};
-ghost use Rattle.desk_faults.specs.Board.{boardParts, recordsIn, leftOf, packedStart};
+ghost use Rattle.desk_faults.specs.Board.{boardParts, leftOf, packedStart};
 
-fn get_records(fields: &[u8], root: u64, kernel: &[u8], user: &[u8], marked: &[u8]) -> Records
-    requires { ⌜ length (now fields) ≡ fieldsSize ⌝ }
-    requires { ⌜ length (now kernel) ≡ vmSize ⌝ }
-    requires { ⌜ length (now user) ≡ mmapSize ⌝ }
-    requires { ⌜ length (now marked) ≡ markedSize ⌝ }
-    ensures { λ r. ⌜ r ≡ recordsIn (now (fields .entry)) root (now (kernel .entry)) (now (user .entry)) (now (marked .entry)) ⌝ }
-{
-    let frames = parts::get_fields(fields);
-    let list = lists::get_vm(kernel);
-    let mapped = lists::get_mmap(user);
-    let count = lists::marked_count(marked);
-    Records {
-        frames,
-        root: Frame(root),
-        kernel: list,
-        user: mapped,
-        count,
-    }
-}
-
-// The lists that a start leaves: only a met one writes them. The old vmalloc list may stand for no record.
-fn put_lists(
-    kernel: &mut [u8],
-    user: &mut [u8],
-    marked: &mut [u8],
-    pages: &[u64; 256],
+// The frame record, its bitmap and the root that a start leaves: only a met one writes them.
+fn put_records(
+    fields: &mut [u8],
+    bits: &mut [u8],
+    root: &mut u64,
+    bitmap: &Marks,
     a: Answer,
     left: Records,
 )
-    requires { ⌜ length (now kernel) ≡ vmSize ⌝ }
-    requires { ⌜ length (now user) ≡ mmapSize ⌝ }
-    requires { ⌜ length (now marked) ≡ markedSize ⌝ }
-    ensures { λ _. ⌜ now (kernel .exit) ≡ leftOf a (now (kernel .entry)) (vmOut (slotsOf (left .kernel))) ⌝ }
-    ensures { λ _. ⌜ now (user .exit) ≡ leftOf a (now (user .entry)) (mmapOut (mappedSlots (left .user)) (left .user .next)) ⌝ }
-    ensures { λ _. ⌜ now (marked .exit) ≡ leftOf a (now (marked .entry)) (markedOut (markedSlots (now (pages .entry)) (left .count))) ⌝ }
+    requires { ⌜ length (now fields) ≡ fieldsSize ⌝ }
+    requires { ⌜ length (now bits) ≡ bitsSize ⌝ }
+    ensures { λ _. ⌜ now (fields .exit) ≡ leftOf a (now (fields .entry)) (fieldsOut (left .frames)) ⌝ }
+    ensures { λ _. ⌜ now (bits .exit) ≡ leftOf a (now (bits .entry)) (pack (now (bitmap .entry))) ⌝ }
+    ensures { λ _. ⌜ now (root .exit) ≡ leftOf a (now (root .entry)) (left .root .0) ⌝ }
 {
     match a {
         Answer::Met => {
-            let list = left.kernel;
-            lists::put_vm(kernel, list);
-            let mapped = left.user;
-            lists::put_mmap(user, mapped);
-            lists::put_marked(marked, pages, left.count);
+            let frames = left.frames;
+            let first = left.root;
+            parts::put_fields(fields, frames);
+            parts::put_bits(bits, bitmap);
+            *root = first.0;
         }
         Answer::Refused(_) => {}
     }
 }
 
+// What the parts held before does not matter to a start, which is given a record and a bitmap of no frames.
 #[no_mangle]
 pub extern "C" fn gadulnos_start(
     words: &mut [u64],
@@ -84,26 +63,17 @@ pub extern "C" fn gadulnos_start(
         (left r (boardParts (now (words .exit)) (now (fields .exit)) (now (bits .exit)) (now (root .exit))
         (now (kernel .exit)) (now (user .exit)) (now (marked .exit)))) ⌝ }
 {
-    if !lengths::five(
-        fields.len(),
-        bits.len(),
-        kernel.len(),
-        user.len(),
-        marked.len(),
-    ) {
+    if !lengths::two(fields.len(), bits.len()) {
         return parts::broken();
     }
-    let mut bitmap = parts::get_bits(bits);
-    let mut pages = lists::get_marked(marked);
-    let old = get_records(fields, *root, kernel, user, marked);
-    let did = board::start(words, &mut bitmap, &mut pages, old, from, to);
+    let mut bitmap = [0u64; 128];
+    let none = Records {
+        frames: FrameAllocator::new(),
+        root: Frame(0),
+    };
+    let did = board::start(words, &mut bitmap, kernel, user, marked, none, from, to);
     let a = did.answer;
     let left = did.records;
-    let frames = left.frames;
-    let first = left.root;
-    parts::put_fields(fields, frames);
-    parts::put_bits(bits, &bitmap);
-    *root = first.0;
-    put_lists(kernel, user, marked, &pages, a, left);
+    put_records(fields, bits, root, &bitmap, a, left);
     answer::answer_line(a)
 }

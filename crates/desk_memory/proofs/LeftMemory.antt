@@ -6,22 +6,24 @@ use mathlib.Core.List.{List}
 use lib.ListN.{length, getD, take}
 use Rattle.bits.specs.Bit.{both, flag}
 use Rattle.bits.proofs.Choice.{pick-cases}
+use Rattle.answer.specs.Outcomes.{andThen}
 use Rattle.answer.specs.Numbers.{answerLine}
 use Rattle.answer.specs.declared.Answer.{Answer}
 use Rattle.answer.specs.declared.Line.{Line}
-use Rattle.address.specs.Address.{aligned, frameLine}
+use Rattle.address.specs.Address.{aligned, frameLine, asFrame}
 use Rattle.address.specs.declared.FrameAnswer.{FrameAnswer}
 use Rattle.entry.specs.Entry.{indices}
 use Rattle.packed.specs.Words.{pack, unpack}
 use Rattle.frame.specs.declared.FrameAllocator.{FrameAllocator}
-use Rattle.frame.specs.Frames.{Frames, frames, Did, inside, sound, init, markAllocated, allocate, deallocate}
+use Rattle.frame.specs.Frames.{Frames, frames, FramesDid, inside, sound, init, markAllocated, allocate, deallocate}
 use Rattle.frame.proofs.Laws.{init-cases, take-cases}
-use Rattle.paging.specs.declared.Walked.{Walked}
-use Rattle.paging.specs.declared.Walked.the-variants.{At, Stop}
+use Rattle.answer.specs.declared.Outcome.{Outcome}
+use Rattle.answer.specs.declared.Outcome.the-variants.{Value, Stop}
 use Rattle.paging.specs.declared.HugePageSize.{HugePageSize}
-use Rattle.paging.specs.Walk.{lent, place, reach}
-use Rattle.paging.specs.Map.{Memory, Out, Left as Stored, afterReach, takeLeaf, unmapEntry}
-use Rattle.paging.specs.Calls.{asFrame, whole, mapPage, sizeOf, tablesAbove, mapHuge, unmapPage}
+use Rattle.paging.specs.Levels.{aboveLast, levels}
+use Rattle.paging.specs.Walk.{mayWalk, place, reach}
+use Rattle.paging.specs.Map.{Memory, Out, Left as Stored, left as stored, takeLeaf, unmapEntry}
+use Rattle.paging.specs.Calls.{whole, mapPage, sizeOf, tablesAbove, mapHuge, unmapPage}
 use Rattle.layout.specs.Parts.{fieldsIn, fieldsOut, framesIn, framesFit}
 use Rattle.layout.specs.Left.{left, brokenLine, IsRefusal, Unchanged, noLeftovers, tableLeftovers}
 use Rattle.layout.specs.Memory.{plainLine, memoryParts}
@@ -31,25 +33,25 @@ use Rattle.desk_memory.specs.Memory.{framesParts, framesPacked, onFrames
 
 -- ---- the frame record and its bitmap
 
-module _ {A : Type 0} (said : A → Line) (call : Frames → Did A) (fields bits : List ℕ) where
+module _ {A : Type 0} (said : A → Line) (call : Frames → FramesDid A) (fields bits : List ℕ) where
   pub frames-broken : {r : Line} → framesFit fields bits ≡ false → r ≡ brokenLine → left r (framesParts fields bits) ≡ onFrames said call (framesParts fields bits)
   unfolding onFrames
   frames-broken h e = broken-left (framesParts fields bits) _ h e
 
   -- `of` is what code returns of a call, `line` and `fa` its parts
-  pub frames-met : {X : Type 0} (of : Did A → X) (line : X → Line) (fa : X → FrameAllocator)
-      → ((d : Did A) → (line (of d) ≡ said (d .answer)) × (fa (of d) ≡ d .frames .fa))
+  pub frames-met : {X : Type 0} (of : FramesDid A → X) (line : X → Line) (fa : X → FrameAllocator)
+      → ((d : FramesDid A) → (line (of d) ≡ said (d .answer)) × (fa (of d) ≡ d .frames .fa))
       → {b bm fs bs : List ℕ} {f : FrameAllocator} {x : X} {r : Line} → framesFit fields bits ≡ true → b ≡ unpack 128 bits → f ≡ fieldsIn fields
       → let d = call (frames b f) in (x ≡ of d) × (bm ≡ d .frames .bits)
       → r ≡ line x → fs ≡ fieldsOut (fa x) → bs ≡ pack bm → left r (framesParts fs bs) ≡ onFrames said call (framesParts fields bits)
   unfolding onFrames
   frames-met {X} of line fa parts h e f (x, y) r fs bs =
-      let same : _≡_ {A = Did A} (call (frames _ _)) (call (framesIn fields bits)) = λ j. call (frames (e j) (f j)) in
+      let same : _≡_ {A = FramesDid A} (call (frames _ _)) (call (framesIn fields bits)) = λ j. call (frames (e j) (f j)) in
       let p = x ∙ ap of same in
       let d = call (framesIn fields bits) in
       let l = r ∙ ap line p ∙ parts d .0 in
       let g = fs ∙ ap (λ (x : X). fieldsOut (fa x)) p ∙ ap fieldsOut (parts d .1) in
-      let k = bs ∙ ap pack (y ∙ ap (λ (d : Did A). d .frames .bits) same) in
+      let k = bs ∙ ap pack (y ∙ ap (λ (d : FramesDid A). d .frames .bits) same) in
       met-left (framesParts fields bits) h (λ j. left (l j) (framesParts (g j) (k j)))
 
   pub frames-unchanged : (leftovers : List ℕ) → FramesBytes fields bits → ((fr : Frames) → IsRefusal leftovers (said (call fr .answer) .number) → call fr .frames ≡ fr)
@@ -75,21 +77,21 @@ module _ {A : Type 0} (said : A → Line) (call : Frames → A) (fields bits : L
 
 pub init-clean : (from to : ℕ) (fr : Frames) → IsRefusal noLeftovers (answerLine (init fr from to .answer) .number) → init fr from to .frames ≡ fr
 init-clean from to fr =
-    init-cases fr from to (λ (d : Did Answer). IsRefusal noLeftovers (answerLine (d .answer) .number) → d .frames ≡ fr) (λ _ _ h. absurd (h refl)) (λ _. refl)
+    init-cases fr from to (λ (d : FramesDid Answer). IsRefusal noLeftovers (answerLine (d .answer) .number) → d .frames ≡ fr) (λ _ _ h. absurd (h refl)) (λ _. refl)
 
 pub mark-clean : (n : ℕ) (fr : Frames) → IsRefusal noLeftovers (answerLine (markAllocated fr n .answer) .number) → markAllocated fr n .frames ≡ fr
 unfolding markAllocated
-mark-clean n fr = pick-cases (λ (d : Did Answer). IsRefusal noLeftovers (answerLine (d .answer) .number) → d .frames ≡ fr) (sound fr) _ _ (λ _ h. absurd (h refl)) (λ _ _. refl)
+mark-clean n fr = pick-cases (λ (d : FramesDid Answer). IsRefusal noLeftovers (answerLine (d .answer) .number) → d .frames ≡ fr) (sound fr) _ _ (λ _ h. absurd (h refl)) (λ _ _. refl)
 
 pub deallocate-clean : (n : ℕ) (fr : Frames) → IsRefusal noLeftovers (answerLine (deallocate fr n .answer) .number) → deallocate fr n .frames ≡ fr
 unfolding deallocate
-deallocate-clean n fr = pick-cases (λ (d : Did Answer). IsRefusal noLeftovers (answerLine (d .answer) .number) → d .frames ≡ fr) (sound fr) _ _ (λ _ h. absurd (h refl)) (λ _ _. refl)
+deallocate-clean n fr = pick-cases (λ (d : FramesDid Answer). IsRefusal noLeftovers (answerLine (d .answer) .number) → d .frames ≡ fr) (sound fr) _ _ (λ _ h. absurd (h refl)) (λ _ _. refl)
 
 pub allocate-clean : (fr : Frames) → IsRefusal noLeftovers (frameLine (allocate fr .answer) .number) → allocate fr .frames ≡ fr
 unfolding allocate
 allocate-clean fr = pick-cases P (sound fr) _ _ (λ _. take-cases fr P (λ _ _ _ _ h. absurd (h refl)) (λ _ _. refl)) (λ _ _. refl)
   where
-    P : Did FrameAnswer → Type 0
+    P : FramesDid FrameAnswer → Type 0
     P d = IsRefusal noLeftovers (frameLine (d .answer) .number) → d .frames ≡ fr
 
 -- ---- refusals of the mapper: 10 and 4; 11, 12 and 19 may leave tables
@@ -112,28 +114,28 @@ module _ (up : ℕ) (root v p : ℕ) (w u : Bool) (m : Memory) where
 
 module _ (words fields bits : List ℕ) (b : FramesBytes fields bits) (root v p : ℕ) (w u : Bool) where
   pub map-refused : Unchanged tableLeftovers (memoryParts words fields bits) (packedMapPage (memoryParts words fields bits) root v p w u)
-  map-refused = memory-unchanged (λ (m : Memory). mapPage 3 m root v p w u) words fields bits tableLeftovers b (λ m. map-clean 3 root v p w u m)
+  map-refused = memory-unchanged (λ (m : Memory). mapPage aboveLast m root v p w u) words fields bits tableLeftovers b (λ m. map-clean aboveLast root v p w u m)
 
   pub huge-refused : (s : HugePageSize) → Unchanged tableLeftovers (memoryParts words fields bits) (packedMapHuge (memoryParts words fields bits) root v p s w u)
-  huge-refused s = memory-unchanged (λ (m : Memory). mapHuge 3 m root v p s w u) words fields bits tableLeftovers b (λ m. huge-clean 3 root v p w u m s)
+  huge-refused s = memory-unchanged (λ (m : Memory). mapHuge aboveLast m root v p s w u) words fields bits tableLeftovers b (λ m. huge-clean aboveLast root v p w u m s)
 
 -- ---- unmap_page
 
 pub unmap-left : (ws : List ℕ) (start total root v : ℕ) {x : FrameAnswer} {rest : List ℕ} {r : Line}
-    → let d = unmapPage 3 ws start total root v in (x ≡ asFrame (d .walked)) × (rest ≡ d .words) → r ≡ frameLine x → left r rest ≡ leftUnmap ws start total root v
+    → let d = unmapPage aboveLast ws start total root v in (x ≡ asFrame (d .walked)) × (rest ≡ d .words) → r ≡ frameLine x → left r rest ≡ leftUnmap ws start total root v
 unmap-left ws start total root v (x, w) r = λ j. left ((r ∙ ap frameLine x) j) (w j)
 
 -- its refusals: 10, 14 and 19
 pub unmap-refused : (ws : List ℕ) (start total root v : ℕ) → Unchanged noLeftovers ws (leftUnmap ws start total root v)
 unfolding unmapPage unmapEntry takeLeaf
 unmap-refused ws start total root v =
-    pick-cases Clean (lent (length ws) start total root) _ _ (λ _. by (reach ws start total root (take 3 (indices 4 v)))) (λ _ _. refl)
+    pick-cases Clean (mayWalk (length ws) start total root) _ _ (λ _. by (reach ws start total root (take aboveLast (indices levels v)))) (λ _ _. refl)
   where
     Clean : Stored → Type 0
     Clean l = IsRefusal noLeftovers (frameLine (asFrame (l .walked)) .number) → l .words ≡ ws
 
-    by : (w : Walked) → Clean (afterReach w ws (λ t. takeLeaf ws start total t (getD (indices 4 v) 3 0)))
+    by : (w : Outcome) → Clean (andThen w (λ n. stored (Stop n) ws) (λ t. takeLeaf ws start total t (getD (indices levels v) aboveLast 0)))
     by (Stop n) = λ _. refl
-    by (At t) =
+    by (Value t) =
         pick-cases Clean (inside start total t) _ _
-        (λ _. pick-cases Clean (flag 0 (getD ws (place start t (getD (indices 4 v) 3 0)) 0)) _ _ (λ _ h. absurd (h refl)) (λ _ _. refl)) (λ _ _. refl)
+        (λ _. pick-cases Clean (flag 0 (getD ws (place start t (getD (indices levels v) aboveLast 0)) 0)) _ _ (λ _ h. absurd (h refl)) (λ _ _. refl)) (λ _ _. refl)

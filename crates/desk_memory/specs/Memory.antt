@@ -1,16 +1,18 @@
 -- What the frame allocator's and the mapper's C functions answer and leave: a call on the parts unpacked, and what it leaves packed again (layout's Left and Memory).
 use Prim.Native.Nat.{ℕ}
-use mathlib.Core.Bool.{Bool}
+use mathlib.Core.Bool.{Bool, true, false}
 use mathlib.Core.List.{List}
 use Rattle.bits.specs.Bit.{unless}
 use Rattle.answer.specs.Numbers.{answerLine, countLine, flagLine}
 use Rattle.answer.specs.declared.Line.{Line}
-use Rattle.address.specs.Address.{frameLine, physLine}
+use Rattle.address.specs.Address.{frameLine, physLine, asFrame, asPhys}
 use Rattle.packed.specs.Words.{pack}
-use Rattle.frame.specs.Frames.{Frames, Did, init, isAllocated, markAllocated, allocate, deallocate, freeFrames, allocatedFrames, totalFrames}
+use Rattle.frame.specs.Frames.{Frames, FramesDid, init, isAllocated, markAllocated, allocate, deallocate, freeFrames, allocatedFrames, totalFrames}
 use Rattle.paging.specs.declared.HugePageSize.{HugePageSize}
+use Rattle.paging.specs.declared.HugePageSize.the-variants.{Size2MB, Size1GB}
 use Rattle.paging.specs.Map.{Memory}
-use Rattle.paging.specs.Calls.{asPhys, asFrame, translate, userMay, mapPage, mapHuge, unmapPage}
+use Rattle.paging.specs.Calls.{translate, userMay, mapPage, mapHuge, unmapPage}
+use Rattle.paging.specs.Levels.{aboveLast}
 use Rattle.layout.specs.Parts.{framesIn, framesFit, fieldsOut}
 use Rattle.layout.specs.Left.{Left, left, brokenLine, unlessFit}
 use Rattle.layout.specs.Memory.{MemoryParts, onMemory}
@@ -27,7 +29,7 @@ framesParts f b = record { fields = f; bits = b }
 abbrev pub framesPacked : Frames → FramesParts
 framesPacked fr = framesParts (fieldsOut (fr .fa)) (pack (fr .bits))
 
-unfoldable pub onFrames : {A : Type 0} → (A → Line) → (Frames → Did A) → FramesParts → Left FramesParts
+unfoldable pub onFrames : {A : Type 0} → (A → Line) → (Frames → FramesDid A) → FramesParts → Left FramesParts
 onFrames line call p =
     unlessFit (framesFit (p .fields) (p .bits)) p
     (left (line (call (framesIn (p .fields) (p .bits)) .answer)) (framesPacked (call (framesIn (p .fields) (p .bits)) .frames)))
@@ -62,20 +64,25 @@ packedTotalFrames p = readFrames countLine totalFrames p
 
 -- ---- the mapper
 
+-- a huge page's size by one flag
+abbrev pub hugeOf : Bool → HugePageSize
+hugeOf true = Size1GB
+hugeOf false = Size2MB
+
 abbrev pub lineTranslate : List ℕ → ℕ → ℕ → ℕ → ℕ → Line
-lineTranslate words start total root virt = physLine (asPhys (translate 3 words start total root virt))
+lineTranslate words start total root virt = physLine (asPhys (translate aboveLast words start total root virt))
 
 abbrev pub lineUserMay : List ℕ → ℕ → ℕ → ℕ → ℕ → Bool → Line
-lineUserMay words start total root virt write = flagLine (userMay 3 words start total root virt write)
+lineUserMay words start total root virt write = flagLine (userMay aboveLast words start total root virt write)
 
 abbrev pub packedMapPage : MemoryParts → ℕ → ℕ → ℕ → Bool → Bool → Left MemoryParts
-packedMapPage p root virt phys writable user = onMemory (λ (m : Memory). mapPage 3 m root virt phys writable user) p
+packedMapPage p root virt phys writable user = onMemory (λ (m : Memory). mapPage aboveLast m root virt phys writable user) p
 
 abbrev pub packedMapHuge : MemoryParts → ℕ → ℕ → ℕ → HugePageSize → Bool → Bool → Left MemoryParts
-packedMapHuge p root virt phys size writable user = onMemory (λ (m : Memory). mapHuge 3 m root virt phys size writable user) p
+packedMapHuge p root virt phys size writable user = onMemory (λ (m : Memory). mapHuge aboveLast m root virt phys size writable user) p
 
 -- the words are all that it is lent, and they need not be unpacked
 abbrev pub leftUnmap : List ℕ → ℕ → ℕ → ℕ → ℕ → Left (List ℕ)
 leftUnmap words start total root virt =
-    let d = unmapPage 3 words start total root virt in
+    let d = unmapPage aboveLast words start total root virt in
     left (frameLine (asFrame (d .walked))) (d .words)

@@ -7,10 +7,10 @@ use layout::lengths;
 use layout::parts;
 use paging::HugePageSize;
 ghost use mathlib.Core.Path.{_≡_};
+ghost use Rattle.paging.specs.Calls.{sizeOf};
 ghost use Rattle.layout.specs.Left.{left, Unchanged, noLeftovers, tableLeftovers};
 ghost use Rattle.layout.specs.Memory.{memoryParts};
-ghost use Rattle.desk_memory.specs.Line.{hugeOf};
-ghost use Rattle.desk_memory.specs.Memory.{lineTranslate, lineUserMay, packedMapPage, packedMapHuge, leftUnmap};
+ghost use Rattle.desk_memory.specs.Memory.{hugeOf, lineTranslate, lineUserMay, packedMapPage, packedMapHuge, leftUnmap};
 
 #[no_mangle]
 pub extern "C" fn gadulnos_translate(
@@ -77,13 +77,27 @@ pub extern "C" fn gadulnos_map_page(
     answer::answer_line(a)
 }
 
-pub fn huge_size(gigabyte: bool) -> HugePageSize
+fn huge_size(gigabyte: bool) -> HugePageSize
     ensures { λ r. ⌜ r ≡ hugeOf gigabyte ⌝ }
 {
     if gigabyte {
         return HugePageSize::Size1GB;
     }
     HugePageSize::Size2MB
+}
+
+#[no_mangle]
+pub extern "C" fn gadulnos_huge_size(gigabyte: bool) -> u64
+    ensures { λ r. ⌜ r ≡ sizeOf (hugeOf gigabyte) ⌝ }
+{
+    huge_size(gigabyte).size()
+}
+
+#[no_mangle]
+pub extern "C" fn gadulnos_huge_alignment(gigabyte: bool) -> u64
+    ensures { λ r. ⌜ r ≡ sizeOf (hugeOf gigabyte) ⌝ }
+{
+    huge_size(gigabyte).alignment()
 }
 
 #[no_mangle]

@@ -3,7 +3,6 @@ use address::Frame;
 use address::VirtAddr;
 use answer::Line;
 use layout::lengths;
-use layout::lists;
 use layout::parts;
 ghost use mathlib.Core.Path.{_≡_};
 ghost use Rattle.vmalloc.specs.Calls.{isVmallocAddr};
@@ -24,25 +23,22 @@ pub extern "C" fn gadulnos_vmalloc(
     ensures refused { λ r. ⌜ Unchanged regionLeftovers (kernelParts (now (words .entry)) (now (fields .entry)) (now (bits .entry)) (now (list .entry)))
         (left r (kernelParts (now (words .exit)) (now (fields .exit)) (now (bits .exit)) (now (list .exit)))) ⌝ }
 {
-    if !lengths::with_vm(fields.len(), bits.len(), list) {
+    if !lengths::two(fields.len(), bits.len()) {
         return parts::broken();
     }
     let mut bitmap = parts::get_bits(bits);
-    let frames = parts::get_fields(fields);
     let did = vmalloc::vmalloc(
         words,
         &mut bitmap,
-        frames,
+        parts::get_fields(fields),
         Frame(root),
-        lists::get_vm(list),
+        list,
         size,
     );
     let left = did.frames;
-    let next = did.list;
     let a = did.answer;
     parts::put_fields(fields, left);
     parts::put_bits(bits, &bitmap);
-    lists::put_vm(list, next);
     address::virt_line(a)
 }
 
@@ -60,25 +56,22 @@ pub extern "C" fn gadulnos_vfree(
     ensures refused { λ r. ⌜ Unchanged noLeftovers (kernelParts (now (words .entry)) (now (fields .entry)) (now (bits .entry)) (now (list .entry)))
         (left r (kernelParts (now (words .exit)) (now (fields .exit)) (now (bits .exit)) (now (list .exit)))) ⌝ }
 {
-    if !lengths::with_vm(fields.len(), bits.len(), list) {
+    if !lengths::two(fields.len(), bits.len()) {
         return parts::broken();
     }
     let mut bitmap = parts::get_bits(bits);
-    let frames = parts::get_fields(fields);
     let did = vmalloc::vfree(
         words,
         &mut bitmap,
-        frames,
+        parts::get_fields(fields),
         Frame(root),
-        lists::get_vm(list),
+        list,
         VirtAddr(addr),
     );
     let left = did.frames;
-    let next = did.list;
     let a = did.answer;
     parts::put_fields(fields, left);
     parts::put_bits(bits, &bitmap);
-    lists::put_vm(list, next);
     answer::answer_line(a)
 }
 

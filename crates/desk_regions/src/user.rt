@@ -3,11 +3,10 @@ use address::Frame;
 use address::VirtAddr;
 use answer::Line;
 use layout::lengths;
-use layout::lists;
 use layout::parts;
 ghost use mathlib.Core.Path.{_≡_};
 ghost use Rattle.mmap.specs.Calls.{mprotect as mprotectOf};
-ghost use Rattle.mmap.specs.Results.{wishOf};
+ghost use Rattle.mmap.specs.Packed.{optAddr};
 ghost use Rattle.layout.specs.Left.{left, Unchanged, noLeftovers, regionLeftovers};
 ghost use Rattle.layout.specs.Memory.{plainLine};
 ghost use Rattle.desk_regions.specs.Regions.{userParts, packedMmap, packedMunmap};
@@ -26,33 +25,30 @@ pub extern "C" fn gadulnos_mmap(
     flags: i32,
 ) -> Line
     ensures { λ r. ⌜ left r (userParts (now (words .exit)) (now (fields .exit)) (now (bits .exit)) (now (list .exit)))
-        ≡ packedMmap (userParts (now (words .entry)) (now (fields .entry)) (now (bits .entry)) (now (list .entry))) root (wishOf given addr) size prot flags ⌝ }
+        ≡ packedMmap (userParts (now (words .entry)) (now (fields .entry)) (now (bits .entry)) (now (list .entry))) root (optAddr given addr) size prot flags ⌝ }
     ensures refused { λ r. ⌜ Unchanged regionLeftovers (userParts (now (words .entry)) (now (fields .entry)) (now (bits .entry)) (now (list .entry)))
         (left r (userParts (now (words .exit)) (now (fields .exit)) (now (bits .exit)) (now (list .exit)))) ⌝ }
 {
-    if !lengths::three(fields.len(), bits.len(), list.len(), lists::MMAP_SIZE) {
+    if !lengths::two(fields.len(), bits.len()) {
         return parts::broken();
     }
     let mut bitmap = parts::get_bits(bits);
-    let frames = parts::get_fields(fields);
-    let wish = mmap::wish_of(given, addr);
+    let hint = mmap::opt_addr(given, addr);
     let did = mmap::mmap(
         words,
         &mut bitmap,
-        frames,
+        parts::get_fields(fields),
         Frame(root),
-        lists::get_mmap(list),
-        wish,
+        list,
+        hint,
         size,
         prot,
         flags,
     );
     let left = did.frames;
-    let next = did.list;
     let a = did.answer;
     parts::put_fields(fields, left);
     parts::put_bits(bits, &bitmap);
-    lists::put_mmap(list, next);
     address::virt_line(a)
 }
 
@@ -71,26 +67,23 @@ pub extern "C" fn gadulnos_munmap(
     ensures refused { λ r. ⌜ Unchanged noLeftovers (userParts (now (words .entry)) (now (fields .entry)) (now (bits .entry)) (now (list .entry)))
         (left r (userParts (now (words .exit)) (now (fields .exit)) (now (bits .exit)) (now (list .exit)))) ⌝ }
 {
-    if !lengths::three(fields.len(), bits.len(), list.len(), lists::MMAP_SIZE) {
+    if !lengths::two(fields.len(), bits.len()) {
         return parts::broken();
     }
     let mut bitmap = parts::get_bits(bits);
-    let frames = parts::get_fields(fields);
     let did = mmap::munmap(
         words,
         &mut bitmap,
-        frames,
+        parts::get_fields(fields),
         Frame(root),
-        lists::get_mmap(list),
+        list,
         VirtAddr(addr),
         size,
     );
     let left = did.frames;
-    let next = did.list;
     let a = did.answer;
     parts::put_fields(fields, left);
     parts::put_bits(bits, &bitmap);
-    lists::put_mmap(list, next);
     answer::answer_line(a)
 }
 

@@ -82,6 +82,10 @@ pub struct PageTableEntry {
 }
 
 impl PageTableEntry {
+    pub const PRESENT: u64 = 1 << 0;
+
+    pub const ADDR_MASK: u64 = 0x000F_FFFF_FFFF_F000;
+
     pub fn new() -> Self
         ensures { λ r. ⌜ r .entry ≡ 0 ⌝ }
     {
@@ -91,13 +95,13 @@ impl PageTableEntry {
     pub fn is_present(self) -> bool
         ensures { λ r. ⌜ r ≡ flag 0 (self .entry) ⌝ }
     {
-        (self.entry & 1) != 0
+        (self.entry & Self::PRESENT) != 0
     }
 
     pub fn physical_address(self) -> u64
         ensures { λ r. ⌜ r ≡ addrOf (self .entry) ⌝ }
     {
-        self.entry & 0x000F_FFFF_FFFF_F000
+        self.entry & Self::ADDR_MASK
     }
 
     pub fn flags(self) -> PageFlags
@@ -110,7 +114,7 @@ impl PageTableEntry {
         ensures { λ r. ⌜ r .entry ≡ flagEntryOf phys flags ⌝ }
     {
         Self {
-            entry: (phys & 0x000F_FFFF_FFFF_F000) | flags.to_bits(),
+            entry: (phys & Self::ADDR_MASK) | flags.to_bits(),
         }
     }
 }

@@ -1,89 +1,115 @@
--- What the first path comes to: broken, refused by the code, or the step below.
+-- What the first path comes to: broken, refused by the code, or the step below; and what code says of it where the marked pages are packed bytes.
 use Prim.Native.Nat.{ℕ}
-use mathlib.Core.Path.{_≡_, sym, _∙_, ap, subst}
-use mathlib.Core.Bool.{Bool, true, false}
+use mathlib.Core.Path.{_≡_, refl, sym, _∙_, ap}
+use mathlib.Core.Bool.{Bool, true, false, false≢true}
 use mathlib.Core.List.{List}
+use Rattle.bits.specs.Bit.{unless, both}
+use Rattle.bits.proofs.Choice.{both-true}
 use Rattle.answer.specs.Numbers.{brokenRecord, reservedBit, writeToReadOnly}
+use Rattle.answer.specs.Outcomes.{asAnswer}
 use Rattle.answer.specs.declared.Answer.{Answer}
-use Rattle.answer.specs.declared.Answer.the-variants.{Met}
-use Rattle.frame.specs.Frames.{frames}
-use Rattle.paging.specs.declared.Walked.{Walked}
-use Rattle.paging.specs.declared.Walked.the-variants.{At, Stop}
+use Rattle.answer.specs.declared.Answer.the-variants.{Refused}
+use Rattle.packed.proofs.RoundTrip.{Bytes}
+use Rattle.answer.specs.declared.Outcome.{Outcome}
+use Rattle.answer.specs.declared.Outcome.the-variants.{Value, Stop}
 use Rattle.paging.specs.Map.{Memory, out}
-use Rattle.paging.specs.Calls.{asAnswer, whole}
-use Rattle.slots.specs.Slots.{listed}
-use Rattle.cow.specs.Marked.{pageOf, soundMarked, isListed, withoutPage, storePages}
-use Rattle.fault.specs.declared.Faulted.{Faulted}
-use Rattle.fault.specs.Faults.{isPresent, isWrite, isUser, isReserved, denied, demandPage, copyOnWrite, Faulting, faulting, Did, did, faulted, protected, handled, handleFault}
+use Rattle.paging.specs.Calls.{whole}
+use Rattle.paging.specs.Kept.{kept}
+use Rattle.slots.specs.Slots.{Slots, listed}
+use Rattle.slots.specs.Sorted.{hasKey, remove}
+use Rattle.cow.specs.Marked.{pageOf, pageKey, soundMarked, storePages}
+use Rattle.cow.specs.Packed.{markedIn, markedOut, markedFit}
+use Rattle.cow.proofs.RoundTrip.{marked-back}
+use Rattle.fault.specs.Faults.{isPresent, isWrite, isUser, isReserved, denied, demandPage, copyOnWrite, Faulting, faulting, FaultDid, faultDid, protected, handled, handleFault}
+use Rattle.fault.specs.Packed.{onPages, FaultReads}
 
--- what code says of an outcome of the first path: what it returns, and the words, the bitmap and the slots that it leaves
-abbrev pub Says : Faulted → List ℕ → List ℕ → List ℕ → Did → Type 0
-Says r ws bm ms d = (r ≡ faulted d) × ((ws ≡ d .state .mem .words) × ((bm ≡ d .state .mem .frames .bits) × (ms ≡ d .state .marked .slots)))
+-- ---- what code says: an answer, words and frames, and bytes; and the pages that these stand for
 
-pub told-fault : {d e : Did} → d ≡ e → Says (faulted e) (e .state .mem .words) (e .state .mem .frames .bits) (e .state .marked .slots) d
-told-fault e = (
-  ap faulted (sym e),
-  (
-    ap (λ (x : Did). x .state .mem .words) (sym e),
-    (ap (λ (x : Did). x .state .mem .frames .bits) (sym e), ap (λ (x : Did). x .state .marked .slots) (sym e)),
-  ),
-)
+module _ (call : Faulting → FaultDid) (m : Memory) (bs : List ℕ) where
+  abbrev pub Says : Answer → Memory → List ℕ → Type 0
+  Says a m′ left = (kept a m′ left ≡ onPages call m bs) × FaultReads call m bs left
+
+  module _ (fit : markedFit bs ≡ true) {w : Outcome} {m′ : Memory} {a : Answer} (q : a ≡ asAnswer w) where
+    -- pages are left, and the bytes stand for them
+    pub says : {s : Slots ℕ} → call (faulting m (markedIn bs)) ≡ faultDid w (faulting m′ s) → (left : List ℕ) → markedFit left ≡ true → Bytes left → markedIn left ≡ s
+        → Says a m′ left
+    unfolding onPages
+    says d left f b e = (
+      rw fit
+          ((λ j. kept (q j) m′ ((sym (marked-back left f b) ∙ ap markedOut e) j))
+          ∙ ap (λ (x : FaultDid). kept (asAnswer (x .answer)) (x .state .mem) (markedOut (x .state .marked))) (sym d)),
+      λ _. (f, e ∙ ap (λ (x : FaultDid). x .state .marked) (sym d)),
+    )
+
+    -- .. as before
+    pub says-same : call (faulting m (markedIn bs)) ≡ faultDid w (faulting m′ (markedIn bs)) → Bytes bs → Says a m′ bs
+    says-same d b = says d bs fit b refl
+
+  -- 10, also where the bytes stand for no pages
+  pub says-broken : (markedFit bs ≡ true → call (faulting m (markedIn bs)) ≡ faultDid (Stop brokenRecord) (faulting m (markedIn bs))) → Bytes bs
+      → Says (Refused brokenRecord) m bs
+  unfolding onPages
+  says-broken d b = by (markedFit bs) refl
+    where
+      by : (x : Bool) → markedFit bs ≡ x → Says (Refused brokenRecord) m bs
+      by true fit = says-same fit refl (d fit) b
+      by false fit = (rw fit, λ f. absurd (false≢true (sym fit ∙ f)))
 
 -- what a step below says is what the path says
-pub says-on : {r : Faulted} {ws bm ms : List ℕ} {d e : Did} → Says r ws bm ms d → d ≡ e → Says r ws bm ms e
-says-on {r = r} {ws = ws} {bm = bm} {ms = ms} h e = subst (Says r ws bm ms) e h
+pub says-on : (call step : Faulting → FaultDid) (m : Memory) (bs : List ℕ) → step (faulting m (markedIn bs)) ≡ call (faulting m (markedIn bs))
+    → {a : Answer} {m′ : Memory} {left : List ℕ} → Says step m bs a m′ left → Says call m bs a m′ left
+unfolding onPages
+says-on call step m bs e p = (
+  p .0
+      ∙ ap (λ (d : FaultDid). unless (markedFit bs) (kept (Refused brokenRecord) m bs) (kept (asAnswer (d .answer)) (d .state .mem) (markedOut (d .state .marked)))) e,
+  λ f. (p .1 f .0, p .1 f .1 ∙ ap (λ (d : FaultDid). d .state .marked) e),
+)
 
 -- ---- access that was denied
 
 module _ (up : ℕ) (s : Faulting) (root v code : ℕ) where
-  pub protected-read : isWrite code ≡ false → {n : ℕ} → n ≡ denied code → protected up s root v code ≡ did (Stop n) s
+  pub protected-read : isWrite code ≡ false → {n : ℕ} → n ≡ denied code → protected up s root v code ≡ faultDid (Stop n) s
   protected-read h e = rw (h, e)
 
   module _ (h : isWrite code ≡ true) where
-    pub protected-plain : isListed v (listed (s .marked)) ≡ false → protected up s root v code ≡ did (Stop writeToReadOnly) s
+    pub protected-plain : hasKey pageKey v (listed (s .marked)) ≡ false → protected up s root v code ≡ faultDid (Stop writeToReadOnly) s
     protected-plain k = rw (h, k)
 
-    module _ (k : isListed v (listed (s .marked)) ≡ true) {u : Bool} (e : u ≡ isUser code) (m′ : Memory) where
-      pub protected-stop : (n : ℕ) → copyOnWrite up (s .mem) root v u ≡ out (Stop n) m′ → protected up s root v code ≡ did (Stop n) (faulting m′ (s .marked))
+    module _ (k : hasKey pageKey v (listed (s .marked)) ≡ true) {u : Bool} (e : u ≡ isUser code) (m′ : Memory) where
+      pub protected-stop : (n : ℕ) → copyOnWrite up (s .mem) root v u ≡ out (Stop n) m′ → protected up s root v code ≡ faultDid (Stop n) (faulting m′ (s .marked))
       protected-stop n c = rw (h, k, ← e, c)
 
-      -- after `unmark`
-      pub protected-met : (x : ℕ) → copyOnWrite up (s .mem) root v u ≡ out (At x) m′ → {n : ℕ} {ms : List ℕ}
-          → (n ≡ storePages (withoutPage v (listed (s .marked))) (s .marked) .count) × (ms ≡ storePages (withoutPage v (listed (s .marked))) (s .marked) .slots)
-          → Says (record { answer = Met; frames = m′ .frames .fa; count = n }) (m′ .words) (m′ .frames .bits) ms (protected up s root v code)
-      protected-met x c q =
-          let d : protected up s root v code ≡ did (At x) (faulting m′ (storePages (withoutPage v (listed (s .marked))) (s .marked))) = rw (h, k, ← e, c) in
-          let t = told-fault d in
-          ((λ j. record { answer = Met; frames = m′ .frames .fa; count = q .0 j }) ∙ t .0, (t .1 .0, (t .1 .1 .0, q .1 ∙ t .1 .1 .1)))
+      pub protected-met : (x : ℕ) → copyOnWrite up (s .mem) root v u ≡ out (Value x) m′
+          → protected up s root v code ≡ faultDid (Value x) (faulting m′ (storePages (remove pageKey v (listed (s .marked))) (s .marked)))
+      protected-met x c = rw (h, k, ← e, c)
 
 -- ---- the first path
 
 module _ (up : ℕ) (s : Faulting) (root v code : ℕ) where
-  pub handled-reserved : isReserved code ≡ true → handled up s root v code ≡ did (Stop reservedBit) s
+  pub handled-reserved : isReserved code ≡ true → handled up s root v code ≡ faultDid (Stop reservedBit) s
   handled-reserved h = rw h
 
   module _ (h : isReserved code ≡ false) where
     pub handled-present : isPresent code ≡ true → protected up s root v code ≡ handled up s root v code
     handled-present k = rw (h, k)
 
-    -- after `demand_page` and `as_answer`
-    pub handled-absent : isPresent code ≡ false → {w : Walked} {m′ : Memory} → out w m′ ≡ demandPage up (s .mem) root v code → {a : Answer} → a ≡ asAnswer w
-        → Says (record { answer = a; frames = m′ .frames .fa; count = s .marked .count }) (m′ .words) (m′ .frames .bits) (s .marked .slots) (handled up s root v code)
-    handled-absent k {w = w} {m′ = m′} e q =
-        let d : handled up s root v code ≡ did w (faulting m′ (s .marked)) = rw (h, k, ← e) in
-        let t = told-fault d in
-        ((λ j. record { answer = q j; frames = m′ .frames .fa; count = s .marked .count }) ∙ t .0, t .1)
+    pub handled-absent : isPresent code ≡ false → {w : Outcome} {m′ : Memory} → out w m′ ≡ demandPage up (s .mem) root v code
+        → handled up s root v code ≡ faultDid w (faulting m′ (s .marked))
+    handled-absent k e = rw (h, k, ← e)
 
-module _ (up : ℕ) (s : Faulting) (root a code : ℕ) where
-  pub fault-broken : whole (s .mem) root ≡ false → handleFault up s root a code ≡ did (Stop brokenRecord) s
+module _ (up : ℕ) (m : Memory) (bs : List ℕ) (root a code : ℕ) where
+  abbrev s : Faulting
+  s = faulting m (markedIn bs)
+
+  pub fault-broken : whole m root ≡ false → handleFault up s root a code ≡ faultDid (Stop brokenRecord) s
   unfolding handleFault
   fault-broken h = rw h
 
-  module _ (h : whole (s .mem) root ≡ true) where
-    pub fault-unsorted : soundMarked (s .marked) ≡ false → handleFault up s root a code ≡ did (Stop brokenRecord) s
+  module _ (h : whole m root ≡ true) where
+    pub fault-unsorted : both (markedFit bs) (soundMarked (markedIn bs)) ≡ false → markedFit bs ≡ true → handleFault up s root a code ≡ faultDid (Stop brokenRecord) s
     unfolding handleFault
-    fault-unsorted k = rw (h, k)
+    fault-unsorted k fit = let z : soundMarked (markedIn bs) ≡ false = rw fit at k in rw (h, z)
 
-    pub fault-is : soundMarked (s .marked) ≡ true → {v : ℕ} → v ≡ pageOf a → handled up s root v code ≡ handleFault up s root a code
+    pub fault-is : both (markedFit bs) (soundMarked (markedIn bs)) ≡ true → {v : ℕ} → v ≡ pageOf a → handled up s root v code ≡ handleFault up s root a code
     unfolding handleFault
-    fault-is k e = rw (h, k, e)
+    fault-is k e = rw (h, both-true (markedFit bs) (soundMarked (markedIn bs)) k .1, e)

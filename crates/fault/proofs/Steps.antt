@@ -9,6 +9,7 @@ use lib.ListN.{length, getD, set, take, length-set, length-take}
 use Rattle.bits.specs.Bit.{both}
 use Rattle.bits.proofs.Choice.{pick-cases}
 use Rattle.answer.specs.Numbers.{invalidAddress, instructionFetch, pageTableError}
+use Rattle.answer.specs.Outcomes.{asAnswer}
 use Rattle.answer.specs.declared.Answer.the-variants.{Met, Refused}
 use Rattle.address.specs.declared.Frame.{Frame}
 use Rattle.address.specs.declared.PhysAddr.{PhysAddr}
@@ -19,24 +20,25 @@ use Rattle.entry.specs.Entry.{entryOf, indices}
 use Rattle.entry.proofs.Entry.{length-indices}
 use Rattle.frame.specs.declared.Allocated.{Allocated}
 use Rattle.frame.specs.declared.Changed.{Changed}
-use Rattle.frame.specs.Frames.{frames, Did, inside, withMark, takeFrame}
+use Rattle.frame.specs.Frames.{frames, FramesDid, inside, withMark, takeFrame}
 use Rattle.frame.specs.Results.{allocated}
 use Rattle.frame.proofs.Laws.{inside-yes, inside-from, inside-under, take-cases}
 use Rattle.mapper.proofs.Laws.{stepped}
-use Rattle.paging.specs.declared.Walked.{Walked}
-use Rattle.paging.specs.declared.Walked.the-variants.{At, Stop}
+use Rattle.answer.specs.declared.Outcome.{Outcome}
+use Rattle.answer.specs.declared.Outcome.the-variants.{Value, Stop}
 use Rattle.paging.specs.Walk.{place}
-use Rattle.paging.specs.Map.{Memory, memory, startOf, totalOf, Out, out, goOn, Roomy}
-use Rattle.paging.specs.Calls.{asAnswer, asPhys, changed, mapAt}
-use Rattle.paging.specs.Pages.{clearPage, freePage}
-use Rattle.paging.proofs.Map.{goOn-cases, Kept, roomy-less, map-entry-kept, map-entry-roomy, unmap-entry-length}
+use Rattle.paging.specs.Map.{Memory, memory, startFrame, totalOf, Out, out, goOn, RoomToTake}
+use Rattle.paging.specs.Calls.{asChanged, mapAt}
+use Rattle.address.specs.Address.{asPhys}
+use Rattle.paging.specs.Pages.{clearPage}
+use Rattle.paging.proofs.Map.{goOn-cases, KeptSpan, roomy-less, map-entry-kept, map-entry-roomy, unmap-entry-length}
 use Rattle.paging.proofs.Pages.{map-entry-at}
-use Rattle.fault.specs.Faults.{isWrite, isUser, isFetch, asTaken, rawFrame, onlyError, mapFrame, inHeap, valid, demandPage, temporary, translated, clearedIf, copyWords, copied, copyPage, copyTo, copyOnWrite}
+use Rattle.fault.specs.Faults.{isWrite, isUser, isFetch, asTaken, rawFrame, onlyError, mapFrame, inHeap, valid, demandPage, temporary, translated, clearedIf, clearedIfMapped, copyWords, copied, copiedFrom, copyPage, remapped, copyTo, copyOnWrite}
 
 -- ---- a frame taken as it is
 
 module _ (m : Memory) where
-  pub raw-new : (f : Frame) → takeFrame (m .frames) .answer ≡ AtFrame f → rawFrame m ≡ out (At (f .0)) (memory (m .words) (takeFrame (m .frames) .frames))
+  pub raw-new : (f : Frame) → takeFrame (m .frames) .answer ≡ AtFrame f → rawFrame m ≡ out (Value (f .0)) (memory (m .words) (takeFrame (m .frames) .frames))
   unfolding rawFrame
   raw-new f e = rw e
 
@@ -45,18 +47,18 @@ module _ (m : Memory) where
   raw-full n e = rw e
 
   -- it is one of those lent, which stay the same
-  pub raw-inside : (f : ℕ) → rawFrame m .walked ≡ At f → inside (startOf (rawFrame m .mem)) (totalOf (rawFrame m .mem)) f ≡ true
+  pub raw-inside : (f : ℕ) → rawFrame m .walked ≡ Value f → inside (startFrame (rawFrame m .mem)) (totalOf (rawFrame m .mem)) f ≡ true
   unfolding rawFrame withMark
   raw-inside f =
-      take-cases (m .frames) (λ (d : Did FrameAnswer). let o = asTaken m (d .answer) (d .frames) in o .walked ≡ At f → inside (startOf (o .mem))
+      take-cases (m .frames) (λ (d : FramesDid FrameAnswer). let o = asTaken m (d .answer) (d .frames) in o .walked ≡ Value f → inside (startFrame (o .mem))
       (totalOf (o .mem)) f ≡ true)
-      (λ j l _ _ e. let n : startOf m + j ≡ f = cc in inside-yes (startOf m) (totalOf m) f (omega arith) (omega arith))
+      (λ j l _ _ e. let n : startFrame m + j ≡ f = cc in inside-yes (startFrame m) (totalOf m) f (omega arith) (omega arith))
       (λ _ e. let z : _≡_ {A = ℕ} 0 1 = cc in absurd (omega arith))
 
-  pub raw-roomy : (n : ℕ) → Roomy m (n + 1) → Roomy (rawFrame m .mem) n
+  pub raw-roomy : (n : ℕ) → RoomToTake m (n + 1) → RoomToTake (rawFrame m .mem) n
   unfolding rawFrame withMark
   raw-roomy n r =
-      take-cases (m .frames) (λ (d : Did FrameAnswer). Roomy (asTaken m (d .answer) (d .frames) .mem) n)
+      take-cases (m .frames) (λ (d : FramesDid FrameAnswer). RoomToTake (asTaken m (d .answer) (d .frames) .mem) n)
       (λ j _ _ _. record { enough = r .enough; held = record { few = r .held .few; low = r .held .low; room = omega (arith, r .held .room) } })
       (λ _. roomy-less n (omega arith) r)
 
@@ -65,65 +67,65 @@ module _ (m : Memory) {r : Allocated} {bm : List ℕ} (e : r ≡ allocated (take
   raw-left : frames bm (r .frames) ≡ takeFrame (m .frames) .frames
   raw-left = λ j. frames (b j) (e j .frames)
 
-  pub raw-made : (f : Frame) → r .answer ≡ AtFrame f → out (At (f .0)) (memory (m .words) (frames bm (r .frames))) ≡ rawFrame m
+  pub raw-made : (f : Frame) → r .answer ≡ AtFrame f → out (Value (f .0)) (memory (m .words) (frames bm (r .frames))) ≡ rawFrame m
   raw-made f q = rw raw-left (sym (raw-new m f (sym (ap (λ (x : Allocated). x .answer) e) ∙ q)))
 
   pub raw-none : (n : ℕ) → r .answer ≡ NoFrame n → out (Stop n) (memory (m .words) (frames bm (r .frames))) ≡ rawFrame m
   raw-none n q = rw raw-left (sym (raw-full m n (sym (ap (λ (x : Allocated). x .answer) e) ∙ q)))
 
 -- after `raw_frame`: the room that is left, and the frame is one of those lent
-module _ (m : Memory) {w : Walked} {m′ : Memory} (e : out w m′ ≡ rawFrame m) where
-  pub taken-roomy : (n : ℕ) → Roomy m (n + 1) → Roomy m′ n
-  taken-roomy n r = subst (λ (x : Memory). Roomy x n) (sym (ap (λ (o : Out). o .mem) e)) (raw-roomy m n r)
+module _ (m : Memory) {w : Outcome} {m′ : Memory} (e : out w m′ ≡ rawFrame m) where
+  pub taken-roomy : (n : ℕ) → RoomToTake m (n + 1) → RoomToTake m′ n
+  taken-roomy n r = subst (λ (x : Memory). RoomToTake x n) (sym (ap (λ (o : Out). o .mem) e)) (raw-roomy m n r)
 
-  pub taken-lent : (f : ℕ) → w ≡ At f → inside (startOf m′) (totalOf m′) f ≡ true
+  pub taken-lent : (f : ℕ) → w ≡ Value f → inside (startFrame m′) (totalOf m′) f ≡ true
   taken-lent f q =
-      subst (λ (x : Memory). inside (startOf x) (totalOf x) f ≡ true) (sym (ap (λ (o : Out). o .mem) e)) (raw-inside m f (sym (ap (λ (o : Out). o .walked) e) ∙ q))
+      subst (λ (x : Memory). inside (startFrame x) (totalOf x) f ≡ true) (sym (ap (λ (o : Out). o .mem) e)) (raw-inside m f (sym (ap (λ (o : Out). o .walked) e) ∙ q))
 
 -- a lent frame's address has 52 bits
-pub frame-low : {m : Memory} {n : ℕ} (f : ℕ) → Roomy m n → inside (startOf m) (totalOf m) f ≡ true → f < 2 ^ 40
-frame-low {m = m} f r h = omega (arith, r .held .low, inside-from (startOf m) (totalOf m) f h, inside-under (startOf m) (totalOf m) f h)
+pub frame-low : {m : Memory} {n : ℕ} (f : ℕ) → RoomToTake m n → inside (startFrame m) (totalOf m) f ≡ true → f < 2 ^ 40
+frame-low {m = m} f r h = omega (arith, r .held .low, inside-from (startFrame m) (totalOf m) f h, inside-under (startFrame m) (totalOf m) f h)
 
 -- ---- a page mapped to a frame
 
 -- where the mapping of a page came, by what it answers
-error-met : (w : Walked) → ((x : ℕ) → w ≡ At x → x ≡ 0) → Met ≡ asAnswer w → At 0 ≡ onlyError w
-error-met (At x) h e = ap At (sym (h x refl))
+error-met : (w : Outcome) → ((x : ℕ) → w ≡ Value x → x ≡ 0) → Met ≡ asAnswer w → Value 0 ≡ onlyError w
+error-met (Value x) h e = ap Value (sym (h x refl))
 error-met (Stop n) h e = let z : _≡_ {A = ℕ} 0 1 = cc in absurd (omega arith)
 
-error-refused : (w : Walked) (n : ℕ) → Refused n ≡ asAnswer w → Stop pageTableError ≡ onlyError w
-error-refused (At x) n e = let z : _≡_ {A = ℕ} 0 1 = cc in absurd (omega arith)
+error-refused : (w : Outcome) (n : ℕ) → Refused n ≡ asAnswer w → Stop pageTableError ≡ onlyError w
+error-refused (Value x) n e = let z : _≡_ {A = ℕ} 0 1 = cc in absurd (omega arith)
 error-refused (Stop m) n e = refl
 
 module _ (up : ℕ) (m : Memory) (root v f : ℕ) (w u : Bool) where
-  pub map-frame-kept : Kept m (mapFrame up m root v f w u .mem)
+  pub map-frame-kept : KeptSpan m (mapFrame up m root v f w u .mem)
   map-frame-kept = map-entry-kept u m root _ _ _
 
-  pub map-frame-roomy : (n : ℕ) → Roomy m (n + up) → Roomy (mapFrame up m root v f w u .mem) n
+  pub map-frame-roomy : (n : ℕ) → RoomToTake m (n + up) → RoomToTake (mapFrame up m root v f w u .mem) n
   map-frame-roomy n r =
       let l : length (take up (indices (suc up) v)) ≡ up = length-take up (indices (suc up) v) ∙ omega (arith, length-indices (suc up) v) in
       map-entry-roomy u m root _ _ _ n (roomy-less _ (omega arith) r)
 
   -- after `map_frame`: the room that is left, and a lent frame stays lent
-  module _ {x : Walked} {m′ : Memory} (e : out x m′ ≡ mapFrame up m root v f w u) where
-    pub mapped-roomy : (n : ℕ) → Roomy m (n + up) → Roomy m′ n
-    mapped-roomy n r = subst (λ (y : Memory). Roomy y n) (sym (ap (λ (o : Out). o .mem) e)) (map-frame-roomy n r)
+  module _ {x : Outcome} {m′ : Memory} (e : out x m′ ≡ mapFrame up m root v f w u) where
+    pub mapped-roomy : (n : ℕ) → RoomToTake m (n + up) → RoomToTake m′ n
+    mapped-roomy n r = subst (λ (y : Memory). RoomToTake y n) (sym (ap (λ (o : Out). o .mem) e)) (map-frame-roomy n r)
 
-    pub mapped-lent : inside (startOf m) (totalOf m) f ≡ true → inside (startOf m′) (totalOf m′) f ≡ true
+    pub mapped-lent : inside (startFrame m) (totalOf m) f ≡ true → inside (startFrame m′) (totalOf m′) f ≡ true
     mapped-lent h =
         let k = map-frame-kept in
-        subst (λ (y : Memory). inside (startOf y) (totalOf y) f ≡ true) (sym (ap (λ (o : Out). o .mem) e)) (rw (k .start, k .total) h)
+        subst (λ (y : Memory). inside (startFrame y) (totalOf y) f ≡ true) (sym (ap (λ (o : Out). o .mem) e)) (rw (k .start, k .total) h)
 
   -- after `start_address`, `set` and `map_entry`
   module _ (low : f < 2 ^ 40) {a e : ℕ} (g : a ≡ f * 2 ^ 12 % 2 ^ 64) (s : e ≡ entryOf a w u) {r : Changed} {ws bm : List ℕ}
-      (p : (r ≡ changed (mapAt up up u m root v e)) × ((ws ≡ mapAt up up u m root v e .mem .words) × (bm ≡ mapAt up up u m root v e .mem .frames .bits))) where
-    came : {x : Walked} → x ≡ onlyError (mapAt up up u m root v e .walked) → out x (memory ws (frames bm (r .frames))) ≡ mapFrame up m root v f w u
+      (p : (r ≡ asChanged (mapAt up up u m root v e)) × ((ws ≡ mapAt up up u m root v e .mem .words) × (bm ≡ mapAt up up u m root v e .mem .frames .bits))) where
+    came : {x : Outcome} → x ≡ onlyError (mapAt up up u m root v e .walked) → out x (memory ws (frames bm (r .frames))) ≡ mapFrame up m root v f w u
     came y =
         let word : e ≡ entryOf (f * 2 ^ 12) w u = s ∙ ap (λ (n : ℕ). entryOf n w u) (g ∙ mod-eq-of-lt (omega arith)) in
         (λ j. out (y j) (memory (p .1 .0 j) (frames (p .1 .1 j) (p .0 j .frames))))
         ∙ ap (λ (n : ℕ). out (onlyError (mapAt up up u m root v n .walked)) (mapAt up up u m root v n .mem)) word
 
-    pub map-frame-met : r .answer ≡ Met → out (At 0) (memory ws (frames bm (r .frames))) ≡ mapFrame up m root v f w u
+    pub map-frame-met : r .answer ≡ Met → out (Value 0) (memory ws (frames bm (r .frames))) ≡ mapFrame up m root v f w u
     map-frame-met h = came (error-met (mapAt up up u m root v e .walked) (map-entry-at u m root _ _ e) (sym h ∙ ap (λ (c : Changed). c .answer) (p .0)))
 
     pub map-frame-refused : (n : ℕ) → r .answer ≡ Refused n → out (Stop pageTableError) (memory ws (frames bm (r .frames))) ≡ mapFrame up m root v f w u
@@ -146,7 +148,7 @@ module _ (up : ℕ) (m : Memory) (root v code : ℕ) where
       unfolding demandPage
       demand-none n e = rw (h, k, e)
 
-      pub demand-map : (f : ℕ) → rawFrame m ≡ out (At f) m′ → {w u : Bool} → w ≡ isWrite code → u ≡ isUser code → demandPage up m root v code ≡ mapFrame up m′ root v f w u
+      pub demand-map : (f : ℕ) → rawFrame m ≡ out (Value f) m′ → {w u : Bool} → w ≡ isWrite code → u ≡ isUser code → demandPage up m root v code ≡ mapFrame up m′ root v f w u
       unfolding demandPage
       demand-map f e a b = rw (h, k, e, a, b)
 
@@ -172,97 +174,97 @@ copy-length zero ws from to = refl
 copy-length (suc n) ws from to = copy-length n (set ws to (getD ws from 0)) (suc from) (suc to) ∙ length-set ws to _
 
 -- where `walk` says that a translation came
-pub phys-at : (w : Walked) {a : PhysAddr} → asPhys w ≡ AtPhys a → w ≡ At (a .0)
-phys-at (At x) e = cc
+pub phys-at : (w : Outcome) {a : PhysAddr} → asPhys w ≡ AtPhys a → w ≡ Value (a .0)
+phys-at (Value x) e = cc
 phys-at (Stop n) e = let z : _≡_ {A = ℕ} 0 1 = cc in absurd (omega arith)
 
-pub phys-none : (w : Walked) {n : ℕ} → asPhys w ≡ NoPhys n → w ≡ Stop n
-phys-none (At x) e = let z : _≡_ {A = ℕ} 0 1 = cc in absurd (omega arith)
+pub phys-none : (w : Outcome) {n : ℕ} → asPhys w ≡ NoPhys n → w ≡ Stop n
+phys-none (Value x) e = let z : _≡_ {A = ℕ} 0 1 = cc in absurd (omega arith)
 phys-none (Stop n) e = cc
 
 module _ (up : ℕ) (m : Memory) (root v : ℕ) where
-  pub cleared-there : (a : ℕ) → translated up m root v ≡ At a → clearedIf (translated up m root v) up m root v ≡ clearPage up m root v
+  pub cleared-there : (a : ℕ) → translated up m root v ≡ Value a → clearedIfMapped up m root v ≡ clearPage up m root v
   cleared-there a e = rw e
 
-  pub cleared-none : (n : ℕ) → translated up m root v ≡ Stop n → clearedIf (translated up m root v) up m root v ≡ m
+  pub cleared-none : (n : ℕ) → translated up m root v ≡ Stop n → clearedIfMapped up m root v ≡ m
   cleared-none n e = rw e
 
-module _ (m : Memory) (w : Walked) (f : ℕ) where
+module _ (m : Memory) (w : Outcome) (f : ℕ) where
   pub copied-none : (n : ℕ) → w ≡ Stop n → copied m w f ≡ out (Stop pageTableError) m
   copied-none n e = rw e
 
-  pub copied-out : (a : ℕ) → w ≡ At a → inside (startOf m) (totalOf m) (a / 4096) ≡ false → copied m w f ≡ out (Stop pageTableError) m
+  pub copied-out : (a : ℕ) → w ≡ Value a → inside (startFrame m) (totalOf m) (a / 4096) ≡ false → copied m w f ≡ out (Stop pageTableError) m
   copied-out a e h = rw (e, h)
 
-  pub copied-in : (a : ℕ) → w ≡ At a → inside (startOf m) (totalOf m) (a / 4096) ≡ true → {from to : ℕ} → from ≡ place (startOf m) (a / 4096) 0 → to ≡ place (startOf m) f 0
-      → copied m w f ≡ out (At 0) (memory (copyWords (m .words) from to 512) (m .frames))
+  pub copied-in : (a : ℕ) → w ≡ Value a → inside (startFrame m) (totalOf m) (a / 4096) ≡ true → {from to : ℕ} → from ≡ place (startFrame m) (a / 4096) 0 → to ≡ place (startFrame m) f 0
+      → copied m w f ≡ out (Value 0) (memory (copyWords (m .words) from to 512) (m .frames))
   copied-in a e h p q = rw (e, h, p, q)
 
 -- ---- the copy through the temporary page
 
-pub clear-roomy : (up : ℕ) (m : Memory) (root v n : ℕ) → Roomy m n → Roomy (clearPage up m root v) n
+pub clear-roomy : (up : ℕ) (m : Memory) (root v n : ℕ) → RoomToTake m n → RoomToTake (clearPage up m root v) n
 unfolding clearPage
 clear-roomy up m root v n r = record { enough = subst (λ (x : ℕ). totalOf m * 512 ≤ x) (sym (unmap-entry-length _ _ _ _ _ _)) (r .enough); held = r .held }
 
-cleared-roomy : (w : Walked) (up : ℕ) (m : Memory) (root v n : ℕ) → Roomy m n → Roomy (clearedIf w up m root v) n
-cleared-roomy (At a) up m root v n r = clear-roomy up m root v n r
+cleared-roomy : (w : Outcome) (up : ℕ) (m : Memory) (root v n : ℕ) → RoomToTake m n → RoomToTake (clearedIf w up m root v) n
+cleared-roomy (Value a) up m root v n r = clear-roomy up m root v n r
 cleared-roomy (Stop k) up m root v n r = r
 
-copied-roomy : (m : Memory) (w : Walked) (f n : ℕ) → Roomy m n → Roomy (copied m w f .mem) n
+copied-roomy : (m : Memory) (w : Outcome) (f n : ℕ) → RoomToTake m n → RoomToTake (copied m w f .mem) n
 copied-roomy m (Stop k) f n r = r
-copied-roomy m (At a) f n r =
-    pick-cases (λ (o : Out). Roomy (o .mem) n) (inside (startOf m) (totalOf m) (a / 4096)) _ _
+copied-roomy m (Value a) f n r =
+    pick-cases (λ (o : Out). RoomToTake (o .mem) n) (inside (startFrame m) (totalOf m) (a / 4096)) _ _
     (λ _. record { enough = subst (λ (x : ℕ). totalOf m * 512 ≤ x) (sym (copy-length 512 (m .words) _ _)) (r .enough); held = r .held }) (λ _. r)
 
 -- the temporary page unmapped where it is mapped
 abbrev pub unused : ℕ → Memory → ℕ → Memory
-unused up m root = clearedIf (translated up m root temporary) up m root temporary
+unused up m root = clearedIfMapped up m root temporary
 
-pub unused-roomy : (up : ℕ) (m : Memory) (root : ℕ) {m′ : Memory} → m′ ≡ unused up m root → (n : ℕ) → Roomy m n → Roomy m′ n
-unused-roomy up m root e n r = subst (λ (x : Memory). Roomy x n) (sym e) (cleared-roomy (translated up m root temporary) up m root temporary n r)
+pub unused-roomy : (up : ℕ) (m : Memory) (root : ℕ) {m′ : Memory} → m′ ≡ unused up m root → (n : ℕ) → RoomToTake m n → RoomToTake m′ n
+unused-roomy up m root e n r = subst (λ (x : Memory). RoomToTake x n) (sym e) (cleared-roomy (translated up m root temporary) up m root temporary n r)
 
 -- what follows once it is mapped
 abbrev through : ℕ → ℕ → ℕ → ℕ → ℕ → Memory → Out
-through up root v f _ m = let o = copied m (translated up m root v) f in out (o .walked) (clearPage up (o .mem) root temporary)
+through up root v f _ m = let o = copiedFrom up m root v f in out (o .walked) (clearPage up (o .mem) root temporary)
 
 module _ (up : ℕ) (m : Memory) (root v f : ℕ) where
   pub copy-page-stop : (n : ℕ) (m′ : Memory) → mapFrame up (unused up m root) root temporary f true false ≡ out (Stop n) m′ → copyPage up m root v f ≡ out (Stop n) m′
   unfolding copyPage
   copy-page-stop n m′ e = ap (λ (o : Out). goOn o (through up root v f)) e
 
-  pub copy-page-on : (x : ℕ) (m′ : Memory) → mapFrame up (unused up m root) root temporary f true false ≡ out (At x) m′
-      → {w : Walked} {m″ : Memory} → copied m′ (translated up m′ root v) f ≡ out w m″ → copyPage up m root v f ≡ out w (clearPage up m″ root temporary)
+  pub copy-page-on : (x : ℕ) (m′ : Memory) → mapFrame up (unused up m root) root temporary f true false ≡ out (Value x) m′
+      → {w : Outcome} {m″ : Memory} → copiedFrom up m′ root v f ≡ out w m″ → copyPage up m root v f ≡ out w (clearPage up m″ root temporary)
   unfolding copyPage
   copy-page-on x m′ e c = ap (λ (o : Out). goOn o (through up root v f)) e ∙ ap (λ (o : Out). out (o .walked) (clearPage up (o .mem) root temporary)) c
 
-  pub copy-page-roomy : (n : ℕ) → Roomy m (n + up) → Roomy (copyPage up m root v f .mem) n
+  pub copy-page-roomy : (n : ℕ) → RoomToTake m (n + up) → RoomToTake (copyPage up m root v f .mem) n
   unfolding copyPage
   copy-page-roomy n r =
       let q = map-frame-roomy up (unused up m root) root temporary f true false n (cleared-roomy (translated up m root temporary) up m root temporary (n + up) r) in
-      goOn-cases (λ (o : Out). Roomy (o .mem) n) (mapFrame up (unused up m root) root temporary f true false) (through up root v f) (λ _ _. q)
+      goOn-cases (λ (o : Out). RoomToTake (o .mem) n) (mapFrame up (unused up m root) root temporary f true false) (through up root v f) (λ _ _. q)
       (λ _ _. let m′ = mapFrame up (unused up m root) root temporary f true false .mem in clear-roomy up _ root temporary n
       (copied-roomy m′ (translated up m′ root v) f n q))
 
-pub copied-on-roomy : (up : ℕ) (m : Memory) (root v f : ℕ) {w : Walked} {m′ : Memory} → out w m′ ≡ copyPage up m root v f → (n : ℕ) → Roomy m (n + up) → Roomy m′ n
-copied-on-roomy up m root v f e n r = subst (λ (x : Memory). Roomy x n) (sym (ap (λ (o : Out). o .mem) e)) (copy-page-roomy up m root v f n r)
+pub copied-on-roomy : (up : ℕ) (m : Memory) (root v f : ℕ) {w : Outcome} {m′ : Memory} → out w m′ ≡ copyPage up m root v f → (n : ℕ) → RoomToTake m (n + up) → RoomToTake m′ n
+copied-on-roomy up m root v f e n r = subst (λ (x : Memory). RoomToTake x n) (sym (ap (λ (o : Out). o .mem) e)) (copy-page-roomy up m root v f n r)
 
 -- ---- copy on write
 
 module _ (up : ℕ) (m : Memory) (root v f : ℕ) (user : Bool) where
   -- after `copy_page`
-  pub copy-to-stop : {w : Walked} {m′ : Memory} → out w m′ ≡ copyPage up m root v f → {n : ℕ} → w ≡ Stop n → out (Stop n) m′ ≡ copyTo up m root v f user
-  copy-to-stop e h = ap (λ (r : Out). goOn r (λ _ n. mapFrame up (freePage up n root v) root v f true user)) (sym (stepped e h))
+  pub copy-to-stop : {w : Outcome} {m′ : Memory} → out w m′ ≡ copyPage up m root v f → {n : ℕ} → w ≡ Stop n → out (Stop n) m′ ≡ copyTo up m root v f user
+  copy-to-stop e h = ap (λ (r : Out). goOn r (λ _ n. remapped up n root v f user)) (sym (stepped e h))
 
   -- after `copy_page` and `remap_page`
-  pub copy-to-on : {w : Walked} {m′ : Memory} → out w m′ ≡ copyPage up m root v f → {x : ℕ} → w ≡ At x
-      → {o : Out} → o ≡ mapFrame up (freePage up m′ root v) root v f true user → o ≡ copyTo up m root v f user
-  copy-to-on e h q = q ∙ ap (λ (r : Out). goOn r (λ _ n. mapFrame up (freePage up n root v) root v f true user)) (sym (stepped e h))
+  pub copy-to-on : {w : Outcome} {m′ : Memory} → out w m′ ≡ copyPage up m root v f → {x : ℕ} → w ≡ Value x
+      → {o : Out} → o ≡ remapped up m′ root v f user → o ≡ copyTo up m root v f user
+  copy-to-on e h q = q ∙ ap (λ (r : Out). goOn r (λ _ n. remapped up n root v f user)) (sym (stepped e h))
 
 module _ (up : ℕ) (m : Memory) (root v : ℕ) (user : Bool) (m′ : Memory) where
   pub cow-none : (n : ℕ) → rawFrame m ≡ out (Stop n) m′ → copyOnWrite up m root v user ≡ out (Stop n) m′
   unfolding copyOnWrite
   cow-none n e = rw e
 
-  pub cow-on : (f : ℕ) → rawFrame m ≡ out (At f) m′ → copyOnWrite up m root v user ≡ copyTo up m′ root v f user
+  pub cow-on : (f : ℕ) → rawFrame m ≡ out (Value f) m′ → copyOnWrite up m root v user ≡ copyTo up m′ root v f user
   unfolding copyOnWrite
   cow-on f e = rw e

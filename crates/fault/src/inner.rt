@@ -7,22 +7,26 @@ use address::PhysAddr;
 use address::PhysAnswer;
 use address::VirtAddr;
 use answer::Answer;
+use answer::Outcome;
 use entry::paging::PageTableEntry;
 use frame::FrameAllocator;
+use frame::Marks;
 use paging::Entered;
-use paging::Walked;
 ghost use mathlib.Core.Path.{_≡_};
 ghost use mathlib.Core.Bool.{true};
 ghost use mathlib.Core.List.{List};
 ghost use Prim.Native.Nat.{ℕ, _+_, _^_, _<_, _≤_};
 ghost use lib.ListN.{length};
 ghost use Rattle.bits.specs.Bit.{both};
-ghost use Rattle.frame.specs.Frames.{frames as framesOf, inside, Held};
-ghost use Rattle.paging.specs.Walk.{Lent};
-ghost use Rattle.paging.specs.Map.{memory, out, Roomy};
-ghost use Rattle.paging.specs.Pages.{freePage};
-ghost use Rattle.cow.specs.Marked.{slotsOf, soundMarked};
-ghost use Rattle.fault.specs.Faults.{isFetch, rawFrame, mapFrame, inHeap, valid, demandPage, translated, clearedIf, copyWords, copied as copiedFrom, copyPage, copyTo, copyOnWrite, denied as deniedBy, faulting, faulted, protected as protectedBy, handled};
+ghost use Rattle.frame.specs.Frames.{inside, RoomToCount};
+ghost use Rattle.paging.specs.Walk.{WordsLent};
+ghost use Rattle.paging.specs.Levels.{aboveLast};
+ghost use Rattle.paging.specs.Map.{out, RoomToTake};
+ghost use Rattle.paging.specs.Kept.{lentMemory};
+ghost use Rattle.cow.specs.Marked.{soundMarked};
+ghost use Rattle.cow.specs.Packed.{markedIn, markedFit};
+ghost use Rattle.fault.specs.Faults.{isFetch, rawFrame, mapFrame, inHeap, valid, demandPage, clearedIfMapped, copyWords, copiedFrom, copyPage, remapped, copyTo, copyOnWrite, denied as deniedBy, protected as protectedBy, handled};
+ghost use Rattle.fault.specs.Packed.{outOf, onPages, faulted, FaultReads};
 
 // The kernel's heap, and the end of user space.
 const HEAP_START: u64 = 0xFFFF_FF00_0000_0000;
@@ -32,20 +36,20 @@ const HEAP_END: u64 = 0xFFFF_FF80_0000_0000;
 const USER_END: u64 = 0x0000_8000_0000_0000;
 
 // The lowest free frame, as it is.
-pub fn raw_frame(bitmap: &mut [u64; 128], frames: FrameAllocator) -> Entered
-    requires { ⌜ Held frames 1 ⌝ }
-    ensures { λ r. ⌜ ((ws : List ℕ) → out (r .walked) (memory ws (framesOf (now (bitmap .exit)) (r .frames))) ≡ rawFrame (memory ws (framesOf (now (bitmap .entry)) frames))) ⌝ }
+pub fn raw_frame(bitmap: &mut Marks, frames: FrameAllocator) -> Entered
+    requires { ⌜ RoomToCount frames 1 ⌝ }
+    ensures { λ r. ⌜ ((ws : List ℕ) → outOf r ws (now (bitmap .exit)) ≡ rawFrame (lentMemory ws (now (bitmap .entry)) frames)) ⌝ }
 {
     let taken = frame::inner::take_frame(bitmap, frames);
     let answer = taken.answer;
     let left = taken.frames;
     match answer {
         FrameAnswer::NoFrame(n) => Entered {
-            walked: Walked::Stop(n),
+            walked: Outcome::Stop(n),
             frames: left,
         },
         FrameAnswer::AtFrame(f) => Entered {
-            walked: Walked::At(f.0),
+            walked: Outcome::Value(f.0),
             frames: left,
         },
     }
@@ -54,7 +58,7 @@ pub fn raw_frame(bitmap: &mut [u64; 128], frames: FrameAllocator) -> Entered
 // A page mapped to a frame: 18 where it cannot be.
 fn map_frame(
     words: &mut [u64],
-    bitmap: &mut [u64; 128],
+    bitmap: &mut Marks,
     frames: FrameAllocator,
     root: Frame,
     virt: VirtAddr,
@@ -62,9 +66,10 @@ fn map_frame(
     writable: bool,
     user: bool,
 ) -> Entered
-    requires { ⌜ Roomy (memory (now words) (framesOf (now bitmap) frames)) 3 ⌝ }
+    requires { ⌜ RoomToTake (lentMemory (now words) (now bitmap) frames) aboveLast ⌝ }
     requires { ⌜ f < 2 ^ 40 ⌝ }
-    ensures { λ r. ⌜ out (r .walked) (memory (now (words .exit)) (framesOf (now (bitmap .exit)) (r .frames))) ≡ mapFrame 3 (memory (now (words .entry)) (framesOf (now (bitmap .entry)) frames)) (root .0) (virt .0) f writable user ⌝ }
+    ensures { λ r. ⌜ outOf r (now (words .exit)) (now (bitmap .exit))
+        ≡ mapFrame aboveLast (lentMemory (now (words .entry)) (now (bitmap .entry)) frames) (root .0) (virt .0) f writable user ⌝ }
 {
     let e = PageTableEntry::set(PhysAddr(Frame(f).start_address()), writable, user);
     let mapped = mapper::inner::map_entry(words, bitmap, frames, root, virt, 3, user, e.0);
@@ -72,11 +77,11 @@ fn map_frame(
     let left = mapped.frames;
     match answer {
         Answer::Met => Entered {
-            walked: Walked::At(0),
+            walked: Outcome::Value(0),
             frames: left,
         },
         Answer::Refused(_) => Entered {
-            walked: Walked::Stop(answer::PAGE_TABLE_ERROR),
+            walked: Outcome::Stop(answer::PAGE_TABLE_ERROR),
             frames: left,
         },
     }
@@ -114,24 +119,25 @@ fn is_heap_fetch(v: u64, code: u64) -> bool
 // A page that was not present, mapped to a frame that is not zeroed.
 fn demand_page(
     words: &mut [u64],
-    bitmap: &mut [u64; 128],
+    bitmap: &mut Marks,
     frames: FrameAllocator,
     root: Frame,
     page: VirtAddr,
     code: u64,
 ) -> Entered
-    requires { ⌜ Roomy (memory (now words) (framesOf (now bitmap) frames)) 4 ⌝ }
-    ensures { λ r. ⌜ out (r .walked) (memory (now (words .exit)) (framesOf (now (bitmap .exit)) (r .frames))) ≡ demandPage 3 (memory (now (words .entry)) (framesOf (now (bitmap .entry)) frames)) (root .0) (page .0) code ⌝ }
+    requires { ⌜ RoomToTake (lentMemory (now words) (now bitmap) frames) 4 ⌝ }
+    ensures { λ r. ⌜ outOf r (now (words .exit)) (now (bitmap .exit))
+        ≡ demandPage aboveLast (lentMemory (now (words .entry)) (now (bitmap .entry)) frames) (root .0) (page .0) code ⌝ }
 {
     if !is_valid(page.0) {
         return Entered {
-            walked: Walked::Stop(answer::INVALID_ADDRESS),
+            walked: Outcome::Stop(answer::INVALID_ADDRESS),
             frames,
         };
     }
     if is_heap_fetch(page.0, code) {
         return Entered {
-            walked: Walked::Stop(answer::INSTRUCTION_FETCH),
+            walked: Outcome::Stop(answer::INSTRUCTION_FETCH),
             frames,
         };
     }
@@ -139,11 +145,11 @@ fn demand_page(
     let walked = taken.walked;
     let left = taken.frames;
     match walked {
-        Walked::Stop(n) => Entered {
-            walked: Walked::Stop(n),
+        Outcome::Stop(n) => Entered {
+            walked: Outcome::Stop(n),
             frames: left,
         },
-        Walked::At(f) => {
+        Outcome::Value(f) => {
             let writable = error_code::is_write(code);
             let user = error_code::is_user(code);
             map_frame(words, bitmap, left, root, page, f, writable, user)
@@ -164,8 +170,9 @@ fn copy_words(words: &mut [u64], from: usize, to: usize)
 
 // A page unmapped where it is mapped.
 fn clear_if_mapped(words: &mut [u64], frames: FrameAllocator, root: Frame, virt: VirtAddr)
-    requires { ⌜ Lent (now words) (frames .start) (frames .total) ⌝ }
-    ensures { λ _. ⌜ ((b : List ℕ) → let m = memory (now (words .entry)) (framesOf b frames) in memory (now (words .exit)) (framesOf b frames) ≡ clearedIf (translated 3 m (root .0) (virt .0)) 3 m (root .0) (virt .0)) ⌝ }
+    requires { ⌜ WordsLent (now words) (frames .start) (frames .total) ⌝ }
+    ensures { λ _. ⌜ ((b : List ℕ) → lentMemory (now (words .exit)) b frames
+        ≡ clearedIfMapped aboveLast (lentMemory (now (words .entry)) b frames) (root .0) (virt .0)) ⌝ }
 {
     match walk::walk(words, frames.start, frames.total, root, virt) {
         PhysAnswer::AtPhys(_) => {
@@ -182,22 +189,23 @@ fn copy_from(
     root: Frame,
     page: VirtAddr,
     f: u64,
-) -> Walked
-    requires { ⌜ Lent (now words) (frames .start) (frames .total) ⌝ }
+) -> Outcome
+    requires { ⌜ WordsLent (now words) (frames .start) (frames .total) ⌝ }
     requires { ⌜ inside (frames .start) (frames .total) f ≡ true ⌝ }
-    ensures { λ r. ⌜ ((b : List ℕ) → let m = memory (now (words .entry)) (framesOf b frames) in out r (memory (now (words .exit)) (framesOf b frames)) ≡ copiedFrom m (translated 3 m (root .0) (page .0)) f) ⌝ }
+    ensures { λ r. ⌜ ((b : List ℕ) → out r (lentMemory (now (words .exit)) b frames)
+        ≡ copiedFrom aboveLast (lentMemory (now (words .entry)) b frames) (root .0) (page .0) f) ⌝ }
 {
     match walk::walk(words, frames.start, frames.total, root, page) {
-        PhysAnswer::NoPhys(_) => Walked::Stop(answer::PAGE_TABLE_ERROR),
+        PhysAnswer::NoPhys(_) => Outcome::Stop(answer::PAGE_TABLE_ERROR),
         PhysAnswer::AtPhys(a) => {
             let old = Frame::containing_address(a.0).0;
             if !frame::inner::is_inside(frames.start, frames.total, old) {
-                return Walked::Stop(answer::PAGE_TABLE_ERROR);
+                return Outcome::Stop(answer::PAGE_TABLE_ERROR);
             }
             let from = walk::entry_place(frames.start, old, 0);
             let to = walk::entry_place(frames.start, f, 0);
             copy_words(words, from, to);
-            Walked::At(0)
+            Outcome::Value(0)
         }
     }
 }
@@ -205,15 +213,16 @@ fn copy_from(
 // A page's words copied to frame f through the temporary page, which is unmapped in the end.
 fn copy_page(
     words: &mut [u64],
-    bitmap: &mut [u64; 128],
+    bitmap: &mut Marks,
     frames: FrameAllocator,
     root: Frame,
     page: VirtAddr,
     f: u64,
 ) -> Entered
-    requires { ⌜ Roomy (memory (now words) (framesOf (now bitmap) frames)) 3 ⌝ }
+    requires { ⌜ RoomToTake (lentMemory (now words) (now bitmap) frames) aboveLast ⌝ }
     requires { ⌜ inside (frames .start) (frames .total) f ≡ true ⌝ }
-    ensures { λ r. ⌜ out (r .walked) (memory (now (words .exit)) (framesOf (now (bitmap .exit)) (r .frames))) ≡ copyPage 3 (memory (now (words .entry)) (framesOf (now (bitmap .entry)) frames)) (root .0) (page .0) f ⌝ }
+    ensures { λ r. ⌜ outOf r (now (words .exit)) (now (bitmap .exit))
+        ≡ copyPage aboveLast (lentMemory (now (words .entry)) (now (bitmap .entry)) frames) (root .0) (page .0) f ⌝ }
 {
     let temp = VirtAddr(crate::TEMP_MAP_ADDR);
     clear_if_mapped(words, frames, root, temp);
@@ -221,11 +230,11 @@ fn copy_page(
     let walked = mapped.walked;
     let left = mapped.frames;
     match walked {
-        Walked::Stop(n) => Entered {
-            walked: Walked::Stop(n),
+        Outcome::Stop(n) => Entered {
+            walked: Outcome::Stop(n),
             frames: left,
         },
-        Walked::At(_) => {
+        Outcome::Value(_) => {
             let copied = copy_from(words, left, root, page, f);
             pages::clear_page(words, left, root, temp);
             Entered {
@@ -239,16 +248,17 @@ fn copy_page(
 // A page mapped to frame f, its old frame freed.
 fn remap_page(
     words: &mut [u64],
-    bitmap: &mut [u64; 128],
+    bitmap: &mut Marks,
     frames: FrameAllocator,
     root: Frame,
     page: VirtAddr,
     f: u64,
     user: bool,
 ) -> Entered
-    requires { ⌜ Roomy (memory (now words) (framesOf (now bitmap) frames)) 3 ⌝ }
+    requires { ⌜ RoomToTake (lentMemory (now words) (now bitmap) frames) aboveLast ⌝ }
     requires { ⌜ f < 2 ^ 40 ⌝ }
-    ensures { λ r. ⌜ out (r .walked) (memory (now (words .exit)) (framesOf (now (bitmap .exit)) (r .frames))) ≡ mapFrame 3 (freePage 3 (memory (now (words .entry)) (framesOf (now (bitmap .entry)) frames)) (root .0) (page .0)) (root .0) (page .0) f true user ⌝ }
+    ensures { λ r. ⌜ outOf r (now (words .exit)) (now (bitmap .exit))
+        ≡ remapped aboveLast (lentMemory (now (words .entry)) (now (bitmap .entry)) frames) (root .0) (page .0) f user ⌝ }
 {
     let left = pages::free_page(words, bitmap, frames, root, page);
     map_frame(words, bitmap, left, root, page, f, true, user)
@@ -257,50 +267,52 @@ fn remap_page(
 // A page that is written to gets a frame of its own, with its words.
 fn copy_on_write(
     words: &mut [u64],
-    bitmap: &mut [u64; 128],
+    bitmap: &mut Marks,
     frames: FrameAllocator,
     root: Frame,
     page: VirtAddr,
     user: bool,
 ) -> Entered
-    requires { ⌜ Roomy (memory (now words) (framesOf (now bitmap) frames)) 7 ⌝ }
-    ensures { λ r. ⌜ out (r .walked) (memory (now (words .exit)) (framesOf (now (bitmap .exit)) (r .frames))) ≡ copyOnWrite 3 (memory (now (words .entry)) (framesOf (now (bitmap .entry)) frames)) (root .0) (page .0) user ⌝ }
+    requires { ⌜ RoomToTake (lentMemory (now words) (now bitmap) frames) 7 ⌝ }
+    ensures { λ r. ⌜ outOf r (now (words .exit)) (now (bitmap .exit))
+        ≡ copyOnWrite aboveLast (lentMemory (now (words .entry)) (now (bitmap .entry)) frames) (root .0) (page .0) user ⌝ }
 {
     let taken = raw_frame(bitmap, frames);
     let walked = taken.walked;
     let left = taken.frames;
     match walked {
-        Walked::Stop(n) => Entered {
-            walked: Walked::Stop(n),
+        Outcome::Stop(n) => Entered {
+            walked: Outcome::Stop(n),
             frames: left,
         },
-        Walked::At(f) => copy_to(words, bitmap, left, root, page, f, user),
+        Outcome::Value(f) => copy_to(words, bitmap, left, root, page, f, user),
     }
 }
 
 // The same with the new frame in hand.
 fn copy_to(
     words: &mut [u64],
-    bitmap: &mut [u64; 128],
+    bitmap: &mut Marks,
     frames: FrameAllocator,
     root: Frame,
     page: VirtAddr,
     f: u64,
     user: bool,
 ) -> Entered
-    requires { ⌜ Roomy (memory (now words) (framesOf (now bitmap) frames)) 6 ⌝ }
+    requires { ⌜ RoomToTake (lentMemory (now words) (now bitmap) frames) 6 ⌝ }
     requires { ⌜ inside (frames .start) (frames .total) f ≡ true ⌝ }
-    ensures { λ r. ⌜ out (r .walked) (memory (now (words .exit)) (framesOf (now (bitmap .exit)) (r .frames))) ≡ copyTo 3 (memory (now (words .entry)) (framesOf (now (bitmap .entry)) frames)) (root .0) (page .0) f user ⌝ }
+    ensures { λ r. ⌜ outOf r (now (words .exit)) (now (bitmap .exit))
+        ≡ copyTo aboveLast (lentMemory (now (words .entry)) (now (bitmap .entry)) frames) (root .0) (page .0) f user ⌝ }
 {
     let copied = copy_page(words, bitmap, frames, root, page, f);
     let walked = copied.walked;
     let left = copied.frames;
     match walked {
-        Walked::Stop(n) => Entered {
-            walked: Walked::Stop(n),
+        Outcome::Stop(n) => Entered {
+            walked: Outcome::Stop(n),
             frames: left,
         },
-        Walked::At(_) => remap_page(words, bitmap, left, root, page, f, user),
+        Outcome::Value(_) => remap_page(words, bitmap, left, root, page, f, user),
     }
 }
 
@@ -317,81 +329,77 @@ pub fn denied(code: u64) -> u64
 // Access that was denied: a write to a marked page copies it and unmarks it.
 fn protected(
     words: &mut [u64],
-    bitmap: &mut [u64; 128],
+    bitmap: &mut Marks,
     frames: FrameAllocator,
     root: Frame,
-    marked: &mut [u64; 256],
-    count: u64,
+    marked: &mut [u8],
     page: VirtAddr,
     code: u64,
 ) -> Faulted
-    requires { ⌜ Roomy (memory (now words) (framesOf (now bitmap) frames)) 7 ⌝ }
-    requires { ⌜ length (now marked) ≡ 256 ⌝ }
-    requires { ⌜ soundMarked (slotsOf (now marked) count) ≡ true ⌝ }
-    ensures { λ r. ⌜ r ≡ faulted (protectedBy 3 (faulting (memory (now (words .entry)) (framesOf (now (bitmap .entry)) frames)) (slotsOf (now (marked .entry)) count)) (root .0) (page .0) code) ⌝ }
-    ensures { λ r. ⌜ now (words .exit) ≡ protectedBy 3 (faulting (memory (now (words .entry)) (framesOf (now (bitmap .entry)) frames)) (slotsOf (now (marked .entry)) count)) (root .0) (page .0) code .state .mem .words ⌝ }
-    ensures { λ r. ⌜ now (bitmap .exit) ≡ protectedBy 3 (faulting (memory (now (words .entry)) (framesOf (now (bitmap .entry)) frames)) (slotsOf (now (marked .entry)) count)) (root .0) (page .0) code .state .mem .frames .bits ⌝ }
-    ensures { λ r. ⌜ now (marked .exit) ≡ protectedBy 3 (faulting (memory (now (words .entry)) (framesOf (now (bitmap .entry)) frames)) (slotsOf (now (marked .entry)) count)) (root .0) (page .0) code .state .marked .slots ⌝ }
+    requires { ⌜ RoomToTake (lentMemory (now words) (now bitmap) frames) 7 ⌝ }
+    requires { ⌜ both (markedFit (now marked)) (soundMarked (markedIn (now marked))) ≡ true ⌝ }
+    ensures { λ r. ⌜ faulted r (now (words .exit)) (now (bitmap .exit)) (now (marked .exit))
+        ≡ onPages (λ s. protectedBy aboveLast s (root .0) (page .0) code) (lentMemory (now (words .entry)) (now (bitmap .entry)) frames)
+        (now (marked .entry)) ⌝ }
+    ensures { λ _. ⌜ FaultReads (λ s. protectedBy aboveLast s (root .0) (page .0) code) (lentMemory (now (words .entry)) (now (bitmap .entry)) frames)
+        (now (marked .entry)) (now (marked .exit)) ⌝ }
 {
     if !error_code::is_write(code) {
         return Faulted {
             answer: Answer::Refused(denied(code)),
             frames,
-            count,
         };
     }
-    if !cow::list::is_listed(marked, count, page.0) {
+    if !cow::list::is_listed(marked, page.0) {
         return Faulted {
             answer: Answer::Refused(answer::WRITE_TO_READ_ONLY),
             frames,
-            count,
         };
     }
     let r = copy_on_write(words, bitmap, frames, root, page, error_code::is_user(code));
     let walked = r.walked;
     let left = r.frames;
     match walked {
-        Walked::Stop(n) => Faulted {
+        Outcome::Stop(n) => Faulted {
             answer: Answer::Refused(n),
             frames: left,
-            count,
         },
-        Walked::At(_) => Faulted {
-            answer: Answer::Met,
-            frames: left,
-            count: cow::list::unmark(marked, count, page.0),
-        },
+        Outcome::Value(_) => {
+            cow::list::unmark(marked, page.0);
+            Faulted {
+                answer: Answer::Met,
+                frames: left,
+            }
+        }
     }
 }
 
 // The first path, at a page.
 pub fn handle(
     words: &mut [u64],
-    bitmap: &mut [u64; 128],
+    bitmap: &mut Marks,
     frames: FrameAllocator,
     root: Frame,
-    marked: &mut [u64; 256],
-    count: u64,
+    marked: &mut [u8],
     page: VirtAddr,
     code: u64,
 ) -> Faulted
-    requires { ⌜ Roomy (memory (now words) (framesOf (now bitmap) frames)) 7 ⌝ }
-    requires { ⌜ length (now marked) ≡ 256 ⌝ }
-    requires { ⌜ soundMarked (slotsOf (now marked) count) ≡ true ⌝ }
-    ensures { λ r. ⌜ r ≡ faulted (handled 3 (faulting (memory (now (words .entry)) (framesOf (now (bitmap .entry)) frames)) (slotsOf (now (marked .entry)) count)) (root .0) (page .0) code) ⌝ }
-    ensures { λ r. ⌜ now (words .exit) ≡ handled 3 (faulting (memory (now (words .entry)) (framesOf (now (bitmap .entry)) frames)) (slotsOf (now (marked .entry)) count)) (root .0) (page .0) code .state .mem .words ⌝ }
-    ensures { λ r. ⌜ now (bitmap .exit) ≡ handled 3 (faulting (memory (now (words .entry)) (framesOf (now (bitmap .entry)) frames)) (slotsOf (now (marked .entry)) count)) (root .0) (page .0) code .state .mem .frames .bits ⌝ }
-    ensures { λ r. ⌜ now (marked .exit) ≡ handled 3 (faulting (memory (now (words .entry)) (framesOf (now (bitmap .entry)) frames)) (slotsOf (now (marked .entry)) count)) (root .0) (page .0) code .state .marked .slots ⌝ }
+    requires { ⌜ RoomToTake (lentMemory (now words) (now bitmap) frames) 7 ⌝ }
+    requires { ⌜ both (markedFit (now marked)) (soundMarked (markedIn (now marked))) ≡ true ⌝ }
+    ensures { λ r. ⌜ faulted r (now (words .exit)) (now (bitmap .exit)) (now (marked .exit))
+        ≡ onPages (λ s. handled aboveLast s (root .0) (page .0) code) (lentMemory (now (words .entry)) (now (bitmap .entry)) frames)
+        (now (marked .entry)) ⌝ }
+    ensures { λ _. ⌜ FaultReads (λ s. handled aboveLast s (root .0) (page .0) code) (lentMemory (now (words .entry)) (now (bitmap .entry)) frames)
+        (now (marked .entry)) (now (marked .exit)) ⌝ }
 {
     if error_code::is_reserved(code) {
         return Faulted {
             answer: Answer::Refused(answer::RESERVED_BIT),
             frames,
-            count,
         };
     }
     if error_code::is_present(code) {
-        return protected(words, bitmap, frames, root, marked, count, page, code);
+        return protected(words, bitmap, frames, root, marked, page, code);
     }
     let r = demand_page(words, bitmap, frames, root, page, code);
     let walked = r.walked;
@@ -399,6 +407,5 @@ pub fn handle(
     Faulted {
         answer: mapper::inner::as_answer(walked),
         frames: left,
-        count,
     }
 }

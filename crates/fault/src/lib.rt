@@ -6,50 +6,47 @@ use address::Frame;
 use address::VirtAddr;
 use answer::Answer;
 use frame::FrameAllocator;
+use frame::Marks;
 ghost use mathlib.Core.Path.{_≡_};
-ghost use Rattle.frame.specs.Frames.{frames as framesOf};
-ghost use Rattle.paging.specs.Map.{memory};
-ghost use Rattle.cow.specs.Marked.{slotsOf};
-ghost use Rattle.fault.specs.Faults.{faulting, faulted, handleFault};
+ghost use Rattle.paging.specs.Levels.{aboveLast};
+ghost use Rattle.paging.specs.Kept.{lentMemory};
+ghost use Rattle.fault.specs.Faults.{handleFault};
+ghost use Rattle.fault.specs.Packed.{faultOn, faulted, FaultReads};
 
 // The page through which a copy is made.
 pub const TEMP_MAP_ADDR: u64 = 0xFFFF_FFFF_FFFF_0000;
 
-// The answer of the first path, beside the frame record and the number of marked pages that it leaves.
+// The answer of the first path, beside the frame record that it leaves.
 pub struct Faulted {
     pub answer: Answer,
     pub frames: FrameAllocator,
-    pub count: u64,
 }
 
 // The first path. 10, 5; a page that was not present is mapped, and a write to a marked page gets a copy.
 pub fn handle_page_fault(
     words: &mut [u64],
-    bitmap: &mut [u64; 128],
+    bitmap: &mut Marks,
     frames: FrameAllocator,
     root: Frame,
-    marked: &mut [u64; 256],
-    count: u64,
+    marked: &mut [u8],
     addr: VirtAddr,
     code: u64,
 ) -> Faulted
-    ensures { λ r. ⌜ r ≡ faulted (handleFault 3 (faulting (memory (now (words .entry)) (framesOf (now (bitmap .entry)) frames)) (slotsOf (now (marked .entry)) count)) (root .0) (addr .0) code) ⌝ }
-    ensures { λ r. ⌜ now (words .exit) ≡ handleFault 3 (faulting (memory (now (words .entry)) (framesOf (now (bitmap .entry)) frames)) (slotsOf (now (marked .entry)) count)) (root .0) (addr .0) code .state .mem .words ⌝ }
-    ensures { λ r. ⌜ now (bitmap .exit) ≡ handleFault 3 (faulting (memory (now (words .entry)) (framesOf (now (bitmap .entry)) frames)) (slotsOf (now (marked .entry)) count)) (root .0) (addr .0) code .state .mem .frames .bits ⌝ }
-    ensures { λ r. ⌜ now (marked .exit) ≡ handleFault 3 (faulting (memory (now (words .entry)) (framesOf (now (bitmap .entry)) frames)) (slotsOf (now (marked .entry)) count)) (root .0) (addr .0) code .state .marked .slots ⌝ }
+    ensures { λ r. ⌜ faulted r (now (words .exit)) (now (bitmap .exit)) (now (marked .exit))
+        ≡ faultOn (lentMemory (now (words .entry)) (now (bitmap .entry)) frames) (now (marked .entry)) (root .0) (addr .0) code ⌝ }
+    ensures { λ _. ⌜ FaultReads (λ s. handleFault aboveLast s (root .0) (addr .0) code) (lentMemory (now (words .entry)) (now (bitmap .entry)) frames)
+        (now (marked .entry)) (now (marked .exit)) ⌝ }
 {
     if !mapper::is_whole(words, bitmap, frames, root) {
         return Faulted {
             answer: Answer::Refused(answer::BROKEN_RECORD),
             frames,
-            count,
         };
     }
-    if !cow::list::is_sound(marked, count) {
+    if !cow::list::is_sound(marked) {
         return Faulted {
             answer: Answer::Refused(answer::BROKEN_RECORD),
             frames,
-            count,
         };
     }
     inner::handle(
@@ -58,7 +55,6 @@ pub fn handle_page_fault(
         frames,
         root,
         marked,
-        count,
         cow::page_of(addr),
         code,
     )

@@ -13,7 +13,7 @@ use Rattle.bits.proofs.Choice.{pick-cases, both-true}
 use Rattle.answer.specs.Numbers.{brokenRecord, noFreeFrame}
 use Rattle.answer.specs.declared.Answer.{Answer}
 use Rattle.answer.specs.declared.Answer.the-variants.{Met, Refused}
-use Rattle.answer.specs.declared.CountAnswer.the-variants.{Count, NoCount}
+use Rattle.answer.specs.declared.Outcome.the-variants.{Value, Stop}
 use Rattle.answer.specs.declared.FlagAnswer.the-variants.{Flag, NoFlag}
 use Rattle.address.specs.declared.FrameAnswer.{FrameAnswer}
 use Rattle.address.specs.declared.FrameAnswer.the-variants.{AtFrame, NoFrame}
@@ -22,10 +22,10 @@ use Rattle.bitmap.proofs.Marks.{is-marked, is-free, marked-true, marked-false, 
 use Rattle.bitmap.proofs.Search.{free-is-free, free-below-marked}
 use Rattle.frame.specs.declared.Found.{Found}
 use Rattle.frame.specs.declared.Found.the-variants.{Freed, AlreadyFree, NotHere}
-use Rattle.frame.specs.Frames.{Frames, frames, Did, did, inside, sound, init, withMark, withoutMark, takeFrame, frameMarked, markFrame, giveFrame, isAllocated, markAllocated, allocate, deallocate, counted, Held}
+use Rattle.frame.specs.Frames.{Frames, frames, FramesDid, framesDid, inside, sound, init, withMark, withoutMark, takeFrame, frameMarked, markFrame, giveFrame, isAllocated, markAllocated, allocate, deallocate, counted, RoomToCount, unused}
 
 -- what a contract says of a call: what the code returns of it, and the bitmap that it leaves
-pub parts : {A B : Type 0} (f : Did A → B) {d e : Did A} → d ≡ e → (f e ≡ f d) × (e .frames .bits ≡ d .frames .bits)
+pub parts : {A B : Type 0} (f : FramesDid A → B) {d e : FramesDid A} → d ≡ e → (f e ≡ f d) × (e .frames .bits ≡ d .frames .bits)
 parts f h = (ap f (sym h), ap (λ x. x .frames .bits) (sym h))
 
 -- what code learns past `if !r { return .. }`, and in it, where r is what the test means
@@ -101,7 +101,7 @@ module _ (fr : Frames) where
   pub sound-fits : sound fr ≡ true → fr .fa .allocated ≤ fr .fa .total
   sound-fits h = omega (arith, sound-count h, count-le (fr .bits) (fr .fa .total))
 
-  pub sound-held : (n : ℕ) → n ≤ 2 ^ 63 → sound fr ≡ true → Held (fr .fa) n
+  pub sound-held : (n : ℕ) → n ≤ 2 ^ 63 → sound fr ≡ true → RoomToCount (fr .fa) n
   sound-held n l h = record {
     few = sound-few h;
     low = sound-low h;
@@ -110,23 +110,23 @@ module _ (fr : Frames) where
 
 -- `init`: what it leaves if it is met, whatever was there before
 abbrev pub fresh : ℕ → ℕ → Frames
-fresh s e = frames (replicate 128 0) (record { start = s / 4096; total = min ((e - s) / 4096) 8192; allocated = 0 })
+fresh s e = frames (replicate 128 0) (unused (s / 4096) (min ((e - s) / 4096) 8192))
 
 module _ (fr : Frames) (s e : ℕ) where
-  pub init-crossed : e < s → init fr s e ≡ did (Refused brokenRecord) fr
+  pub init-crossed : e < s → init fr s e ≡ framesDid (Refused brokenRecord) fr
   unfolding init
   init-crossed h = simp lt-leb
 
-  pub init-high : s ≤ e → 2 ^ 52 < e → init fr s e ≡ did (Refused brokenRecord) fr
+  pub init-high : s ≤ e → 2 ^ 52 < e → init fr s e ≡ framesDid (Refused brokenRecord) fr
   unfolding init
   init-high h k = simp (le-leb, lt-leb)
 
-  pub init-met : s ≤ e → e ≤ 2 ^ 52 → init fr s e ≡ did Met (fresh s e)
+  pub init-met : s ≤ e → e ≤ 2 ^ 52 → init fr s e ≡ framesDid Met (fresh s e)
   unfolding init
   init-met h k = simp (le-leb _ _ h, le-leb _ _ k)
 
   -- both outcomes
-  pub init-cases : (P : Did Answer → Type 0) → (s ≤ e → e ≤ 2 ^ 52 → P (did Met (fresh s e))) → P (did (Refused brokenRecord) fr) → P (init fr s e)
+  pub init-cases : (P : FramesDid Answer → Type 0) → (s ≤ e → e ≤ 2 ^ 52 → P (framesDid Met (fresh s e))) → P (framesDid (Refused brokenRecord) fr) → P (init fr s e)
   unfolding init
   init-cases P met refused =
       pick-cases P (both (leb s e) (leb e (2 ^ 52))) _ _
@@ -137,19 +137,19 @@ pub lowest-free : (bm : List ℕ) (n j : ℕ) → j ≡ freeFrom bm 0 n → j < 
 lowest-free bm n j e h = rw e (free-is-free bm 0 n (omega arith))
 
 module _ (fr : Frames) where
-  pub take-none : fr .fa .total ≤ freeFrom (fr .bits) 0 (fr .fa .total) → takeFrame fr ≡ did (NoFrame noFreeFrame) fr
+  pub take-none : fr .fa .total ≤ freeFrom (fr .bits) 0 (fr .fa .total) → takeFrame fr ≡ framesDid (NoFrame noFreeFrame) fr
   unfolding takeFrame
   take-none h = rw (le-ltb _ _ h)
 
   pub take-found : (j : ℕ) → j ≡ freeFrom (fr .bits) 0 (fr .fa .total) → j < fr .fa .total
-      → takeFrame fr ≡ did (AtFrame (record { 0 = fr .fa .start + j })) (withMark fr j)
+      → takeFrame fr ≡ framesDid (AtFrame (record { 0 = fr .fa .start + j })) (withMark fr j)
   unfolding takeFrame
   take-found j e h = rw (← e, lt-ltb _ _ h)
 
   -- both outcomes of taking a frame
-  pub take-cases : (P : Did FrameAnswer → Type 0)
-      → ((j : ℕ) → j < fr .fa .total → marked (fr .bits) j ≡ 0 → ((k : ℕ) → k < j → marked (fr .bits) k ≡ 1) → P (did (AtFrame (record { 0 = fr .fa .start + j })) (withMark fr j)))
-      → (((k : ℕ) → k < fr .fa .total → marked (fr .bits) k ≡ 1) → P (did (NoFrame noFreeFrame) fr)) → P (takeFrame fr)
+  pub take-cases : (P : FramesDid FrameAnswer → Type 0)
+      → ((j : ℕ) → j < fr .fa .total → marked (fr .bits) j ≡ 0 → ((k : ℕ) → k < j → marked (fr .bits) k ≡ 1) → P (framesDid (AtFrame (record { 0 = fr .fa .start + j })) (withMark fr j)))
+      → (((k : ℕ) → k < fr .fa .total → marked (fr .bits) k ≡ 1) → P (framesDid (NoFrame noFreeFrame) fr)) → P (takeFrame fr)
   unfolding takeFrame
   take-cases P found none =
       pick-cases P (ltb (freeFrom (fr .bits) 0 (fr .fa .total)) (fr .fa .total)) _ _
@@ -202,26 +202,26 @@ module _ (fr : Frames) (n : ℕ) where
   unfolding markFrame
   mark-cases P there free = pick-cases P (frameMarked fr n) _ _ there free
 
-  pub give-outside : inside (fr .fa .start) (fr .fa .total) n ≡ false → giveFrame fr n ≡ did NotHere fr
+  pub give-outside : inside (fr .fa .start) (fr .fa .total) n ≡ false → giveFrame fr n ≡ framesDid NotHere fr
   unfolding giveFrame
   give-outside h = rw h
 
-  pub give-free : inside (fr .fa .start) (fr .fa .total) n ≡ true → isMarked (fr .bits) (n - fr .fa .start) ≡ false → giveFrame fr n ≡ did AlreadyFree fr
+  pub give-free : inside (fr .fa .start) (fr .fa .total) n ≡ true → isMarked (fr .bits) (n - fr .fa .start) ≡ false → giveFrame fr n ≡ framesDid AlreadyFree fr
   unfolding giveFrame
   give-free h k = rw (h, k)
 
   pub give-marked : inside (fr .fa .start) (fr .fa .total) n ≡ true → isMarked (fr .bits) (n - fr .fa .start) ≡ true
-      → giveFrame fr n ≡ did Freed (withoutMark fr (n - fr .fa .start))
+      → giveFrame fr n ≡ framesDid Freed (withoutMark fr (n - fr .fa .start))
   unfolding giveFrame
   give-marked h k = rw (h, k)
 
-  pub give-there : inside (fr .fa .start) (fr .fa .total) n ≡ true → frameMarked fr n ≡ true → giveFrame fr n ≡ did Freed (withoutMark fr (n - fr .fa .start))
+  pub give-there : inside (fr .fa .start) (fr .fa .total) n ≡ true → frameMarked fr n ≡ true → giveFrame fr n ≡ framesDid Freed (withoutMark fr (n - fr .fa .start))
   give-there h there = give-marked h (sym (reads-inside h) ∙ there)
 
   -- the three outcomes of giving a frame back
-  pub give-cases : (P : Did Found → Type 0) → (inside (fr .fa .start) (fr .fa .total) n ≡ false → P (did NotHere fr))
-      → (inside (fr .fa .start) (fr .fa .total) n ≡ true → marked (fr .bits) (n - fr .fa .start) ≡ 0 → P (did AlreadyFree fr))
-      → (inside (fr .fa .start) (fr .fa .total) n ≡ true → marked (fr .bits) (n - fr .fa .start) ≡ 1 → P (did Freed (withoutMark fr (n - fr .fa .start))))
+  pub give-cases : (P : FramesDid Found → Type 0) → (inside (fr .fa .start) (fr .fa .total) n ≡ false → P (framesDid NotHere fr))
+      → (inside (fr .fa .start) (fr .fa .total) n ≡ true → marked (fr .bits) (n - fr .fa .start) ≡ 0 → P (framesDid AlreadyFree fr))
+      → (inside (fr .fa .start) (fr .fa .total) n ≡ true → marked (fr .bits) (n - fr .fa .start) ≡ 1 → P (framesDid Freed (withoutMark fr (n - fr .fa .start))))
       → P (giveFrame fr n)
   unfolding giveFrame
   give-cases P out free there =
@@ -230,7 +230,7 @@ module _ (fr : Frames) (n : ℕ) where
 
 -- the calls: 10 on a broken record, and the step itself on a whole one
 module _ (fr : Frames) where
-  pub allocate-broken : sound fr ≡ false → allocate fr ≡ did (NoFrame brokenRecord) fr
+  pub allocate-broken : sound fr ≡ false → allocate fr ≡ framesDid (NoFrame brokenRecord) fr
   unfolding allocate
   allocate-broken h = rw h
 
@@ -247,26 +247,26 @@ module _ (fr : Frames) (n : ℕ) where
   unfolding isAllocated
   allocated-whole h = rw h
 
-  pub mark-broken : sound fr ≡ false → markAllocated fr n ≡ did (Refused brokenRecord) fr
+  pub mark-broken : sound fr ≡ false → markAllocated fr n ≡ framesDid (Refused brokenRecord) fr
   unfolding markAllocated
   mark-broken h = rw h
 
-  pub mark-whole : sound fr ≡ true → markAllocated fr n ≡ did Met (markFrame fr n)
+  pub mark-whole : sound fr ≡ true → markAllocated fr n ≡ framesDid Met (markFrame fr n)
   unfolding markAllocated
   mark-whole h = rw h
 
-  pub deallocate-broken : sound fr ≡ false → deallocate fr n ≡ did (Refused brokenRecord) fr
+  pub deallocate-broken : sound fr ≡ false → deallocate fr n ≡ framesDid (Refused brokenRecord) fr
   unfolding deallocate
   deallocate-broken h = rw h
 
-  pub deallocate-whole : sound fr ≡ true → deallocate fr n ≡ did Met (giveFrame fr n .frames)
+  pub deallocate-whole : sound fr ≡ true → deallocate fr n ≡ framesDid Met (giveFrame fr n .frames)
   unfolding deallocate
   deallocate-whole h = rw h
 
-  pub counted-broken : sound fr ≡ false → counted fr n ≡ NoCount brokenRecord
+  pub counted-broken : sound fr ≡ false → counted fr n ≡ Stop brokenRecord
   unfolding counted
   counted-broken h = rw h
 
-  pub counted-whole : sound fr ≡ true → counted fr n ≡ Count n
+  pub counted-whole : sound fr ≡ true → counted fr n ≡ Value n
   unfolding counted
   counted-whole h = rw h

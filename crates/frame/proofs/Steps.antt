@@ -19,7 +19,7 @@ use Rattle.bitmap.specs.Bitmap.{marked, isMarked, mark, unmark}
 use Rattle.bitmap.proofs.Marks.{Words, length-mark, length-unmark, mark-own, mark-other, unmark-own, unmark-other, mark-words, unmark-words, mark-unmark, unmark-mark, unmark-comm, is-marked, is-free, count-mark, count-unmark, count-pos, count-all, count-replicate, marked-replicate, replicate-words}
 use Rattle.frame.specs.declared.Found.{Found}
 use Rattle.frame.specs.declared.Found.the-variants.{Freed}
-use Rattle.frame.specs.Frames.{Frames, Did, did, inside, sound, init, withMark, withoutMark, takeFrame, frameMarked, markFrame, giveFrame}
+use Rattle.frame.specs.Frames.{Frames, FramesDid, framesDid, inside, sound, init, withMark, withoutMark, takeFrame, frameMarked, markFrame, giveFrame}
 use Rattle.frame.proofs.Laws.{inside-yes, inside-from, inside-under, inside-sum, sound-yes, sound-few, sound-low, sound-count, fresh, init-cases, take-cases, reads-marked, reads-free, free-inside, free-bit, there-bit, mark-free, mark-cases, give-cases, give-there}
 
 -- an allocator in order: its record is not broken, and the lent bitmap is as long as the code's
@@ -162,50 +162,50 @@ at-or-none e = let z : _≡_ {A = ℕ} 0 1 = cc in omega arith
 
 module _ (fr : Frames) where
   pub span-take : SameSpan fr (takeFrame fr .frames)
-  span-take = take-cases fr (λ (d : Did FrameAnswer). SameSpan fr (d .frames)) (λ j _ _ _. span-with fr j) (λ _. span-refl fr)
+  span-take = take-cases fr (λ (d : FramesDid FrameAnswer). SameSpan fr (d .frames)) (λ j _ _ _. span-with fr j) (λ _. span-refl fr)
 
   pub sound-take : Sound fr → Sound (takeFrame fr .frames)
-  sound-take s = take-cases fr (λ (d : Did FrameAnswer). Sound (d .frames)) (λ j below free _. sound-with fr j s below free) (λ _. s)
+  sound-take s = take-cases fr (λ (d : FramesDid FrameAnswer). Sound (d .frames)) (λ j below free _. sound-with fr j s below free) (λ _. s)
 
   pub words-take : Words (fr .bits) → Words (takeFrame fr .frames .bits)
-  words-take w = take-cases fr (λ (d : Did FrameAnswer). Words (d .frames .bits)) (λ j _ free _. words-with fr j free w) (λ _. w)
+  words-take w = take-cases fr (λ (d : FramesDid FrameAnswer). Words (d .frames .bits)) (λ j _ free _. words-with fr j free w) (λ _. w)
 
   -- the frame that is taken is free, and nothing but it is marked
   pub more-take : Sound fr → (f : Frame) → takeFrame fr .answer ≡ AtFrame f → OneMore fr (f .0) (takeFrame fr .frames)
   more-take s f =
-      take-cases fr (λ (d : Did FrameAnswer). d .answer ≡ AtFrame f → OneMore fr (f .0) (d .frames))
+      take-cases fr (λ (d : FramesDid FrameAnswer). d .answer ≡ AtFrame f → OneMore fr (f .0) (d .frames))
       (λ j below free _ e. more-with fr j s below free (f .0) (cc))
       (λ _ e. absurd (at-or-none e))
 
   -- no free frame lies below it
   pub take-lowest : (f : Frame) → takeFrame fr .answer ≡ AtFrame f → (n : ℕ) → n < f .0 → frameMarked fr n ≡ true
   take-lowest f =
-      take-cases fr (λ (d : Did FrameAnswer). d .answer ≡ AtFrame f → (n : ℕ) → n < f .0 → frameMarked fr n ≡ true)
+      take-cases fr (λ (d : FramesDid FrameAnswer). d .answer ≡ AtFrame f → (n : ℕ) → n < f .0 → frameMarked fr n ≡ true)
       (λ j _ _ lower e n l. let z : fr .fa .start + j ≡ f .0 = cc in
       reads-marked fr n (λ h. lower (n - fr .fa .start) (omega (arith, inside-from (fr .fa .start) (fr .fa .total) n h))))
       (λ _ e. absurd (at-or-none e))
 
   -- a refused take, which is 11 only: nothing is changed and no frame is free
-  pub take-refused : (k : ℕ) → takeFrame fr .answer ≡ NoFrame k → takeFrame fr ≡ did (NoFrame noFreeFrame) fr
+  pub take-refused : (k : ℕ) → takeFrame fr .answer ≡ NoFrame k → takeFrame fr ≡ framesDid (NoFrame noFreeFrame) fr
   take-refused k =
-      take-cases fr (λ (d : Did FrameAnswer). d .answer ≡ NoFrame k → d ≡ did (NoFrame noFreeFrame) fr)
+      take-cases fr (λ (d : FramesDid FrameAnswer). d .answer ≡ NoFrame k → d ≡ framesDid (NoFrame noFreeFrame) fr)
       (λ j _ _ _ e. absurd (at-or-none (sym e))) (λ _ _. refl)
 
   pub take-full : (k : ℕ) → takeFrame fr .answer ≡ NoFrame k → (n : ℕ) → frameMarked fr n ≡ true
   take-full k =
-      take-cases fr (λ (d : Did FrameAnswer). d .answer ≡ NoFrame k → (n : ℕ) → frameMarked fr n ≡ true)
+      take-cases fr (λ (d : FramesDid FrameAnswer). d .answer ≡ NoFrame k → (n : ℕ) → frameMarked fr n ≡ true)
       (λ j _ _ _ e. absurd (at-or-none (sym e)))
       (λ all _ n. reads-marked fr n (λ h. all (n - fr .fa .start) (inside-under _ _ _ h)))
 
   -- it is refused just where the counter is total
   pub take-met : Sound fr → fr .fa .allocated < fr .fa .total → (f : Frame) × (takeFrame fr .answer ≡ AtFrame f)
   take-met s room =
-      take-cases fr (λ (d : Did FrameAnswer). (f : Frame) × (d .answer ≡ AtFrame f)) (λ j _ _ _. (_, refl))
+      take-cases fr (λ (d : FramesDid FrameAnswer). (f : Frame) × (d .answer ≡ AtFrame f)) (λ j _ _ _. (_, refl))
       (λ all. absurd (omega (arith, sound-count fr (s .tested), count-all (fr .bits) (fr .fa .total) all)))
 
   pub take-count : Sound fr → (k : ℕ) → takeFrame fr .answer ≡ NoFrame k → fr .fa .allocated ≡ fr .fa .total
   take-count s k =
-      take-cases fr (λ (d : Did FrameAnswer). d .answer ≡ NoFrame k → fr .fa .allocated ≡ fr .fa .total)
+      take-cases fr (λ (d : FramesDid FrameAnswer). d .answer ≡ NoFrame k → fr .fa .allocated ≡ fr .fa .total)
       (λ j _ _ _ e. absurd (at-or-none (sym e))) (λ all _. sound-count fr (s .tested) ∙ count-all (fr .bits) (fr .fa .total) all)
 
 -- ---- marking a frame
@@ -234,42 +234,42 @@ module _ (fr : Frames) (n : ℕ) where
 module _ (fr : Frames) (n : ℕ) where
   pub span-give : SameSpan fr (giveFrame fr n .frames)
   span-give =
-      give-cases fr n (λ (d : Did Found). SameSpan fr (d .frames)) (λ _. span-refl fr) (λ _ _. span-refl fr)
+      give-cases fr n (λ (d : FramesDid Found). SameSpan fr (d .frames)) (λ _. span-refl fr) (λ _ _. span-refl fr)
       (λ _ _. span-without fr (n - fr .fa .start))
 
   pub words-give : Words (fr .bits) → Words (giveFrame fr n .frames .bits)
   words-give w =
-      give-cases fr n (λ (d : Did Found). Words (d .frames .bits)) (λ _. w) (λ _ _. w) (λ _ _. words-without fr (n - fr .fa .start) w)
+      give-cases fr n (λ (d : FramesDid Found). Words (d .frames .bits)) (λ _. w) (λ _ _. w) (λ _ _. words-without fr (n - fr .fa .start) w)
 
   pub sound-give : Sound fr → Sound (giveFrame fr n .frames)
   sound-give s =
-      give-cases fr n (λ (d : Did Found). Sound (d .frames)) (λ _. s) (λ _ _. s)
+      give-cases fr n (λ (d : FramesDid Found). Sound (d .frames)) (λ _. s) (λ _ _. s)
       (λ h there. sound-without fr (n - fr .fa .start) s (inside-under _ _ _ h) there)
 
   -- a lent frame that is marked becomes free, and nothing but it
   pub more-give : Sound fr → inside (fr .fa .start) (fr .fa .total) n ≡ true → frameMarked fr n ≡ true → OneMore (giveFrame fr n .frames) n fr
   more-give s h there =
-      subst (λ (d : Did Found). OneMore (d .frames) n fr) (sym (give-there fr n h there))
+      subst (λ (d : FramesDid Found). OneMore (d .frames) n fr) (sym (give-there fr n h there))
       (more-without fr (n - fr .fa .start) s (inside-under _ _ _ h) (there-bit fr n h there) n (inside-sum (fr .fa .start) (fr .fa .total) n h))
 
 -- ---- one after the other
 
 -- marked and given back, the allocator is as it was
 with-give : (fr : Frames) (j : ℕ) → Sound fr → j < fr .fa .total → marked (fr .bits) j ≡ 0
-    → (n : ℕ) → n ≡ fr .fa .start + j → giveFrame (withMark fr j) n ≡ did Freed fr
+    → (n : ℕ) → n ≡ fr .fa .start + j → giveFrame (withMark fr j) n ≡ framesDid Freed fr
 unfolding withMark
 with-give fr j s below free n e =
     let m = more-with fr j s below free n e in
     let d : n - fr .fa .start ≡ j = omega arith in
     give-there (withMark fr j) n (m .lent) (m .there)
-    ∙ ap (λ (i : ℕ). did Freed (withoutMark (withMark fr j) i)) d ∙ ap (did Freed) (without-with fr j)
+    ∙ ap (λ (i : ℕ). framesDid Freed (withoutMark (withMark fr j) i)) d ∙ ap (framesDid Freed) (without-with fr j)
 
-pub take-give : (fr : Frames) → Sound fr → (f : Frame) → takeFrame fr .answer ≡ AtFrame f → giveFrame (takeFrame fr .frames) (f .0) ≡ did Freed fr
+pub take-give : (fr : Frames) → Sound fr → (f : Frame) → takeFrame fr .answer ≡ AtFrame f → giveFrame (takeFrame fr .frames) (f .0) ≡ framesDid Freed fr
 take-give fr s f =
-    take-cases fr (λ (d : Did FrameAnswer). d .answer ≡ AtFrame f → giveFrame (d .frames) (f .0) ≡ did Freed fr)
+    take-cases fr (λ (d : FramesDid FrameAnswer). d .answer ≡ AtFrame f → giveFrame (d .frames) (f .0) ≡ framesDid Freed fr)
     (λ j below free _ e. with-give fr j s below free (f .0) (cc)) (λ _ e. absurd (at-or-none e))
 
-pub mark-give : (fr : Frames) (n : ℕ) → Sound fr → frameMarked fr n ≡ false → giveFrame (markFrame fr n) n ≡ did Freed fr
+pub mark-give : (fr : Frames) (n : ℕ) → Sound fr → frameMarked fr n ≡ false → giveFrame (markFrame fr n) n ≡ framesDid Freed fr
 mark-give fr n s free =
     let h = free-inside fr n free in
     ap (λ (x : Frames). giveFrame x n) (mark-free fr n free)
@@ -285,12 +285,12 @@ given fr n = pick (held fr n) (withoutMark fr (n - fr .fa .start)) fr
 
 give-pick : (fr : Frames) (n : ℕ) → giveFrame fr n .frames ≡ given fr n
 give-pick fr n =
-    give-cases fr n (λ (d : Did Found). d .frames ≡ given fr n) (λ h. rw h) (λ h free. rw (h, is-free _ _ free)) (λ h there. rw (h, is-marked _ _ there))
+    give-cases fr n (λ (d : FramesDid Found). d .frames ≡ given fr n) (λ h. rw h) (λ h free. rw (h, is-free _ _ free)) (λ h there. rw (h, is-marked _ _ there))
 
 held-given : (fr : Frames) (m n : ℕ) → (m ≡ n → ⊥) → held (giveFrame fr m .frames) n ≡ held fr n
 unfolding withoutMark
 held-given fr m n d =
-    give-cases fr m (λ (x : Did Found). held (x .frames) n ≡ held fr n) (λ _. refl) (λ _ _. refl)
+    give-cases fr m (λ (x : FramesDid Found). held (x .frames) n ≡ held fr n) (λ _. refl) (λ _ _. refl)
     (λ h there. both-same (inside (fr .fa .start) (fr .fa .total) n) _ _
     (λ k. ap (λ (x : ℕ). eqb x 1) (unmark-other (fr .bits) (m - fr .fa .start) there (n - fr .fa .start)
     (λ z. d (omega (arith, inside-from (fr .fa .start) (fr .fa .total) m h, inside-from (fr .fa .start) (fr .fa .total) n k))))))
@@ -336,10 +336,10 @@ fresh-free s e crossed low = record {
 -- what a met `init` leaves does not depend on what was there
 pub init-fresh : (fr : Frames) (s e : ℕ) → init fr s e .answer ≡ Met → init fr s e .frames ≡ fresh s e
 init-fresh fr s e =
-    init-cases fr s e (λ (d : Did Answer). d .answer ≡ Met → d .frames ≡ fresh s e) (λ _ _ _. refl)
+    init-cases fr s e (λ (d : FramesDid Answer). d .answer ≡ Met → d .frames ≡ fresh s e) (λ _ _ _. refl)
     (λ h. let z : _≡_ {A = ℕ} 0 1 = cc in absurd (omega arith))
 
 pub init-free : (fr : Frames) (s e : ℕ) → init fr s e .answer ≡ Met → AllFree (init fr s e .frames)
 init-free fr s e =
-    init-cases fr s e (λ (d : Did Answer). d .answer ≡ Met → AllFree (d .frames)) (λ a b _. fresh-free s e a b)
+    init-cases fr s e (λ (d : FramesDid Answer). d .answer ≡ Met → AllFree (d .frames)) (λ a b _. fresh-free s e a b)
     (λ h. let z : _≡_ {A = ℕ} 0 1 = cc in absurd (omega arith))

@@ -1,4 +1,4 @@
--- One walk for every call on a record that is lent beside its bitmap and written in place, `let out = fa.g(bitmap, xs..); *fa = out.frames; out.answer`: over the name of g, the types of xs (`Passed.antt`), the struct that g returns (`Outcome`) and the definition D of what the call does. A function's own proof cites `meets`; antt finds by computing that its MIR and its contract are those here.
+-- One walk for every call on a record that is lent beside its bitmap and written in place, `let out = fa.g(bitmap, xs..); *fa = out.frames; out.answer`: over the name of g, the types of xs (`Passed.antt`), the struct that g returns (`Returned`) and the definition D of what the call does. A function's own proof cites `meets`; antt finds by computing that its MIR and its contract are those here.
 -- The record's borrow is opened, the record is copied and passed by value to g beside the bitmap, which goes there for good; what that returns is taken apart, its record is stored and the borrow closed at it, and its answer is returned.
 -- Assumes nothing.
 use mathlib.Core.Path.{_≡_, refl, ap, subst, _∙_}
@@ -41,7 +41,7 @@ use denote.Triple.Spec.{Meets, tripleOf}
 use denote.Triple.Walked.{says, Stays, stay-ref, gave-ref, walkOf, AllGo, goes-ref, goes-gave-ref, Walks, ends-at, walked, walk-meets}
 use denote.Exit.{yes}
 use Rattle.frame.specs.declared.FrameAllocator.{FrameAllocator}
-use Rattle.frame.specs.Frames.{Frames, frames, Did, did}
+use Rattle.frame.specs.Frames.{Frames, frames, FramesDid, framesDid}
 use Rattle.frame.specs.Results.{changed, allocated}
 use Rattle.answer.proofs.Answer as E
 use Rattle.answer.proofs.Answer.Laws as E′
@@ -63,7 +63,7 @@ abbrev pub mach : FrameAllocator → Val
 mach h = LL.val T.the-type T′.the-laws h
 
 -- what g returns: a struct of an answer and of the record that it leaves. It is taken apart here (`opened`), and put together by a caller that holds the record (`shut`, in `Lending.antt`)
-pub record Outcome : Type 2 where
+pub record Returned : Type 2 where
   pub Ans : RattleType
   pub ty : Ty
   pub ans : Ans .Denot → Val
@@ -73,17 +73,17 @@ pub record Outcome : Type 2 where
   pub name : Sym
   pub answer : Out .Denot → Ans .Denot
   pub left : Out .Denot → FrameAllocator
-  pub made : Did (Ans .Denot) → Out .Denot
-  pub made-answer : (x : Did (Ans .Denot)) → answer (made x) ≡ x .answer
-  pub made-left : (x : Did (Ans .Denot)) → left (made x) ≡ x .frames .fa
+  pub made : FramesDid (Ans .Denot) → Out .Denot
+  pub made-answer : (x : FramesDid (Ans .Denot)) → answer (made x) ≡ x .answer
+  pub made-left : (x : FramesDid (Ans .Denot)) → left (made x) ≡ x .frames .fa
   pub typed : {M : Type 1} (𝓤 : URA M) (H : Heap 𝓤) (A : Atoms 𝓤) → Given 𝓤 H A → (r : Out .Denot) (w : Val) → Is Out r (w ∷ []) → T (hasTy (tyStruct name (tcons ty (tcons T′.mir tnil))) w) × WT w
   pub opened : {M : Type 1} (𝓤 : URA M) (H : Heap 𝓤) (A : Atoms 𝓤) → Given 𝓤 H A → (r : Out .Denot) (w : Val) → ent 𝓤 (sem 𝓤 H A (Out .own r (w ∷ [])))
       (guard 𝓤 (w ∷ [] ≡ vstruct (vcons (ans (answer r)) (vcons (mach (left r)) vnil)) ∷ []) (sem 𝓤 H A (fsep (Ans .own (answer r) (ans (answer r) ∷ [])) (fsep (T.the-row .own (left r) (mach (left r) ∷ [])) ftrue))))
-  pub shut : {M : Type 1} (𝓤 : URA M) (H : Heap 𝓤) (A : Atoms 𝓤) → Given 𝓤 H A → (x : Did (Ans .Denot)) → ent 𝓤 (sem 𝓤 H A (fsep (Ans .own (x .answer) (ans (x .answer) ∷ [])) (fsep (T.the-row .own (x .frames .fa) (mach (x .frames .fa) ∷ [])) ftrue)))
+  pub shut : {M : Type 1} (𝓤 : URA M) (H : Heap 𝓤) (A : Atoms 𝓤) → Given 𝓤 H A → (x : FramesDid (Ans .Denot)) → ent 𝓤 (sem 𝓤 H A (fsep (Ans .own (x .answer) (ans (x .answer) ∷ [])) (fsep (T.the-row .own (x .frames .fa) (mach (x .frames .fa) ∷ [])) ftrue)))
       (sem 𝓤 H A (Out .own (made x) (vstruct (vcons (ans (x .answer)) (vcons (mach (x .frames .fa)) vnil)) ∷ [])))
 
 -- `Changed`, and `Allocated`
-abbrev pub changes : Outcome
+abbrev pub changes : Returned
 changes = record {
   Ans = E.the-row;
   ty = E′.mir;
@@ -102,7 +102,7 @@ changes = record {
   shut = λ 𝓤 H A W x. own-shut 𝓤 H A W O.the-type O′.the-laws (x .answer, (x .frames .fa, tt));
 }
 
-abbrev pub allocates : Outcome
+abbrev pub allocates : Returned
 allocates = record {
   Ans = G.the-row;
   ty = G′.mir;
@@ -132,13 +132,13 @@ pair-typed ν σ τ u w t =
     ((both .0, t .1 .0), (and-yes (hasTy τ w) true (both .1) .0, t .1 .1 .0))
 
 -- the MIR type of what g returns, and the machine value of one with this answer and this record
-abbrev pub struct : Outcome → Ty
+abbrev pub struct : Returned → Ty
 struct X = tyStruct (X .name) (tcons (X .ty) (tcons T′.mir tnil))
 
-abbrev pub pair : (X : Outcome) → X .Ans .Denot → FrameAllocator → Val
+abbrev pub pair : (X : Returned) → X .Ans .Denot → FrameAllocator → Val
 pair X x h = vstruct (vcons (X .ans x) (vcons (mach h) vnil))
 
-module _ (X : Outcome) (Xs : List Passed) where
+module _ (X : Returned) (Xs : List Passed) where
   -- the signatures of f and of g
   abbrev pub ended : Ended
   ended = record {
@@ -156,12 +156,12 @@ module _ (X : Outcome) (Xs : List Passed) where
   stayed = (stay-ref (0 ∷ []) tt (plain (λ _. T.the-row)), (gave-ref (1 ∷ []) tt (plain (λ _. B)), stays 2 Xs))
 
   -- the contracts of f and of g
-  module _ (D : Frames → Values Xs → Did (X .Ans .Denot)) where
+  module _ (D : Frames → Values Xs → FramesDid (X .Ans .Denot)) where
     abbrev pub clauses : {M : Type 1} (𝓤 : URA M) → Clauses 𝓤 ended
     clauses 𝓤 κs a = record {
       ghost = Unit {0};
       requires = λ _. emp 𝓤;
-      ensures = λ _ r e. fact 𝓤 (did r (frames (now (e .1 .0)) (now (e .0))) ≡ D (frames (now (a .1 .0)) (now (a .0))) (values 2 κs Xs (a .1 .1)));
+      ensures = λ _ r e. fact 𝓤 (framesDid r (frames (now (e .1 .0)) (now (e .0))) ≡ D (frames (now (a .1 .0)) (now (a .0))) (values 2 κs Xs (a .1 .1)));
     }
 
     abbrev pub value-clauses : {M : Type 1} (𝓤 : URA M) → Clauses 𝓤 by-value
@@ -171,7 +171,7 @@ module _ (X : Outcome) (Xs : List Passed) where
       ensures = λ _ r e. sep 𝓤 (fact 𝓤 (r ≡ X .made (D (frames (now (a .1 .0)) (a .0)) (values 1 κs Xs (a .1 .1))))) (fact 𝓤 (now (e .1 .0) ≡ D (frames (now (a .1 .0)) (a .0)) (values 1 κs Xs (a .1 .1)) .frames .bits));
     }
 
-  module _ (#callee : Name) (D : Frames → Values Xs → Did (X .Ans .Denot)) where
+  module _ (#callee : Name) (D : Frames → Values Xs → FramesDid (X .Ans .Denot)) where
     abbrev pub function : Fn
     function = record {
       lifetimes = 2;
@@ -186,9 +186,9 @@ module _ (X : Outcome) (Xs : List Passed) where
     }
 
     -- what g's two clauses say together
-    leaves : (fr : Frames) (v v′ : Values Xs) (r : X .Out .Denot) (zs : List ℕ) → v′ ≡ v → r ≡ X .made (D fr v′) → zs ≡ D fr v′ .frames .bits → did (X .answer r) (frames zs (X .left r)) ≡ D fr v
+    leaves : (fr : Frames) (v v′ : Values Xs) (r : X .Out .Denot) (zs : List ℕ) → v′ ≡ v → r ≡ X .made (D fr v′) → zs ≡ D fr v′ .frames .bits → framesDid (X .answer r) (frames zs (X .left r)) ≡ D fr v
     leaves fr v v′ r zs p e₁ e₂ =
-        (λ i. did ((ap (X .answer) e₁ ∙ X .made-answer (D fr v′)) i) (frames (e₂ i) ((ap (X .left) e₁ ∙ X .made-left (D fr v′)) i))) ∙ ap (D fr) p
+        (λ i. framesDid ((ap (X .answer) e₁ ∙ X .made-answer (D fr v′)) i) (frames (e₂ i) ((ap (X .left) e₁ ∙ X .made-left (D fr v′)) i))) ∙ ap (D fr) p
 
     -- the contract that the proof cites
     abbrev Callee : {M : Type 1} (𝓤 : URA M) (H : Heap 𝓤) (A : Atoms 𝓤) → Contract 𝓤
@@ -233,7 +233,7 @@ module _ (X : Outcome) (Xs : List Passed) where
       goes = qed W ((‵ (flft κ′ q′) ⊛ ‵ ftrue) ∷ ‵ (R .own h (mach h ∷ [])) ∷ ‵ lent ∷ []) ∵ suffices ! _ (with-nothing 𝓤 _) $ frame ! $
           use0 W (‵ (own-all 1 (κ′, tt) Xs v)) (make-own 𝓤 H A W 1 (κ′, tt) Xs v g) $ move ! (1 ∷ 2 ∷ 0 ∷ []) $ fjoin3 ! $ done !
 
-      exits : (r : X .Out .Denot) (zs : List ℕ) → did (X .answer r) (frames zs (X .left r)) ≡ D (frames ys h) v
+      exits : (r : X .Out .Denot) (zs : List ℕ) → framesDid (X .answer r) (frames zs (X .left r)) ≡ D (frames ys h) v
           → ent 𝓤 (⋆ 𝓤 H A (‵ (fobs γ (R .coded .code (X .left r))) ∷ ‵ (fbor κ (Body (mem R) b o γ)) ∷ ‵ (flft κ q) ∷ (‵ (flft κ′ q′) ⊛ ‵ ftrue) ∷ ‵ (fres γ′ (B .coded .code zs)) ∷ ‵ (X .Ans .own (X .answer r) (X .ans (X .answer r) ∷ [])) ∷ [])) (Post (X .ans (X .answer r)))
       exits r zs e =
           qed W (‵ (fobs γ (R .coded .code (X .left r))) ∷ ‵ (fbor κ (Body (mem R) b o γ)) ∷ ‵ (flft κ q) ∷ (‵ (flft κ′ q′) ⊛ ‵ ftrue) ∷ ‵ (fres γ′ (B .coded .code zs)) ∷ ‵ (X .Ans .own (X .answer r) (X .ans (X .answer r) ∷ [])) ∷ []) ∵

@@ -8,8 +8,8 @@ use Rattle.bits.specs.Bit.{pick, unless, both}
 use Rattle.answer.specs.Numbers.{brokenRecord, noFreeFrame}
 use Rattle.answer.specs.declared.Answer.{Answer}
 use Rattle.answer.specs.declared.Answer.the-variants.{Met, Refused}
-use Rattle.answer.specs.declared.CountAnswer.{CountAnswer}
-use Rattle.answer.specs.declared.CountAnswer.the-variants.{Count, NoCount}
+use Rattle.answer.specs.declared.Outcome.{Outcome}
+use Rattle.answer.specs.declared.Outcome.the-variants.{Value, Stop}
 use Rattle.answer.specs.declared.FlagAnswer.{FlagAnswer}
 use Rattle.answer.specs.declared.FlagAnswer.the-variants.{Flag, NoFlag}
 use Rattle.address.specs.declared.FrameAnswer.{FrameAnswer}
@@ -27,13 +27,28 @@ pub record Frames : Type 0 where
 abbrev pub frames : List ℕ → FrameAllocator → Frames
 frames bm fa = record { bits = bm; fa = fa }
 
+-- the record of `init`: nothing is marked
+abbrev pub unused : ℕ → ℕ → FrameAllocator
+unused start total = record { start = start; total = total; allocated = 0 }
+
+-- the record with n frames counted
+abbrev pub withCounter : FrameAllocator → ℕ → FrameAllocator
+withCounter fa n = record { start = fa .start; total = fa .total; allocated = n }
+
+-- 'end above 2^52' is 10: addresses end there, and the numbers of frames at 2^40
+abbrev pub addressEnd : ℕ
+addressEnd = 2 ^ 52
+
+abbrev pub framesEnd : ℕ
+framesEnd = 2 ^ 40
+
 -- what a call answers, and the allocator that it leaves
-pub record Did (A : Type 0) : Type 0 where
+pub record FramesDid (A : Type 0) : Type 0 where
   pub answer : A
   pub frames : Frames
 
-abbrev pub did : {A : Type 0} → A → Frames → Did A
-did a fr = record { answer = a; frames = fr }
+abbrev pub framesDid : {A : Type 0} → A → Frames → FramesDid A
+framesDid a fr = record { answer = a; frames = fr }
 
 -- whether frame n is one of the `total` from `start` on
 abbrev pub inside : ℕ → ℕ → ℕ → Bool
@@ -43,30 +58,30 @@ inside start total n = both (leb start n) (ltb (n - start) total)
 unfoldable pub sound : Frames → Bool
 sound fr =
     both (leb (fr .fa .total) 8192)
-    (both (leb (fr .fa .start + fr .fa .total) (2 ^ 40))
+    (both (leb (fr .fa .start + fr .fa .total) framesEnd)
     (eqb (fr .fa .allocated) (count (fr .bits) (fr .fa .total))))
 
 -- 'start_frame is start/4096 and total is (end − start)/4096, at most 8192, both rounded down'; 10 for 'start above end, end above 2^52'
-unfoldable pub init : Frames → ℕ → ℕ → Did Answer
+unfoldable pub init : Frames → ℕ → ℕ → FramesDid Answer
 init fr s e =
-    unless (both (leb s e) (leb e (2 ^ 52))) (did (Refused brokenRecord) fr)
-    (did Met (frames (replicate 128 0) (record { start = s / 4096; total = min ((e - s) / 4096) 8192; allocated = 0 })))
+    unless (both (leb s e) (leb e addressEnd)) (framesDid (Refused brokenRecord) fr)
+    (framesDid Met (frames (replicate 128 0) (unused (s / 4096) (min ((e - s) / 4096) 8192))))
 
 -- frame start + j marked, or free again; 'only a bit that changes moves the counter'
 unfoldable pub withMark : Frames → ℕ → Frames
 withMark fr j =
-    frames (mark (fr .bits) j) (record { start = fr .fa .start; total = fr .fa .total; allocated = fr .fa .allocated + 1 })
+    frames (mark (fr .bits) j) (withCounter (fr .fa) (fr .fa .allocated + 1))
 
 unfoldable pub withoutMark : Frames → ℕ → Frames
 withoutMark fr j =
-    frames (unmark (fr .bits) j) (record { start = fr .fa .start; total = fr .fa .total; allocated = fr .fa .allocated - 1 })
+    frames (unmark (fr .bits) j) (withCounter (fr .fa) (fr .fa .allocated - 1))
 
 -- 'takes the lowest free frame, else 11'
-unfoldable pub takeFrame : Frames → Did FrameAnswer
+unfoldable pub takeFrame : Frames → FramesDid FrameAnswer
 takeFrame fr =
     pick (ltb (freeFrom (fr .bits) 0 (fr .fa .total)) (fr .fa .total))
-    (did (AtFrame (record { 0 = fr .fa .start + freeFrom (fr .bits) 0 (fr .fa .total) })) (withMark fr (freeFrom (fr .bits) 0 (fr .fa .total))))
-    (did (NoFrame noFreeFrame) fr)
+    (framesDid (AtFrame (record { 0 = fr .fa .start + freeFrom (fr .bits) 0 (fr .fa .total) })) (withMark fr (freeFrom (fr .bits) 0 (fr .fa .total))))
+    (framesDid (NoFrame noFreeFrame) fr)
 
 -- 'a frame below start_frame or at index total or above reads as allocated'
 unfoldable pub frameMarked : Frames → ℕ → Bool
@@ -77,40 +92,40 @@ unfoldable pub markFrame : Frames → ℕ → Frames
 markFrame fr n = pick (frameMarked fr n) fr (withMark fr (n - fr .fa .start))
 
 -- a frame given back, with what it was found to be
-unfoldable pub giveFrame : Frames → ℕ → Did Found
+unfoldable pub giveFrame : Frames → ℕ → FramesDid Found
 giveFrame fr n =
     pick (inside (fr .fa .start) (fr .fa .total) n)
-    (pick (isMarked (fr .bits) (n - fr .fa .start)) (did Freed (withoutMark fr (n - fr .fa .start))) (did AlreadyFree fr))
-    (did NotHere fr)
+    (pick (isMarked (fr .bits) (n - fr .fa .start)) (framesDid Freed (withoutMark fr (n - fr .fa .start))) (framesDid AlreadyFree fr))
+    (framesDid NotHere fr)
 
 -- The calls: 10 before every other check.
 unfoldable pub isAllocated : Frames → ℕ → FlagAnswer
 isAllocated fr n = unless (sound fr) (NoFlag brokenRecord) (Flag (frameMarked fr n))
 
-unfoldable pub markAllocated : Frames → ℕ → Did Answer
-markAllocated fr n = unless (sound fr) (did (Refused brokenRecord) fr) (did Met (markFrame fr n))
+unfoldable pub markAllocated : Frames → ℕ → FramesDid Answer
+markAllocated fr n = unless (sound fr) (framesDid (Refused brokenRecord) fr) (framesDid Met (markFrame fr n))
 
-unfoldable pub allocate : Frames → Did FrameAnswer
-allocate fr = unless (sound fr) (did (NoFrame brokenRecord) fr) (takeFrame fr)
+unfoldable pub allocate : Frames → FramesDid FrameAnswer
+allocate fr = unless (sound fr) (framesDid (NoFrame brokenRecord) fr) (takeFrame fr)
 
-unfoldable pub deallocate : Frames → ℕ → Did Answer
-deallocate fr n = unless (sound fr) (did (Refused brokenRecord) fr) (did Met (giveFrame fr n .frames))
+unfoldable pub deallocate : Frames → ℕ → FramesDid Answer
+deallocate fr n = unless (sound fr) (framesDid (Refused brokenRecord) fr) (framesDid Met (giveFrame fr n .frames))
 
 -- the three counts
-unfoldable pub counted : Frames → ℕ → CountAnswer
-counted fr n = unless (sound fr) (NoCount brokenRecord) (Count n)
+unfoldable pub counted : Frames → ℕ → Outcome
+counted fr n = unless (sound fr) (Stop brokenRecord) (Value n)
 
-abbrev pub freeFrames : Frames → CountAnswer
+abbrev pub freeFrames : Frames → Outcome
 freeFrames fr = counted fr (fr .fa .total - fr .fa .allocated)
 
-abbrev pub allocatedFrames : Frames → CountAnswer
+abbrev pub allocatedFrames : Frames → Outcome
 allocatedFrames fr = counted fr (fr .fa .allocated)
 
-abbrev pub totalFrames : Frames → CountAnswer
+abbrev pub totalFrames : Frames → Outcome
 totalFrames fr = counted fr (fr .fa .total)
 
 -- what the inner functions ask of a tested record: sizes in range, and room for n more in the counter
-pub record Held (fa : FrameAllocator) (n : ℕ) : Type 0 where
+pub record RoomToCount (fa : FrameAllocator) (n : ℕ) : Type 0 where
   pub few : fa .total ≤ 8192
-  pub low : fa .start + fa .total ≤ 2 ^ 40
+  pub low : fa .start + fa .total ≤ framesEnd
   pub room : fa .allocated + n < 2 ^ 64

@@ -3,12 +3,13 @@ use crate::Allocated;
 use crate::Found;
 use crate::FrameAllocator;
 use crate::Given;
+use crate::Marks;
 use address::Frame;
 use address::FrameAnswer;
 ghost use mathlib.Core.Path.{_≡_};
 ghost use Prim.Native.Nat.{_+_, _-_, _^_, _<_, _≤_};
 ghost use Rattle.bitmap.specs.Bitmap.{marked};
-ghost use Rattle.frame.specs.Frames.{frames as framesOf, inside, withMark, Held, frameMarked, markFrame, takeFrame, giveFrame};
+ghost use Rattle.frame.specs.Frames.{frames as framesOf, inside, withMark, RoomToCount, frameMarked, markFrame, takeFrame, giveFrame};
 ghost use Rattle.frame.specs.Results.{allocated as allocatedOf, given as givenOf};
 
 // Whether frame `number` is one of the `total` from `start` on: one comparison, since a difference that wraps is at least `total`.
@@ -19,8 +20,8 @@ pub fn is_inside(start: u64, total: u64, number: u64) -> bool
     std::num::wrapping_sub_u64(number, start) < total
 }
 
-pub fn frame_marked(bitmap: &[u64; 128], frames: FrameAllocator, number: u64) -> bool
-    requires { ⌜ Held frames 0 ⌝ }
+pub fn frame_marked(bitmap: &Marks, frames: FrameAllocator, number: u64) -> bool
+    requires { ⌜ RoomToCount frames 0 ⌝ }
     ensures { λ r. ⌜ r ≡ frameMarked (framesOf (now (bitmap .entry)) frames) number ⌝ }
 {
     if !is_inside(frames.start, frames.total, number) {
@@ -30,10 +31,10 @@ pub fn frame_marked(bitmap: &[u64; 128], frames: FrameAllocator, number: u64) ->
 }
 
 // The free frame at slot i, marked and counted.
-fn mark_slot(bitmap: &mut [u64; 128], mut frames: FrameAllocator, i: usize) -> FrameAllocator
+fn mark_slot(bitmap: &mut Marks, mut frames: FrameAllocator, i: usize) -> FrameAllocator
     requires { ⌜ i < 8192 ⌝ }
     requires { ⌜ marked (now bitmap) i ≡ 0 ⌝ }
-    requires { ⌜ Held frames 1 ⌝ }
+    requires { ⌜ RoomToCount frames 1 ⌝ }
     ensures { λ r. ⌜ r ≡ withMark (framesOf (now (bitmap .entry)) frames) i .fa ⌝ }
     ensures { λ r. ⌜ now (bitmap .exit) ≡ withMark (framesOf (now (bitmap .entry)) frames) i .bits ⌝ }
 {
@@ -42,8 +43,8 @@ fn mark_slot(bitmap: &mut [u64; 128], mut frames: FrameAllocator, i: usize) -> F
     frames
 }
 
-pub fn mark_frame(bitmap: &mut [u64; 128], frames: FrameAllocator, number: u64) -> FrameAllocator
-    requires { ⌜ Held frames 1 ⌝ }
+pub fn mark_frame(bitmap: &mut Marks, frames: FrameAllocator, number: u64) -> FrameAllocator
+    requires { ⌜ RoomToCount frames 1 ⌝ }
     ensures { λ r. ⌜ r ≡ markFrame (framesOf (now (bitmap .entry)) frames) number .fa ⌝ }
     ensures { λ r. ⌜ now (bitmap .exit) ≡ markFrame (framesOf (now (bitmap .entry)) frames) number .bits ⌝ }
 {
@@ -53,8 +54,8 @@ pub fn mark_frame(bitmap: &mut [u64; 128], frames: FrameAllocator, number: u64) 
     mark_slot(bitmap, frames, (number - frames.start) as usize)
 }
 
-pub fn take_frame(bitmap: &mut [u64; 128], frames: FrameAllocator) -> Allocated
-    requires { ⌜ Held frames 1 ⌝ }
+pub fn take_frame(bitmap: &mut Marks, frames: FrameAllocator) -> Allocated
+    requires { ⌜ RoomToCount frames 1 ⌝ }
     ensures { λ r. ⌜ r ≡ allocatedOf (takeFrame (framesOf (now (bitmap .entry)) frames)) ⌝ }
     ensures { λ r. ⌜ now (bitmap .exit) ≡ takeFrame (framesOf (now (bitmap .entry)) frames) .frames .bits ⌝ }
 {
@@ -72,8 +73,8 @@ pub fn take_frame(bitmap: &mut [u64; 128], frames: FrameAllocator) -> Allocated
     }
 }
 
-pub fn give_frame(bitmap: &mut [u64; 128], mut frames: FrameAllocator, frame: Frame) -> Given
-    requires { ⌜ Held frames 0 ⌝ }
+pub fn give_frame(bitmap: &mut Marks, mut frames: FrameAllocator, frame: Frame) -> Given
+    requires { ⌜ RoomToCount frames 0 ⌝ }
     ensures { λ r. ⌜ r ≡ givenOf (giveFrame (framesOf (now (bitmap .entry)) frames) (frame .0)) ⌝ }
     ensures { λ r. ⌜ now (bitmap .exit) ≡ giveFrame (framesOf (now (bitmap .entry)) frames) (frame .0) .frames .bits ⌝ }
 {

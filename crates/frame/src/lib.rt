@@ -1,4 +1,5 @@
 // The frame allocator of frame.rs: a small record beside the bitmap words lent to it. Each call tests the record first and answers 10 if it is broken.
+// Callers make the calls by `lent`, on a record that they lend, or by `held`, on one that they hand over and get back.
 pub mod held;
 pub mod inner;
 pub mod lent;
@@ -6,8 +7,8 @@ pub mod lent;
 use address::Frame;
 use address::FrameAnswer;
 use answer::Answer;
-use answer::CountAnswer;
 use answer::FlagAnswer;
+use answer::Outcome;
 ghost use mathlib.Core.Path.{_≡_};
 ghost use Prim.Native.Nat.{min};
 ghost use Rattle.frame.specs.Frames.{frames as framesOf, sound, init as initOf, isAllocated, markAllocated, allocate, deallocate, freeFrames, allocatedFrames, totalFrames};
@@ -18,8 +19,13 @@ pub const FRAME_SIZE: u64 = 4096;
 // The most frames that a bitmap tracks.
 pub const MAX_FRAMES: u64 = 8192;
 
-// Frames end at most at address 2^52.
-pub const LAST_FRAME: u64 = 0x100_0000_0000;
+// Frames end at most at address 2^52: the address, and the number of the frame there.
+pub const ADDRESS_END: u64 = 0x10_0000_0000_0000;
+
+pub const FRAMES_END: u64 = 0x100_0000_0000;
+
+// The bitmap's words.
+pub type Marks = [u64; 128];
 
 // The `total` frames from number `start` on, `allocated` of them marked.
 pub struct FrameAllocator {
@@ -63,20 +69,20 @@ impl FrameAllocator {
     }
 
     // Whether the record is not broken.
-    pub fn is_sound(self, bitmap: &[u64; 128]) -> bool
+    pub fn is_sound(self, bitmap: &Marks) -> bool
         ensures { λ r. ⌜ r ≡ sound (framesOf (now (bitmap .entry)) self) ⌝ }
     {
         let total = self.total;
         if total > MAX_FRAMES {
             return false;
         }
-        if self.start > LAST_FRAME - total {
+        if self.start > FRAMES_END - total {
             return false;
         }
         self.allocated == bitmap::count(bitmap, total as usize) as u64
     }
 
-    pub fn init(self, bitmap: &mut [u64; 128], from: u64, to: u64) -> Changed
+    fn init(self, bitmap: &mut Marks, from: u64, to: u64) -> Changed
         ensures { λ r. ⌜ r ≡ changed (initOf (framesOf (now (bitmap .entry)) self) from to) ⌝ }
         ensures { λ r. ⌜ now (bitmap .exit) ≡ initOf (framesOf (now (bitmap .entry)) self) from to .frames .bits ⌝ }
     {
@@ -86,7 +92,7 @@ impl FrameAllocator {
                 frames: self,
             };
         }
-        if to > 0x10_0000_0000_0000 {
+        if to > ADDRESS_END {
             return Changed {
                 answer: Answer::Refused(answer::BROKEN_RECORD),
                 frames: self,
@@ -103,7 +109,7 @@ impl FrameAllocator {
         }
     }
 
-    pub fn is_allocated(self, bitmap: &[u64; 128], number: u64) -> FlagAnswer
+    fn is_allocated(self, bitmap: &Marks, number: u64) -> FlagAnswer
         ensures { λ r. ⌜ r ≡ isAllocated (framesOf (now (bitmap .entry)) self) number ⌝ }
     {
         if !self.is_sound(bitmap) {
@@ -112,7 +118,7 @@ impl FrameAllocator {
         FlagAnswer::Flag(inner::frame_marked(bitmap, self, number))
     }
 
-    pub fn mark_allocated(self, bitmap: &mut [u64; 128], number: u64) -> Changed
+    fn mark_allocated(self, bitmap: &mut Marks, number: u64) -> Changed
         ensures { λ r. ⌜ r ≡ changed (markAllocated (framesOf (now (bitmap .entry)) self) number) ⌝ }
         ensures { λ r. ⌜ now (bitmap .exit) ≡ markAllocated (framesOf (now (bitmap .entry)) self) number .frames .bits ⌝ }
     {
@@ -128,7 +134,7 @@ impl FrameAllocator {
         }
     }
 
-    pub fn allocate_frame(self, bitmap: &mut [u64; 128]) -> Allocated
+    fn allocate_frame(self, bitmap: &mut Marks) -> Allocated
         ensures { λ r. ⌜ r ≡ allocatedOf (allocate (framesOf (now (bitmap .entry)) self)) ⌝ }
         ensures { λ r. ⌜ now (bitmap .exit) ≡ allocate (framesOf (now (bitmap .entry)) self) .frames .bits ⌝ }
     {
@@ -141,7 +147,7 @@ impl FrameAllocator {
         inner::take_frame(bitmap, self)
     }
 
-    pub fn deallocate_frame(self, bitmap: &mut [u64; 128], frame: Frame) -> Changed
+    fn deallocate_frame(self, bitmap: &mut Marks, frame: Frame) -> Changed
         ensures { λ r. ⌜ r ≡ changed (deallocate (framesOf (now (bitmap .entry)) self) (frame .0)) ⌝ }
         ensures { λ r. ⌜ now (bitmap .exit) ≡ deallocate (framesOf (now (bitmap .entry)) self) (frame .0) .frames .bits ⌝ }
     {
@@ -159,31 +165,31 @@ impl FrameAllocator {
         }
     }
 
-    pub fn free_frames(self, bitmap: &[u64; 128]) -> CountAnswer
+    fn free_frames(self, bitmap: &Marks) -> Outcome
         ensures { λ r. ⌜ r ≡ freeFrames (framesOf (now (bitmap .entry)) self) ⌝ }
     {
         if !self.is_sound(bitmap) {
-            return CountAnswer::NoCount(answer::BROKEN_RECORD);
+            return Outcome::Stop(answer::BROKEN_RECORD);
         }
-        CountAnswer::Count(self.total - self.allocated)
+        Outcome::Value(self.total - self.allocated)
     }
 
-    pub fn allocated_frames(self, bitmap: &[u64; 128]) -> CountAnswer
+    fn allocated_frames(self, bitmap: &Marks) -> Outcome
         ensures { λ r. ⌜ r ≡ allocatedFrames (framesOf (now (bitmap .entry)) self) ⌝ }
     {
         if !self.is_sound(bitmap) {
-            return CountAnswer::NoCount(answer::BROKEN_RECORD);
+            return Outcome::Stop(answer::BROKEN_RECORD);
         }
-        CountAnswer::Count(self.allocated)
+        Outcome::Value(self.allocated)
     }
 
-    pub fn total_frames(self, bitmap: &[u64; 128]) -> CountAnswer
+    fn total_frames(self, bitmap: &Marks) -> Outcome
         ensures { λ r. ⌜ r ≡ totalFrames (framesOf (now (bitmap .entry)) self) ⌝ }
     {
         if !self.is_sound(bitmap) {
-            return CountAnswer::NoCount(answer::BROKEN_RECORD);
+            return Outcome::Stop(answer::BROKEN_RECORD);
         }
-        CountAnswer::Count(self.total)
+        Outcome::Value(self.total)
     }
 }
 

@@ -7,15 +7,16 @@ use native.Mathlib.Nat.{mod-eq-of-lt}
 use native.Mathlib.Omega.{arith}
 use lib.ListN.{getD, set, take}
 use Rattle.answer.specs.Numbers.{brokenRecord, reservedBit, outside}
+use Rattle.answer.specs.Outcomes.{asAnswer}
 use Rattle.answer.specs.declared.Answer.{Answer}
 use Rattle.entry.specs.Entry.{entryOf, indices}
 use Rattle.frame.specs.Frames.{inside}
 use Rattle.mapper.proofs.Laws.{stepped}
-use Rattle.paging.specs.declared.Walked.{Walked}
-use Rattle.paging.specs.declared.Walked.the-variants.{At, Stop}
+use Rattle.answer.specs.declared.Outcome.{Outcome}
+use Rattle.answer.specs.declared.Outcome.the-variants.{Value, Stop}
 use Rattle.paging.specs.Walk.{place}
-use Rattle.paging.specs.Map.{Memory, memory, startOf, totalOf, Out, out, goOn, clear, make}
-use Rattle.paging.specs.Calls.{asAnswer, changed, whole}
+use Rattle.paging.specs.Map.{Memory, memory, startFrame, totalOf, Out, out, goOn, clear, make}
+use Rattle.paging.specs.Calls.{asChanged, whole}
 use Rattle.paging.proofs.Map.{make-kept}
 use Rattle.paging.proofs.Calls.{told}
 use Rattle.cow.specs.Marked.{pageOf}
@@ -25,25 +26,25 @@ use Rattle.handler.specs.Handler.{overwrite, putOver, mapOver, mapNew, r
 -- ---- the mapping
 
 -- a lent frame stays lent while tables are made
-pub made-lent : (u : Bool) (m : Memory) (t : ℕ) (p : List ℕ) {w : Walked} {m′ : Memory} → out w m′ ≡ make u m t p → (f : ℕ)
-    → inside (startOf m) (totalOf m) f ≡ true → inside (startOf m′) (totalOf m′) f ≡ true
+pub made-lent : (u : Bool) (m : Memory) (t : ℕ) (p : List ℕ) {w : Outcome} {m′ : Memory} → out w m′ ≡ make u m t p → (f : ℕ)
+    → inside (startFrame m) (totalOf m) f ≡ true → inside (startFrame m′) (totalOf m′) f ≡ true
 made-lent u m t p e f h =
     let k = make-kept u p m t in
-    subst (λ (y : Memory). inside (startOf y) (totalOf y) f ≡ true) (sym (ap (λ (o : Out). o .mem) e)) (rw (k .start, k .total) h)
+    subst (λ (y : Memory). inside (startFrame y) (totalOf y) f ≡ true) (sym (ap (λ (o : Out). o .mem) e)) (rw (k .start, k .total) h)
 
 module _ (m : Memory) (t i e f : ℕ) where
-  pub put-over-out : inside (startOf m) (totalOf m) t ≡ false → putOver m t i e f ≡ out (Stop outside) m
+  pub put-over-out : inside (startFrame m) (totalOf m) t ≡ false → putOver m t i e f ≡ out (Stop outside) m
   unfolding overwrite
   put-over-out h = rw h
 
   -- after `zero_frame`
-  pub put-over-in : inside (startOf m) (totalOf m) t ≡ true → {at to : ℕ} → at ≡ place (startOf m) t i → to ≡ place (startOf m) f 0
-      → putOver m t i e f ≡ out (At 0) (memory (clear (set (m .words) at e) to 512) (m .frames))
+  pub put-over-in : inside (startFrame m) (totalOf m) t ≡ true → {at to : ℕ} → at ≡ place (startFrame m) t i → to ≡ place (startFrame m) f 0
+      → putOver m t i e f ≡ out (Value 0) (memory (clear (set (m .words) at e) to 512) (m .frames))
   unfolding overwrite
-  put-over-in h {to = to} a b = let z : to ≡ (f - startOf m) * 512 = omega arith in rw (h, a, z)
+  put-over-in h {to = to} a b = let z : to ≡ (f - startFrame m) * 512 = omega arith in rw (h, a, z)
 
 -- after `make_tables`
-module _ (up : ℕ) (m : Memory) (root v f : ℕ) (w u : Bool) {is : List ℕ} (g : is ≡ indices (suc up) v) {x : Walked} {m′ : Memory}
+module _ (up : ℕ) (m : Memory) (root v f : ℕ) (w u : Bool) {is : List ℕ} (g : is ≡ indices (suc up) v) {x : Outcome} {m′ : Memory}
     (h : out x m′ ≡ make u m root (take up is)) where
   pub map-over-stop : {n : ℕ} → x ≡ Stop n → out (Stop n) m′ ≡ mapOver up m root v f w u
   unfolding mapOver
@@ -52,7 +53,7 @@ module _ (up : ℕ) (m : Memory) (root v f : ℕ) (w u : Bool) {is : List ℕ} (
       ∙ ap (λ (l : List ℕ). goOn (make u m root (take up l)) (λ t n. putOver n t (getD l up 0) (entryOf (f * 2 ^ 12) w u) f)) g
 
   -- .. `start_address`, `set` and `put_over`
-  pub map-over-put : {t : ℕ} → x ≡ At t → f < 2 ^ 40 → {a e : ℕ} → a ≡ f * 2 ^ 12 % 2 ^ 64 → e ≡ entryOf a w u
+  pub map-over-put : {t : ℕ} → x ≡ Value t → f < 2 ^ 40 → {a e : ℕ} → a ≡ f * 2 ^ 12 % 2 ^ 64 → e ≡ entryOf a w u
       → {o : Out} → o ≡ putOver m′ t (getD is up 0) e f → o ≡ mapOver up m root v f w u
   unfolding mapOver
   map-over-put k low {e = e} p q r =
@@ -64,7 +65,7 @@ module _ (up : ℕ) (m : Memory) (root v : ℕ) (w u : Bool) (m′ : Memory) whe
   pub map-new-none : (n : ℕ) → rawFrame m ≡ out (Stop n) m′ → mapNew up m root v w u ≡ out (Stop n) m′
   map-new-none n e = rw e
 
-  pub map-new-on : (f : ℕ) → rawFrame m ≡ out (At f) m′ → mapNew up m root v w u ≡ mapOver up m′ root v f w u
+  pub map-new-on : (f : ℕ) → rawFrame m ≡ out (Value f) m′ → mapNew up m root v w u ≡ mapOver up m′ root v f w u
   map-new-on f e = rw e
 
 -- ---- the path
@@ -78,9 +79,9 @@ module _ (up : ℕ) (m : Memory) (root v code : ℕ) where
     second-present k e = rw (h, k, e)
 
     -- after `map_page` and `as_answer`
-    pub second-absent : isPresent code ≡ false → {w u : Bool} → w ≡ isWrite code → u ≡ isUser code → {x : Walked} {m′ : Memory} → out x m′ ≡ mapNew up m root v w u
+    pub second-absent : isPresent code ≡ false → {w u : Bool} → w ≡ isWrite code → u ≡ isUser code → {x : Outcome} {m′ : Memory} → out x m′ ≡ mapNew up m root v w u
         → {a : Answer} → a ≡ asAnswer x
-        → (record { answer = a; frames = m′ .frames .fa } ≡ changed (handledSecond up m root v code))
+        → (record { answer = a; frames = m′ .frames .fa } ≡ asChanged (handledSecond up m root v code))
         × ((m′ .words ≡ handledSecond up m root v code .mem .words) × (m′ .frames .bits ≡ handledSecond up m root v code .mem .frames .bits))
     second-absent k p q {x = x} {m′ = m′} e r =
         let d : handledSecond up m root v code ≡ out x m′ = rw (h, k, ← p, ← q) (sym e) in

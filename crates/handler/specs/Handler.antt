@@ -7,9 +7,9 @@ use Rattle.bits.specs.Bit.{pick, unless}
 use Rattle.answer.specs.Numbers.{reservedBit, brokenRecord, writeToReadOnly, outside}
 use Rattle.entry.specs.Entry.{entryOf, indices}
 use Rattle.frame.specs.Frames.{inside}
-use Rattle.paging.specs.declared.Walked.the-variants.{At, Stop}
+use Rattle.answer.specs.declared.Outcome.the-variants.{Value, Stop}
 use Rattle.paging.specs.Walk.{place}
-use Rattle.paging.specs.Map.{Memory, memory, startOf, totalOf, Out, out, goOn, zeroFrame, make, Left, left, withWords}
+use Rattle.paging.specs.Map.{Memory, memory, startFrame, totalOf, Out, out, goOn, zeroFrame, make, Left, left, withWords}
 use Rattle.paging.specs.Calls.{whole}
 use Rattle.cow.specs.Marked.{pageOf}
 use Rattle.fault.specs.Faults.{isPresent, isWrite, isUser, isReserved, denied, rawFrame}
@@ -18,13 +18,13 @@ use Rattle.fault.specs.Faults.{isPresent, isWrite, isUser, isReserved, denied, 
 unfoldable pub overwrite : List ℕ → ℕ → ℕ → ℕ → ℕ → ℕ → Left
 overwrite ws start total t i e =
     unless (inside start total t) (left (Stop outside) ws)
-    (left (At 0) (set ws (place start t i) e))
+    (left (Value 0) (set ws (place start t i) e))
 
 -- the same, and frame f zeroed
 abbrev pub putOver : Memory → ℕ → ℕ → ℕ → ℕ → Out
 putOver m t i e f =
-    goOn (withWords m (overwrite (m .words) (startOf m) (totalOf m) t i e)) (λ _ m′.
-    out (At 0) (memory (zeroFrame (m′ .words) (startOf m′) f) (m′ .frames)))
+    goOn (withWords m (overwrite (m .words) (startFrame m) (totalOf m) t i e)) (λ _ m′.
+    out (Value 0) (memory (zeroFrame (m′ .words) (startFrame m′) f) (m′ .frames)))
 
 -- page v mapped to frame f over whatever stands there, and the frame zeroed
 unfoldable pub mapOver : ℕ → Memory → ℕ → ℕ → ℕ → Bool → Bool → Out

@@ -3,43 +3,47 @@ use address::Frame;
 use address::PhysAddr;
 use address::VirtAddr;
 use answer::Answer;
+use answer::Outcome;
 use entry::paging::PageTableEntry;
 use fault::error_code;
 use fault::inner;
 use frame::Changed;
 use frame::FrameAllocator;
+use frame::Marks;
 use paging::Entered;
-use paging::Walked;
 ghost use mathlib.Core.Path.{_≡_};
 ghost use mathlib.Core.Bool.{true};
 ghost use mathlib.Core.List.{List};
 ghost use Prim.Native.Nat.{ℕ, _<_};
-ghost use Rattle.frame.specs.Frames.{frames as framesOf, inside};
-ghost use Rattle.paging.specs.Walk.{Lent};
-ghost use Rattle.paging.specs.Map.{memory, out, Roomy};
-ghost use Rattle.paging.specs.Calls.{changed};
+ghost use Rattle.frame.specs.Frames.{inside};
+ghost use Rattle.paging.specs.Walk.{WordsLent};
+ghost use Rattle.paging.specs.Levels.{aboveLast};
+ghost use Rattle.paging.specs.Map.{out, RoomToTake};
+ghost use Rattle.paging.specs.Kept.{lentMemory};
+ghost use Rattle.paging.specs.Calls.{asChanged};
+ghost use Rattle.fault.specs.Packed.{outOf};
 ghost use Rattle.handler.specs.Handler.{refused, putOver, mapOver, mapNew, handledSecond, handleFaultSecond};
 
 // The word e at entry i of table t, over what stands there, and frame f zeroed.
-fn put_over(words: &mut [u64], frames: FrameAllocator, t: u64, i: usize, e: u64, f: u64) -> Walked
-    requires { ⌜ Lent (now words) (frames .start) (frames .total) ⌝ }
+fn put_over(words: &mut [u64], frames: FrameAllocator, t: u64, i: usize, e: u64, f: u64) -> Outcome
+    requires { ⌜ WordsLent (now words) (frames .start) (frames .total) ⌝ }
     requires { ⌜ i < 512 ⌝ }
     requires { ⌜ inside (frames .start) (frames .total) f ≡ true ⌝ }
-    ensures { λ r. ⌜ ((b : List ℕ) → out r (memory (now (words .exit)) (framesOf b frames)) ≡ putOver (memory (now (words .entry)) (framesOf b frames)) t i e f) ⌝ }
+    ensures { λ r. ⌜ ((b : List ℕ) → out r (lentMemory (now (words .exit)) b frames) ≡ putOver (lentMemory (now (words .entry)) b frames) t i e f) ⌝ }
 {
     if !frame::inner::is_inside(frames.start, frames.total, t) {
-        return Walked::Stop(answer::OUTSIDE);
+        return Outcome::Stop(answer::OUTSIDE);
     }
     let at = walk::entry_place(frames.start, t, i);
     words[at] = e;
     mapper::inner::zero_frame(words, walk::entry_place(frames.start, f, 0));
-    Walked::At(0)
+    Outcome::Value(0)
 }
 
 // A page mapped to frame f over whatever stands there, and the frame zeroed.
 fn map_over(
     words: &mut [u64],
-    bitmap: &mut [u64; 128],
+    bitmap: &mut Marks,
     frames: FrameAllocator,
     root: Frame,
     virt: VirtAddr,
@@ -47,20 +51,21 @@ fn map_over(
     writable: bool,
     user: bool,
 ) -> Entered
-    requires { ⌜ Roomy (memory (now words) (framesOf (now bitmap) frames)) 3 ⌝ }
+    requires { ⌜ RoomToTake (lentMemory (now words) (now bitmap) frames) aboveLast ⌝ }
     requires { ⌜ inside (frames .start) (frames .total) f ≡ true ⌝ }
-    ensures { λ r. ⌜ out (r .walked) (memory (now (words .exit)) (framesOf (now (bitmap .exit)) (r .frames))) ≡ mapOver 3 (memory (now (words .entry)) (framesOf (now (bitmap .entry)) frames)) (root .0) (virt .0) f writable user ⌝ }
+    ensures { λ r. ⌜ outOf r (now (words .exit)) (now (bitmap .exit))
+        ≡ mapOver aboveLast (lentMemory (now (words .entry)) (now (bitmap .entry)) frames) (root .0) (virt .0) f writable user ⌝ }
 {
     let indices = entry::page_indices(virt);
     let made = mapper::inner::make_tables(words, bitmap, frames, root, indices, 3, user);
     let walked = made.walked;
     let left = made.frames;
     match walked {
-        Walked::Stop(n) => Entered {
-            walked: Walked::Stop(n),
+        Outcome::Stop(n) => Entered {
+            walked: Outcome::Stop(n),
             frames: left,
         },
-        Walked::At(t) => {
+        Outcome::Value(t) => {
             let e = PageTableEntry::set(PhysAddr(Frame(f).start_address()), writable, user);
             Entered {
                 walked: put_over(words, left, t, indices[3], e.0, f),
@@ -73,25 +78,26 @@ fn map_over(
 // A page mapped to the lowest free frame.
 fn map_page(
     words: &mut [u64],
-    bitmap: &mut [u64; 128],
+    bitmap: &mut Marks,
     frames: FrameAllocator,
     root: Frame,
     virt: VirtAddr,
     writable: bool,
     user: bool,
 ) -> Entered
-    requires { ⌜ Roomy (memory (now words) (framesOf (now bitmap) frames)) 4 ⌝ }
-    ensures { λ r. ⌜ out (r .walked) (memory (now (words .exit)) (framesOf (now (bitmap .exit)) (r .frames))) ≡ mapNew 3 (memory (now (words .entry)) (framesOf (now (bitmap .entry)) frames)) (root .0) (virt .0) writable user ⌝ }
+    requires { ⌜ RoomToTake (lentMemory (now words) (now bitmap) frames) 4 ⌝ }
+    ensures { λ r. ⌜ outOf r (now (words .exit)) (now (bitmap .exit))
+        ≡ mapNew aboveLast (lentMemory (now (words .entry)) (now (bitmap .entry)) frames) (root .0) (virt .0) writable user ⌝ }
 {
     let taken = inner::raw_frame(bitmap, frames);
     let walked = taken.walked;
     let left = taken.frames;
     match walked {
-        Walked::Stop(n) => Entered {
-            walked: Walked::Stop(n),
+        Outcome::Stop(n) => Entered {
+            walked: Outcome::Stop(n),
             frames: left,
         },
-        Walked::At(f) => map_over(words, bitmap, left, root, virt, f, writable, user),
+        Outcome::Value(f) => map_over(words, bitmap, left, root, virt, f, writable, user),
     }
 }
 
@@ -108,16 +114,18 @@ fn refusal(code: u64) -> u64
 // The second path, at a page.
 fn handle(
     words: &mut [u64],
-    bitmap: &mut [u64; 128],
+    bitmap: &mut Marks,
     frames: FrameAllocator,
     root: Frame,
     page: VirtAddr,
     code: u64,
 ) -> Changed
-    requires { ⌜ Roomy (memory (now words) (framesOf (now bitmap) frames)) 4 ⌝ }
-    ensures { λ r. ⌜ r ≡ changed (handledSecond 3 (memory (now (words .entry)) (framesOf (now (bitmap .entry)) frames)) (root .0) (page .0) code) ⌝ }
-    ensures { λ r. ⌜ now (words .exit) ≡ handledSecond 3 (memory (now (words .entry)) (framesOf (now (bitmap .entry)) frames)) (root .0) (page .0) code .mem .words ⌝ }
-    ensures { λ r. ⌜ now (bitmap .exit) ≡ handledSecond 3 (memory (now (words .entry)) (framesOf (now (bitmap .entry)) frames)) (root .0) (page .0) code .mem .frames .bits ⌝ }
+    requires { ⌜ RoomToTake (lentMemory (now words) (now bitmap) frames) 4 ⌝ }
+    ensures { λ r. ⌜ r ≡ asChanged (handledSecond aboveLast (lentMemory (now (words .entry)) (now (bitmap .entry)) frames) (root .0) (page .0) code) ⌝ }
+    ensures { λ r. ⌜ now (words .exit)
+        ≡ handledSecond aboveLast (lentMemory (now (words .entry)) (now (bitmap .entry)) frames) (root .0) (page .0) code .mem .words ⌝ }
+    ensures { λ r. ⌜ now (bitmap .exit)
+        ≡ handledSecond aboveLast (lentMemory (now (words .entry)) (now (bitmap .entry)) frames) (root .0) (page .0) code .mem .frames .bits ⌝ }
 {
     if error_code::is_reserved(code) {
         return Changed {
@@ -145,15 +153,17 @@ fn handle(
 // The second path. 10, 5; access that was denied is 17, 7 or 8; else the page is mapped.
 pub fn handle_page_fault(
     words: &mut [u64],
-    bitmap: &mut [u64; 128],
+    bitmap: &mut Marks,
     frames: FrameAllocator,
     root: Frame,
     addr: VirtAddr,
     code: u64,
 ) -> Changed
-    ensures { λ r. ⌜ r ≡ changed (handleFaultSecond 3 (memory (now (words .entry)) (framesOf (now (bitmap .entry)) frames)) (root .0) (addr .0) code) ⌝ }
-    ensures { λ r. ⌜ now (words .exit) ≡ handleFaultSecond 3 (memory (now (words .entry)) (framesOf (now (bitmap .entry)) frames)) (root .0) (addr .0) code .mem .words ⌝ }
-    ensures { λ r. ⌜ now (bitmap .exit) ≡ handleFaultSecond 3 (memory (now (words .entry)) (framesOf (now (bitmap .entry)) frames)) (root .0) (addr .0) code .mem .frames .bits ⌝ }
+    ensures { λ r. ⌜ r ≡ asChanged (handleFaultSecond aboveLast (lentMemory (now (words .entry)) (now (bitmap .entry)) frames) (root .0) (addr .0) code) ⌝ }
+    ensures { λ r. ⌜ now (words .exit)
+        ≡ handleFaultSecond aboveLast (lentMemory (now (words .entry)) (now (bitmap .entry)) frames) (root .0) (addr .0) code .mem .words ⌝ }
+    ensures { λ r. ⌜ now (bitmap .exit)
+        ≡ handleFaultSecond aboveLast (lentMemory (now (words .entry)) (now (bitmap .entry)) frames) (root .0) (addr .0) code .mem .frames .bits ⌝ }
 {
     if !mapper::is_whole(words, bitmap, frames, root) {
         return Changed {

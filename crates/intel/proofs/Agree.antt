@@ -10,8 +10,8 @@ use Rattle.bits.specs.Bit.{flag}
 use Rattle.answer.specs.Numbers.{notMapped, outside}
 use Rattle.entry.specs.Entry.{frameOf, addrOf, index, indices}
 use Rattle.frame.specs.Frames.{inside}
-use Rattle.paging.specs.declared.Walked.{Walked}
-use Rattle.paging.specs.declared.Walked.the-variants.{At, Stop}
+use Rattle.answer.specs.declared.Outcome.{Outcome}
+use Rattle.answer.specs.declared.Outcome.the-variants.{Value, Stop}
 use Rattle.paging.specs.declared.Leaf.{Leaf}
 use Rattle.paging.specs.Walk.{place, entryAt, reach, judge, leaf, address}
 use Rattle.paging.specs.Calls.{translate}
@@ -25,13 +25,13 @@ use Rattle.intel.proofs.Entries.{same-table}
 -- ---- one table after the other, from the last level up
 
 -- an outcome of the manual's is one of ours, unless ours is off the board
-abbrev Same : Translation → Walked → Type 0
+abbrev Same : Translation → Outcome → Type 0
 Same m w = (w ≡ Stop outside → ⊥) → m ≡ verdict w
 
 module _ (mem : Memory) (ws : List ℕ) (start total v : ℕ) (holds : Holds mem ws start total) where
   -- At entry i of table t. `through e` is the manual's outcome from an entry e on, and `on e` the one behind it where it is present.
   step : (through on : ℕ → Translation) (t i : ℕ) (is : List ℕ) → ((e : ℕ) → through e ≡ choose (p e) (on e) notPresent) → i < 512
-      → ((e : ℕ) → entryAt ws start total t i ≡ At e → Same (on e) (address v (judge is e (leaf ws start total (frameOf e) is))))
+      → ((e : ℕ) → entryAt ws start total t i ≡ Value e → Same (on e) (address v (judge is e (leaf ws start total (frameOf e) is))))
       → Same (through (mem (t * 2 ^ 12 + i * 2 ^ 3))) (address v (leaf ws start total t (i ∷ is)))
   step through on t i is law small behind stays = by-table (inside start total t) refl
     where
@@ -40,7 +40,7 @@ module _ (mem : Memory) (ws : List ℕ) (start total v : ℕ) (holds : Holds mem
 
       by-flag : inside start total t ≡ true → (x : Bool) → flag 0 w ≡ x → choose x (on w) notPresent ≡ verdict (address v (leaf ws start total t (i ∷ is)))
       by-flag h true k =
-          let e : entryAt ws start total t i ≡ At w = entry-in ws start total t i h small ∙ present-yes w k in
+          let e : entryAt ws start total t i ≡ Value w = entry-in ws start total t i h small ∙ present-yes w k in
           let l : leaf ws start total t (i ∷ is) ≡ judge is w (leaf ws start total (frameOf w) is) = leaf-on ws start total t refl w e in
           behind w e (λ z. stays (ap (address v) l ∙ z)) ∙ ap (λ (x : Leaf). verdict (address v x)) (sym l)
       by-flag h false k = rw (leaf-stop ws start total t {is = is} refl notMapped (entry-in ws start total t i h small ∙ present-no w k))
@@ -84,24 +84,24 @@ module _ (mem : Memory) (ws : List ℕ) (start total v : ℕ) (holds : Holds mem
 module _ (ws : List ℕ) (start total v : ℕ) where
   -- a table outside, along a path
   abbrev Off : ℕ → List ℕ → Type 0
-  Off t is = (k : ℕ) × (s : ℕ) × (k < length is) × (reach ws start total t (take k is) ≡ At s) × (inside start total s ≡ false)
+  Off t is = (k : ℕ) × (s : ℕ) × (k < length is) × (reach ws start total t (take k is) ≡ Value s) × (inside start total s ≡ false)
 
   abbrev Leaves : ℕ → List ℕ → Type 0
   Leaves t is = (address v (leaf ws start total t is) ≡ Stop outside) ↔ Off t is
 
   -- it is not the first table if that is inside
   off-past : (t i : ℕ) (is : List ℕ) → inside start total t ≡ true → Off t (i ∷ is)
-      → (k : ℕ) × (s : ℕ) × (k < length is) × (reach ws start total t (i ∷ take k is) ≡ At s) × (inside start total s ≡ false)
+      → (k : ℕ) × (s : ℕ) × (k < length is) × (reach ws start total t (i ∷ take k is) ≡ Value s) × (inside start total s ≡ false)
   off-past t i is h (zero, s, l, r, o) =
-      let e : At t ≡ At s = sym (reach-end ws start total t refl) ∙ r in
+      let e : Value t ≡ Value s = sym (reach-end ws start total t refl) ∙ r in
       let same : t ≡ s = cc in
       absurd (true≢false (sym h ∙ ap (inside start total) same ∙ o))
   off-past t i is h (suc k, s, l, r, o) = (k, s, omega arith, r, o)
 
   -- by the first entry, given the case that it is present
-  off-entry : (t i : ℕ) (is : List ℕ) → (inside start total t ≡ true → (w : ℕ) → entryAt ws start total t i ≡ At w → Leaves t (i ∷ is)) → Leaves t (i ∷ is)
+  off-entry : (t i : ℕ) (is : List ℕ) → (inside start total t ≡ true → (w : ℕ) → entryAt ws start total t i ≡ Value w → Leaves t (i ∷ is)) → Leaves t (i ∷ is)
   off-entry t i is there =
-      entry-outcomes ws start total t i (λ (w : Walked). entryAt ws start total t i ≡ w → Leaves t (i ∷ is))
+      entry-outcomes ws start total t i (λ (w : Outcome). entryAt ws start total t i ≡ w → Leaves t (i ∷ is))
       (λ h e. (λ _. (0, t, omega arith, reach-end ws start total t refl, h), λ _. ap (address v) (leaf-stop ws start total t refl outside e)))
       (λ h e. (
         λ z. absurd (not-outside (sym (ap (address v) (leaf-stop ws start total t refl notMapped e)) ∙ z)),
@@ -140,15 +140,15 @@ same-pages mem cr3 ws start total root v h stays a =
     let same : linear mem cr3 v ≡ verdict (translate 3 ws start total root v) = agrees mem cr3 ws start total root v h stays in
     (λ e. same ∙ ap verdict e, λ e. back (translate 3 ws start total root v) (sym same ∙ e))
   where
-    back : (w : Walked) → verdict w ≡ physical a → w ≡ At a
-    back (At b) e = let x : b ≡ a = cc in ap At x
+    back : (w : Outcome) → verdict w ≡ physical a → w ≡ Value a
+    back (Value b) e = let x : b ≡ a = cc in ap Value x
     back (Stop n) e = let z : _≡_ {A = ℕ} 0 1 = cc in absurd (omega arith)
 
 pub same-absent : SameAbsent
 same-absent mem cr3 ws start total root v h stays =
     let same : linear mem cr3 v ≡ verdict (translate 3 ws start total root v) = agrees mem cr3 ws start total root v h stays in (
       λ e. same ∙ ap verdict e,
-      λ e. ⊎-elim (λ (x : (a : ℕ) × (translate 3 ws start total root v ≡ At a)). absurd (mapped (x .0) (sym (ap verdict (x .1)) ∙ sym same ∙ e)))
+      λ e. ⊎-elim (λ (x : (a : ℕ) × (translate 3 ws start total root v ≡ Value a)). absurd (mapped (x .0) (sym (ap verdict (x .1)) ∙ sym same ∙ e)))
           (⊎-elim (λ x. x) (λ x. absurd (stays x))) (three-outcomes ws start total root v (h .whole)),
     )
   where

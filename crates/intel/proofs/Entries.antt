@@ -10,7 +10,7 @@ use Rattle.bits.specs.Bit.{flag}
 use Rattle.answer.specs.Numbers.{notMapped, outside}
 use Rattle.entry.specs.Entry.{frameOf, index, indices}
 use Rattle.frame.specs.Frames.{inside}
-use Rattle.paging.specs.declared.Walked.the-variants.{At, Stop}
+use Rattle.answer.specs.declared.Outcome.the-variants.{Value, Stop}
 use Rattle.paging.specs.Walk.{place, entryAt, judge, leaf, address}
 use Rattle.paging.proofs.Walk.{present-yes, present-no, entry-out, entry-in, leaf-stop, leaf-on}
 use Rattle.paging.proofs.Calls.{translate-is}
@@ -48,7 +48,7 @@ module _ (mem : Memory) (ws : List ℕ) (start total v : ℕ) (holds : Holds mem
 
   -- At entry i of table t. `behind e` are the addresses that are read behind an entry e where it is present.
   step : (t i : ℕ) (is : List ℕ) (behind : ℕ → List ℕ) → i < 512
-      → ((e : ℕ) → entryAt ws start total t i ≡ At e → (address v (judge is e (leaf ws start total (frameOf e) is)) ≡ Stop outside) ↔ Off (behind e))
+      → ((e : ℕ) → entryAt ws start total t i ≡ Value e → (address v (judge is e (leaf ws start total (frameOf e) is)) ≡ Stop outside) ↔ Off (behind e))
       → Leaves t (i ∷ is) (at t i ∷ choose (p (mem (at t i))) (behind (mem (at t i))) [])
   step t i is behind small next = by-table (inside start total t) refl
     where
@@ -63,7 +63,7 @@ module _ (mem : Memory) (ws : List ℕ) (start total v : ℕ) (holds : Holds mem
 
       by-flag : inside start total t ≡ true → (x : Bool) → flag 0 w ≡ x → Leaves t (i ∷ is) (a ∷ choose x (behind w) [])
       by-flag h true k =
-          let e : entryAt ws start total t i ≡ At w = entry-in ws start total t i h small ∙ present-yes w k in
+          let e : entryAt ws start total t i ≡ Value w = entry-in ws start total t i h small ∙ present-yes w k in
           let l : address v (leaf ws start total t (i ∷ is)) ≡ address v (judge is w (leaf ws start total (frameOf w) is)) = ap (address v) (leaf-on ws start total t refl w e) in
           (λ z. off-behind (next w e .0 (sym l ∙ z)), λ o. l ∙ next w e .1 (off-past a _ (ap (inside start total) frame ∙ h) o))
       by-flag h false k =

@@ -11,9 +11,9 @@ use lib.ListN.{getD, replicate}
 use borrow.Author.Tests.{eqb-true, eq-eqb, ne-eqb}
 use Rattle.bits.specs.Bit.{flag}
 use Rattle.entry.specs.Entry.{entryOf}
-use Rattle.paging.specs.declared.Walked.{Walked}
-use Rattle.paging.specs.declared.Walked.the-variants.{At}
-use Rattle.paging.specs.Walk.{place, present, entryAt, leaf, lent}
+use Rattle.answer.specs.declared.Outcome.{Outcome}
+use Rattle.answer.specs.declared.Outcome.the-variants.{Value}
+use Rattle.paging.specs.Walk.{place, present, entryAt, leaf, mayWalk}
 use Rattle.paging.specs.Calls.{translate}
 use Rattle.intel.specs.Sdm.{bits, Memory, physical, notPresent, or, canonical, linear, readPte, readPde, readPdpte, readPml4e, entriesRead}
 use Rattle.intel.proofs.Steps.{no-address, not-outside, entry-outcomes}
@@ -35,7 +35,7 @@ memory-holds ws start total = record {
 pub no-bit-7 : (ws : List ℕ) (start total up root : ℕ) → ((n : ℕ) → flag 7 (getD ws n 0) ≡ false) → NoHuge ws start total up root
 no-bit-7 ws start total up root h = record {
   plain = λ is t i e _ _.
-      entry-outcomes ws start total t i (λ (w : Walked). w ≡ At e → flag 7 e ≡ false) (λ _ x. absurd (no-address (sym x))) (λ _ x. absurd (no-address (sym x)))
+      entry-outcomes ws start total t i (λ (w : Outcome). w ≡ Value e → flag 7 e ≡ false) (λ _ x. absurd (no-address (sym x))) (λ _ x. absurd (no-address (sym x)))
       (λ _ x. let word : getD ws (place start t i) 0 ≡ e = cc in subst (λ (n : ℕ). flag 7 n ≡ false) word (h (place start t i)));
 }
 
@@ -72,15 +72,15 @@ words-plain zero = refl
 words-plain (suc n) = rw (alike 511 n 0)
 
 setting : (v : ℕ) → canonical v ≡ true → Setting (memoryOf words 0x100) 0x10_0000 words 0x100 1 0x100 v
-unfolding lent
+unfolding mayWalk
 setting v h = record { whole = refl; base = refl; holds = memory-holds words 0x100 1; noHuge = no-bit-7 words 0x100 1 3 0x100 words-plain; form = h }
 
 pub mapped : linear (memoryOf words 0x100) 0x10_0000 0x123 ≡ physical 0x10_0123
-unfolding translate leaf entryAt present lent
+unfolding translate leaf entryAt present mayWalk
 mapped = same-pages _ _ _ _ _ _ _ (setting 0x123 refl) no-address 0x10_0123 .0 refl
 
 pub absent : linear (memoryOf words 0x100) 0x10_0000 0x1123 ≡ notPresent
-unfolding translate leaf entryAt present lent
+unfolding translate leaf entryAt present mayWalk
 absent = same-absent _ _ _ _ _ _ _ (setting 0x1123 refl) not-outside .0 refl
 
 -- the four entries that the first reads are one and the same; the second's last is another one

@@ -11,9 +11,9 @@ use Rattle.bits.specs.Bit.{flag}
 use Rattle.answer.specs.Numbers.{notMapped, outside}
 use Rattle.entry.specs.Entry.{indices}
 use Rattle.frame.specs.Frames.{inside}
-use Rattle.paging.specs.declared.Walked.{Walked}
-use Rattle.paging.specs.declared.Walked.the-variants.{At, Stop}
-use Rattle.paging.specs.Walk.{place, entryAt, reach, lent}
+use Rattle.answer.specs.declared.Outcome.{Outcome}
+use Rattle.answer.specs.declared.Outcome.the-variants.{Value, Stop}
+use Rattle.paging.specs.Walk.{place, entryAt, reach, mayWalk}
 use Rattle.paging.specs.Calls.{translate}
 use Rattle.intel.specs.Sdm.{Memory, Translation, physical, notPresent, tableOf, canonical, linear, entriesRead}
 
@@ -25,16 +25,16 @@ pub record Holds (mem : Memory) (ws : List ℕ) (start total : ℕ) : Type 0 whe
 
 -- No HUGE entry: a table to which fewer than `up` indices lead from the root has no present entry with bit 7. With 3 these are all tables above the last level.
 pub record NoHuge (ws : List ℕ) (start total up root : ℕ) : Type 0 where
-  pub plain : (is : List ℕ) (t i e : ℕ) → length is < up → reach ws start total root is ≡ At t → entryAt ws start total t i ≡ At e → flag 7 e ≡ false
+  pub plain : (is : List ℕ) (t i e : ℕ) → length is < up → reach ws start total root is ≡ Value t → entryAt ws start total t i ≡ Value e → flag 7 e ≡ false
 
 -- The manual's word for our answer.
-abbrev pub verdict : Walked → Translation
-verdict (At a) = physical a
+abbrev pub verdict : Outcome → Translation
+verdict (Value a) = physical a
 verdict (Stop n) = notPresent
 
 -- What the statements ask: a record that is not broken (10), CR3 that names the root, memory that holds the words, no HUGE entry, and a canonical address.
 pub record Setting (mem : Memory) (cr3 : ℕ) (ws : List ℕ) (start total root v : ℕ) : Type 0 where
-  pub whole : lent (length ws) start total root ≡ true
+  pub whole : mayWalk (length ws) start total root ≡ true
   pub base : tableOf cr3 ≡ root
   pub holds : Holds mem ws start total
   pub noHuge : NoHuge ws start total 3 root
@@ -54,7 +54,7 @@ abbrev pub SamePages : Type 0
 SamePages =
     (mem : Memory) (cr3 : ℕ) (ws : List ℕ) (start total root v : ℕ) → Setting mem cr3 ws start total root v
     → (translate 3 ws start total root v ≡ Stop outside → ⊥)
-    → (a : ℕ) → (translate 3 ws start total root v ≡ At a) ↔ (linear mem cr3 v ≡ physical a)
+    → (a : ℕ) → (translate 3 ws start total root v ≡ Value a) ↔ (linear mem cr3 v ≡ physical a)
 
 -- and 14, not mapped, exactly where the manual says that an entry is not present.
 abbrev pub SameAbsent : Type 0
@@ -66,17 +66,17 @@ SameAbsent =
 -- No other number occurs: on a record that is not broken the answer is an address, 14 or 19, whatever the words are.
 abbrev pub ThreeOutcomes : Type 0
 ThreeOutcomes =
-    (ws : List ℕ) (start total root v : ℕ) → lent (length ws) start total root ≡ true
-    → ((a : ℕ) × (translate 3 ws start total root v ≡ At a))
+    (ws : List ℕ) (start total root v : ℕ) → mayWalk (length ws) start total root ≡ true
+    → ((a : ℕ) × (translate 3 ws start total root v ≡ Value a))
     ⊎ (translate 3 ws start total root v ≡ Stop notMapped)
     ⊎ (translate 3 ws start total root v ≡ Stop outside)
 
 -- It is 19 exactly where the walk comes to a table outside the lent frames, whose entries the words do not hold.
 abbrev pub OffBoard : Type 0
 OffBoard =
-    (ws : List ℕ) (start total root v : ℕ) → lent (length ws) start total root ≡ true → NoHuge ws start total 3 root
+    (ws : List ℕ) (start total root v : ℕ) → mayWalk (length ws) start total root ≡ true → NoHuge ws start total 3 root
     → (translate 3 ws start total root v ≡ Stop outside)
-    ↔ ((k : ℕ) × (t : ℕ) × (k ≤ 3) × (reach ws start total root (take k (indices 4 v)) ≡ At t) × (inside start total t ≡ false))
+    ↔ ((k : ℕ) × (t : ℕ) × (k ≤ 3) × (reach ws start total root (take k (indices 4 v)) ≡ Value t) × (inside start total t ≡ false))
 
 -- In the manual's terms: exactly where one of the entries that its translation reads stands outside the lent frames.
 abbrev pub ReadsOff : Type 0

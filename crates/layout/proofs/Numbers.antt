@@ -8,12 +8,12 @@ use Rattle.bits.specs.Bit.{flag}
 use Rattle.bits.proofs.Choice.{pick-cases}
 use Rattle.address.specs.declared.FrameAnswer.{FrameAnswer}
 use Rattle.entry.specs.Entry.{entryOf}
-use Rattle.frame.specs.Frames.{Did, inside, withMark}
+use Rattle.frame.specs.Frames.{FramesDid, inside, withMark}
 use Rattle.frame.proofs.Laws.{take-cases}
-use Rattle.paging.specs.declared.Walked.{Walked}
-use Rattle.paging.specs.declared.Walked.the-variants.{At, Stop}
+use Rattle.answer.specs.declared.Outcome.{Outcome}
+use Rattle.answer.specs.declared.Outcome.the-variants.{Value, Stop}
 use Rattle.paging.specs.Walk.{place}
-use Rattle.paging.specs.Map.{Memory, memory, startOf, totalOf, Out, out, goOn, zeroFrame, enter, make, Left, putEntry, mapEntry}
+use Rattle.paging.specs.Map.{Memory, memory, startFrame, totalOf, Out, out, goOn, zeroFrame, enter, make, Left, putEntry, mapEntry}
 use Rattle.paging.specs.Calls.{mapAt}
 use Rattle.paging.specs.Pages.{zeroed, freshFrame, orFailed, mapFresh, mapPages}
 use Rattle.paging.proofs.Map.{goOn-cases, enter-cases}
@@ -22,7 +22,7 @@ use Rattle.layout.specs.Left.{IsRefusal, tableLeftovers, regionLeftovers
 use Rattle.layout.specs.Memory.{plainLine}
 
 -- it comes somewhere, or stops with a number that is listed
-abbrev pub Listed : List ℕ → Walked → Type 0
+abbrev pub Listed : List ℕ → Outcome → Type 0
 Listed leftovers w = IsRefusal leftovers (plainLine w .number) → ⊥
 
 -- ---- tables: 11 and 19
@@ -46,14 +46,14 @@ map-listed u m root path i e =
     (λ n q h. subst (Listed secondLeftovers) q (make-listed u m root path) (h .0, (h .1 .1 .0, h .1 .1 .1)))
     (λ t _.
     let m′ = make u m root path .mem in
-    pick-cases (λ (l : Left). Listed tableLeftovers (l .walked)) (inside (startOf m′) (totalOf m′) t) _ _
-    (λ _. pick-cases (λ (l : Left). Listed tableLeftovers (l .walked)) (flag 0 (getD (m′ .words) (place (startOf m′) t i) 0)) _ _ (λ _ h. h .1 .0 refl) (λ _ h. h .1 .1 .1 refl))
+    pick-cases (λ (l : Left). Listed tableLeftovers (l .walked)) (inside (startFrame m′) (totalOf m′) t) _ _
+    (λ _. pick-cases (λ (l : Left). Listed tableLeftovers (l .walked)) (flag 0 (getD (m′ .words) (place (startFrame m′) t i) 0)) _ _ (λ _ h. h .1 .0 refl) (λ _ h. h .1 .1 .1 refl))
     (λ _ h. h .1 .1 .0 refl))
 
 -- ---- pages on fresh frames: 11 and 13
 
-failed-listed : (w : Walked) → Listed regionLeftovers (orFailed w)
-failed-listed (At x) h = h .1 .1 refl
+failed-listed : (w : Outcome) → Listed regionLeftovers (orFailed w)
+failed-listed (Value x) h = h .1 .1 refl
 failed-listed (Stop n) h = h .1 .0 refl
 
 module _ (up : ℕ) (w u : Bool) (root : ℕ) where
@@ -61,11 +61,11 @@ module _ (up : ℕ) (w u : Bool) (root : ℕ) where
   unfolding mapFresh freshFrame
   fresh-listed m v =
       take-cases (m .frames)
-      (λ (d : Did FrameAnswer). Listed regionLeftovers (goOn (zeroed m (d .answer) (d .frames)) (λ f m′.
+      (λ (d : FramesDid FrameAnswer). Listed regionLeftovers (goOn (zeroed m (d .answer) (d .frames)) (λ f m′.
       let r = mapAt up up u m′ root v (entryOf (f * 2 ^ 12) w u) in out (orFailed (r .walked)) (r .mem)) .walked))
       (λ j _ _ _.
       failed-listed
-      (mapAt up up u (memory (zeroFrame (m .words) (startOf m) (startOf m + j)) (withMark (m .frames) j)) root v (entryOf ((startOf m + j) * 2 ^ 12) w u) .walked))
+      (mapAt up up u (memory (zeroFrame (m .words) (startFrame m) (startFrame m + j)) (withMark (m .frames) j)) root v (entryOf ((startFrame m + j) * 2 ^ 12) w u) .walked))
       (λ _ h. h .0 refl)
 
   pub pages-listed : (n : ℕ) (m : Memory) (v k : ℕ) → Listed regionLeftovers (mapPages up w u m root v k n .walked)
@@ -73,10 +73,10 @@ module _ (up : ℕ) (w u : Bool) (root : ℕ) where
   pages-listed (suc n) m v k =
       by (mapFresh up w u m root v .walked) refl (pages-listed n (mapFresh up w u m root v .mem) (v + 4096) (suc k))
     where
-      came : {x : Walked} → mapFresh up w u m root v .walked ≡ x → mapFresh up w u m root v ≡ out x (mapFresh up w u m root v .mem)
+      came : {x : Outcome} → mapFresh up w u m root v .walked ≡ x → mapFresh up w u m root v ≡ out x (mapFresh up w u m root v .mem)
       came e = λ j. out (e j) (mapFresh up w u m root v .mem)
 
-      by : (x : Walked) → mapFresh up w u m root v .walked ≡ x → Listed regionLeftovers (mapPages up w u (mapFresh up w u m root v .mem) root (v + 4096) (suc k) n .walked)
+      by : (x : Outcome) → mapFresh up w u m root v .walked ≡ x → Listed regionLeftovers (mapPages up w u (mapFresh up w u m root v .mem) root (v + 4096) (suc k) n .walked)
           → Listed regionLeftovers (mapPages up w u m root v k (suc n) .walked)
-      by (At x) e rest = rw (map-pages-on up w u m root v k n _ x (came e)) rest
+      by (Value x) e rest = rw (map-pages-on up w u m root v k n _ x (came e)) rest
       by (Stop a) e rest = rw (map-pages-stop up w u m root v k n _ a (came e)) (subst (Listed regionLeftovers) e (fresh-listed m v))

@@ -2,16 +2,16 @@
 use Prim.Native.Nat.{ℕ}
 use mathlib.Core.List.{List}
 use Rattle.answer.specs.Numbers.{answerLine}
+use Rattle.answer.specs.Outcomes.{asAnswer}
 use Rattle.answer.specs.declared.Line.{Line}
 use Rattle.packed.specs.Words.{pack}
-use Rattle.paging.specs.declared.Walked.{Walked}
+use Rattle.answer.specs.declared.Outcome.{Outcome}
 use Rattle.paging.specs.Map.{Memory, memory, Out}
-use Rattle.paging.specs.Calls.{asAnswer}
 use Rattle.layout.specs.Parts.{framesIn, framesFit, fieldsOut}
 use Rattle.layout.specs.Left.{Left, left, unlessFit}
 
 -- the number and value of a walk's answer, for a call that hands back nothing
-abbrev pub plainLine : Walked → Line
+abbrev pub plainLine : Outcome → Line
 plainLine a = answerLine (asAnswer a)
 
 -- the words, the frame record and its bitmap

@@ -1,4 +1,3 @@
-// The parts of the state as packed bytes; docs/LAYOUT.md has the layout of each.
+// The frame record and its bitmap as packed bytes; docs/LAYOUT.md has the layout of each. The lists stand with their crates.
 pub mod lengths;
-pub mod lists;
 pub mod parts;

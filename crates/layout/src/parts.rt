@@ -1,6 +1,7 @@
 // Parts of the state, taken out of packed bytes and put back.
 use answer::Line;
 use frame::FrameAllocator;
+use frame::Marks;
 ghost use mathlib.Core.Path.{_≡_};
 ghost use lib.ListN.{length};
 ghost use Rattle.answer.specs.Numbers.{brokenRecord, answerLine};
@@ -40,7 +41,7 @@ pub fn put_fields(fields: &mut [u8], frames: FrameAllocator)
     packed::put_words(fields, &[frames.start, frames.total, frames.allocated]);
 }
 
-pub fn get_bits(bits: &[u8]) -> [u64; 128]
+pub fn get_bits(bits: &[u8]) -> Marks
     requires { ⌜ length (now bits) ≡ bitsSize ⌝ }
     ensures { λ r. ⌜ r ≡ unpack 128 (now (bits .entry)) ⌝ }
 {
@@ -49,7 +50,7 @@ pub fn get_bits(bits: &[u8]) -> [u64; 128]
     bitmap
 }
 
-pub fn put_bits(bits: &mut [u8], bitmap: &[u64; 128])
+pub fn put_bits(bits: &mut [u8], bitmap: &Marks)
     requires { ⌜ length (now bits) ≡ bitsSize ⌝ }
     ensures { λ _. ⌜ now (bits .exit) ≡ pack (now (bitmap .entry)) ⌝ }
 {

@@ -10,6 +10,7 @@ use lib.ListN.{length, getD, set, take, length-take}
 use mir.Syntax.{w64}
 use mir.Val.{Fits}
 use Rattle.answer.specs.Numbers.{alreadyMapped, notMapped}
+use Rattle.answer.specs.Outcomes.{asAnswer}
 use Rattle.answer.specs.declared.Answer.{Answer}
 use Rattle.address.specs.Address.{aligned}
 use Rattle.address.specs.declared.Frame.{Frame}
@@ -22,19 +23,19 @@ use Rattle.frame.specs.declared.Changed.{Changed}
 use Rattle.frame.specs.Frames.{Frames, frames, inside, takeFrame}
 use Rattle.frame.specs.Results.{allocated}
 use Rattle.frame.proofs.Laws.{inside-from, inside-under, inside-bit}
-use Rattle.paging.specs.declared.Walked.{Walked}
-use Rattle.paging.specs.declared.Walked.the-variants.{At, Stop}
+use Rattle.answer.specs.declared.Outcome.{Outcome}
+use Rattle.answer.specs.declared.Outcome.the-variants.{Value, Stop}
 use Rattle.paging.specs.declared.HugePageSize.{HugePageSize}
 use Rattle.paging.specs.Walk.{place, reach, leaf}
-use Rattle.paging.specs.Map.{Memory, memory, startOf, totalOf, Out, out, clear, create, enter, make, Left, putEntry, takeLeaf, withWords, Roomy}
-use Rattle.paging.specs.Calls.{asAnswer, changed, whole, sizeOf, tablesAbove, mapAt, mapPage, mapHuge}
+use Rattle.paging.specs.Map.{Memory, memory, startFrame, totalOf, Out, out, clear, create, enter, make, Left, putEntry, takeLeaf, withWords, RoomToTake}
+use Rattle.paging.specs.Calls.{asChanged, whole, sizeOf, tablesAbove, mapAt, mapPage, mapHuge}
 use Rattle.paging.proofs.Map.{roomy-less, taken-inside, create-new, create-full, enter-there, enter-absent, enter-roomy, make-stop, make-on, make-roomy, map-entry-stop, map-entry-put, put-full, put-free, take-leaf-none, take-leaf-there}
 use Rattle.paging.proofs.Calls.{told, told-left, map-is, huge-is}
 use Rattle.walk.proofs.Laws.{shifted}
 
 -- what a call says of an outcome, part by part
 abbrev Told : Changed → List ℕ → List ℕ → Out → Type 0
-Told r ws bm o = (r ≡ changed o) × ((ws ≡ o .mem .words) × (bm ≡ o .mem .frames .bits))
+Told r ws bm o = (r ≡ asChanged o) × ((ws ≡ o .mem .words) × (bm ≡ o .mem .frames .bits))
 
 -- an entry of a lent table, at word p
 module _ (start t i : ℕ) {p : ℕ} (q : p ≡ place start t i) (ws : List ℕ) (total : ℕ) (h : inside start total t ≡ true) where
@@ -44,17 +45,17 @@ module _ (start t i : ℕ) {p : ℕ} (q : p ≡ place start t i) (ws : List ℕ)
   pub put-there : (e : ℕ) → flag 0 (getD ws p 0) ≡ true → let l = putEntry ws start total t i e in (Stop alreadyMapped ≡ l .walked) × (ws ≡ l .words)
   put-there e k = told-left (put-full ws start total t i e h (word k))
 
-  pub put-new : (e : ℕ) → flag 0 (getD ws p 0) ≡ false → let l = putEntry ws start total t i e in (At 0 ≡ l .walked) × (set ws p e ≡ l .words)
+  pub put-new : (e : ℕ) → flag 0 (getD ws p 0) ≡ false → let l = putEntry ws start total t i e in (Value 0 ≡ l .walked) × (set ws p e ≡ l .words)
   put-new e k = let l = told-left (put-free ws start total t i e h (word k)) in (l .0, ap (λ (x : ℕ). set ws x e) q ∙ l .1)
 
   pub take-none : flag 0 (getD ws p 0) ≡ false → let l = takeLeaf ws start total t i in (Stop notMapped ≡ l .walked) × (ws ≡ l .words)
   take-none k = told-left (take-leaf-none ws start total t i h (word k))
 
   pub take-there : {a : ℕ} → a ≡ addrOf (getD ws p 0) → flag 0 (getD ws p 0) ≡ true
-      → let l = takeLeaf ws start total t i in (At (a / 4096) ≡ l .walked) × (set ws p 0 ≡ l .words)
+      → let l = takeLeaf ws start total t i in (Value (a / 4096) ≡ l .walked) × (set ws p 0 ≡ l .words)
   take-there g k =
       let l = told-left (take-leaf-there ws start total t i h (word k)) in
-      (ap At (shifted (getD ws p 0) g ∙ ap (λ (x : ℕ). frameOf (getD ws x 0)) q) ∙ l .0, ap (λ (x : ℕ). set ws x 0) q ∙ l .1)
+      (ap Value (shifted (getD ws p 0) g ∙ ap (λ (x : ℕ). frameOf (getD ws x 0)) q) ∙ l .0, ap (λ (x : ℕ). set ws x 0) q ∙ l .1)
 
 -- after `take_frame`
 module _ (fr : Frames) (r : Allocated) (e : r ≡ allocated (takeFrame fr)) where
@@ -65,14 +66,14 @@ module _ (u : Bool) (m : Memory) (p : ℕ) (r : Allocated) (bm : List ℕ) (e : 
   left : frames bm (r .frames) ≡ takeFrame (m .frames) .frames
   left = λ j. frames (b j) (e j .frames)
 
-  pub create-made : (f : Frame) → r .answer ≡ AtFrame f → startOf m + totalOf m ≤ 2 ^ 40
-      → (ws : List ℕ) (at : ℕ) → ws ≡ clear (m .words) at 512 → at ≡ place (startOf m) (f .0) 0
+  pub create-made : (f : Frame) → r .answer ≡ AtFrame f → startFrame m + totalOf m ≤ 2 ^ 40
+      → (ws : List ℕ) (at : ℕ) → ws ≡ clear (m .words) at 512 → at ≡ place (startFrame m) (f .0) 0
       → (w a : ℕ) → w ≡ entryOf a true u → a ≡ f .0 * 2 ^ 12 % 2 ^ 64
-      → out (At (f .0)) (memory (set ws p w) (frames bm (r .frames))) ≡ create u m p
+      → out (Value (f .0)) (memory (set ws p w) (frames bm (r .frames))) ≡ create u m p
   create-made f q low ws at z y w a v g =
       let h = taken-lent (m .frames) r e f q in
-      let under = inside-under (startOf m) (totalOf m) (f .0) h in
-      let from : at ≡ (f .0 - startOf m) * 512 = omega arith in
+      let under = inside-under (startFrame m) (totalOf m) (f .0) h in
+      let from : at ≡ (f .0 - startFrame m) * 512 = omega arith in
       let small : a ≡ f .0 * 2 ^ 12 = g ∙ mod-eq-of-lt (omega arith) in
       rw (z, from, v, small, left) (sym (create-new u m p f (sym (ap (λ (x : Allocated). x .answer) e) ∙ q)))
 
@@ -80,65 +81,65 @@ module _ (u : Bool) (m : Memory) (p : ℕ) (r : Allocated) (bm : List ℕ) (e : 
   create-none n q = rw left (sym (create-full u m p n (sym (ap (λ (x : Allocated). x .answer) e) ∙ q)))
 
 -- in `enter`: the table that is there, or a new one
-module _ (u : Bool) (m : Memory) (t i : ℕ) {p : ℕ} (q : p ≡ place (startOf m) t i) (h : inside (startOf m) (totalOf m) t ≡ true) where
-  pub entered-there : {a : ℕ} → a ≡ addrOf (getD (m .words) p 0) → flag 0 (getD (m .words) p 0) ≡ true → out (At (a / 4096)) m ≡ enter u m t i
+module _ (u : Bool) (m : Memory) (t i : ℕ) {p : ℕ} (q : p ≡ place (startFrame m) t i) (h : inside (startFrame m) (totalOf m) t ≡ true) where
+  pub entered-there : {a : ℕ} → a ≡ addrOf (getD (m .words) p 0) → flag 0 (getD (m .words) p 0) ≡ true → out (Value (a / 4096)) m ≡ enter u m t i
   entered-there g k =
-      ap (λ (x : ℕ). out (At x) m) (shifted (getD (m .words) p 0) g ∙ ap (λ (x : ℕ). frameOf (getD (m .words) x 0)) q)
+      ap (λ (x : ℕ). out (Value x) m) (shifted (getD (m .words) p 0) g ∙ ap (λ (x : ℕ). frameOf (getD (m .words) x 0)) q)
       ∙ sym (enter-there u m t i h (subst (λ (x : ℕ). flag 0 (getD (m .words) x 0) ≡ true) q k))
 
   pub entered-new : flag 0 (getD (m .words) p 0) ≡ false → {o : Out} → o ≡ create u m p → o ≡ enter u m t i
   entered-new k c = c ∙ ap (create u m) q ∙ sym (enter-absent u m t i h (subst (λ (x : ℕ). flag 0 (getD (m .words) x 0) ≡ false) q k))
 
 -- after `enter`: where it came, and the room that is left
-pub stepped : {w w′ : Walked} {m : Memory} {o : Out} → out w m ≡ o → w ≡ w′ → o ≡ out w′ m
-stepped {m = m} e h = sym e ∙ ap (λ (x : Walked). out x m) h
+pub stepped : {w w′ : Outcome} {m : Memory} {o : Out} → out w m ≡ o → w ≡ w′ → o ≡ out w′ m
+stepped {m = m} e h = sym e ∙ ap (λ (x : Outcome). out x m) h
 
-pub entered-roomy : (u : Bool) (m : Memory) (t i : ℕ) {w : Walked} {m′ : Memory} → out w m′ ≡ enter u m t i → (n : ℕ) → Roomy m (n + 1) → Roomy m′ n
-entered-roomy u m t i e n r = subst (λ (x : Memory). Roomy x n) (sym (ap (λ (o : Out). o .mem) e)) (enter-roomy u m t i n r)
+pub entered-roomy : (u : Bool) (m : Memory) (t i : ℕ) {w : Outcome} {m′ : Memory} → out w m′ ≡ enter u m t i → (n : ℕ) → RoomToTake m (n + 1) → RoomToTake m′ n
+entered-roomy u m t i e n r = subst (λ (x : Memory). RoomToTake x n) (sym (ap (λ (o : Out). o .mem) e)) (enter-roomy u m t i n r)
 
 -- the same in the loop over the indices i ∷ q that are left, of which l were passed
-module _ (u : Bool) (m : Memory) (t i : ℕ) (w : Walked) (m′ : Memory) (e : out w m′ ≡ enter u m t i) where
-  pub entered-left : (l k : ℕ) → l < k → k ≤ 3 → Roomy m (3 - l) → Roomy m′ (3 - (l + 1))
+module _ (u : Bool) (m : Memory) (t i : ℕ) (w : Outcome) (m′ : Memory) (e : out w m′ ≡ enter u m t i) where
+  pub entered-left : (l k : ℕ) → l < k → k ≤ 3 → RoomToTake m (3 - l) → RoomToTake m′ (3 - (l + 1))
   entered-left l k h s r = entered-roomy u m t i e (3 - (l + 1)) (roomy-less (3 - (l + 1) + 1) (omega arith) r)
 
   pub made-stop : {o : Out} (p q : List ℕ) → o ≡ make u m t p → p ≡ i ∷ q → (n : ℕ) → w ≡ Stop n → out (Stop n) m′ ≡ o
   made-stop p q a b n h = sym (a ∙ make-stop u m t b m′ n (stepped e h))
 
-  pub made-on : {o : Out} (p q : List ℕ) → o ≡ make u m t p → p ≡ i ∷ q → (f : ℕ) → w ≡ At f → o ≡ make u m′ f q
+  pub made-on : {o : Out} (p q : List ℕ) → o ≡ make u m t p → p ≡ i ∷ q → (f : ℕ) → w ≡ Value f → o ≡ make u m′ f q
   made-on p q a b f h = a ∙ make-on u m t b m′ f (stepped e h)
 
 -- after `make_tables`: the room that is left
-pub made-roomy : (u : Bool) (m : Memory) (t : ℕ) (p : List ℕ) {w : Walked} {m′ : Memory} → out w m′ ≡ make u m t p → (n : ℕ) → Roomy m (n + length p) → Roomy m′ n
-made-roomy u m t p e n r = subst (λ (x : Memory). Roomy x n) (sym (ap (λ (o : Out). o .mem) e)) (make-roomy u n p m t r)
+pub made-roomy : (u : Bool) (m : Memory) (t : ℕ) (p : List ℕ) {w : Outcome} {m′ : Memory} → out w m′ ≡ make u m t p → (n : ℕ) → RoomToTake m (n + length p) → RoomToTake m′ n
+made-roomy u m t p e n r = subst (λ (x : Memory). RoomToTake x n) (sym (ap (λ (o : Out). o .mem) e)) (make-roomy u n p m t r)
 
-pub made-left : (u : Bool) (m : Memory) (t : ℕ) (is : List ℕ) (k : ℕ) {w : Walked} {m′ : Memory} → out w m′ ≡ make u m t (take k is) → k ≤ 3 → Roomy m 3 → Roomy m′ 0
+pub made-left : (u : Bool) (m : Memory) (t : ℕ) (is : List ℕ) (k : ℕ) {w : Outcome} {m′ : Memory} → out w m′ ≡ make u m t (take k is) → k ≤ 3 → RoomToTake m 3 → RoomToTake m′ 0
 made-left u m t is k e h r = made-roomy u m t (take k is) e 0 (roomy-less _ (omega (arith, length-take k is)) r)
 
 -- after `put_entry` and `as_answer`: the outcome part by part
-pub put-told : {o : Out} (m : Memory) (l : Left) → o ≡ withWords m l → {a : Answer} {w : Walked} {ws : List ℕ} → a ≡ asAnswer w → w ≡ l .walked → ws ≡ l .words
-    → (record { answer = a; frames = m .frames .fa } ≡ changed o) × ((ws ≡ o .mem .words) × (m .frames .bits ≡ o .mem .frames .bits))
+pub put-told : {o : Out} (m : Memory) (l : Left) → o ≡ withWords m l → {a : Answer} {w : Outcome} {ws : List ℕ} → a ≡ asAnswer w → w ≡ l .walked → ws ≡ l .words
+    → (record { answer = a; frames = m .frames .fa } ≡ asChanged o) × ((ws ≡ o .mem .words) × (m .frames .bits ≡ o .mem .frames .bits))
 put-told m l e x y z =
     let t = told e in
     ((λ j. record { answer = (x ∙ ap asAnswer y) j; frames = m .frames .fa }) ∙ t .0, (z ∙ t .1 .0, t .1 .1))
 
 -- after the tables are made, with the indices that `page_indices` gave
-module _ (up k : ℕ) (u : Bool) (m : Memory) (root v e : ℕ) {is : List ℕ} (g : is ≡ indices (suc up) v) (m′ : Memory) {w : Walked} (d : out w m′ ≡ make u m root (take k is)) where
-  come : (w′ : Walked) → w ≡ w′ → make u m root (take k (indices (suc up) v)) ≡ out w′ m′
+module _ (up k : ℕ) (u : Bool) (m : Memory) (root v e : ℕ) {is : List ℕ} (g : is ≡ indices (suc up) v) (m′ : Memory) {w : Outcome} (d : out w m′ ≡ make u m root (take k is)) where
+  come : (w′ : Outcome) → w ≡ w′ → make u m root (take k (indices (suc up) v)) ≡ out w′ m′
   come w′ h = subst (λ (l : List ℕ). make u m root (take k l) ≡ out w′ m′) g (stepped d h)
 
   pub map-at-stop : (n : ℕ) → w ≡ Stop n → mapAt up k u m root v e ≡ out (Stop n) m′
   map-at-stop n h = map-entry-stop u m root _ _ e n m′ (come (Stop n) h)
 
-  pub map-at-put : (t : ℕ) → w ≡ At t → {a : Answer} {s : Walked} {ws : List ℕ} → a ≡ asAnswer s
-      → let l = putEntry (m′ .words) (startOf m′) (totalOf m′) t (getD is k 0) e in
+  pub map-at-put : (t : ℕ) → w ≡ Value t → {a : Answer} {s : Outcome} {ws : List ℕ} → a ≡ asAnswer s
+      → let l = putEntry (m′ .words) (startFrame m′) (totalOf m′) t (getD is k 0) e in
       (s ≡ l .walked) × (ws ≡ l .words) → Told (record { answer = a; frames = m′ .frames .fa }) ws (m′ .frames .bits) (mapAt up k u m root v e)
   map-at-put t h x y =
-      put-told m′ (putEntry (m′ .words) (startOf m′) (totalOf m′) t (getD is k 0) e)
-      (map-entry-put u m root _ _ e t m′ (come (At t) h) ∙ λ j. withWords m′ (putEntry (m′ .words) (startOf m′) (totalOf m′) t (getD (sym g j) k 0) e)) x (y .0) (y .1)
+      put-told m′ (putEntry (m′ .words) (startFrame m′) (totalOf m′) t (getD is k 0) e)
+      (map-entry-put u m root _ _ e t m′ (come (Value t) h) ∙ λ j. withWords m′ (putEntry (m′ .words) (startFrame m′) (totalOf m′) t (getD (sym g j) k 0) e)) x (y .0) (y .1)
 
 -- what `map_entry` gave is what the call gives
-pub passed-on : {o p : Out} {r : Changed} {ws bm : List ℕ} → (r ≡ changed o) × ((ws ≡ o .mem .words) × (bm ≡ o .mem .frames .bits)) → o ≡ p
-    → (r ≡ changed p) × ((ws ≡ p .mem .words) × (bm ≡ p .mem .frames .bits))
+pub passed-on : {o p : Out} {r : Changed} {ws bm : List ℕ} → (r ≡ asChanged o) × ((ws ≡ o .mem .words) × (bm ≡ o .mem .frames .bits)) → o ≡ p
+    → (r ≡ asChanged p) × ((ws ≡ p .mem .words) × (bm ≡ p .mem .frames .bits))
 passed-on {r = r} {ws = ws} {bm = bm} h e = subst (Told r ws bm) e h
 
 module _ (m : Memory) (root v p : ℕ) (w u : Bool) (h : whole m root ≡ true) {r : Changed} {ws bm : List ℕ} where

@@ -6,19 +6,21 @@ use address::FrameAnswer;
 use address::PhysAddr;
 use address::VirtAddr;
 use answer::Answer;
+use answer::Outcome;
 use entry::paging::PageTableEntry;
 use frame::Changed;
 use frame::FrameAllocator;
+use frame::Marks;
 use paging::HugePageSize;
-use paging::Walked;
 ghost use mathlib.Core.Path.{_≡_};
-ghost use Rattle.frame.specs.Frames.{frames as framesOf};
-ghost use Rattle.paging.specs.Map.{memory};
-ghost use Rattle.paging.specs.Calls.{asFrame, changed, whole, mapPage, mapHuge, unmapPage};
+ghost use Rattle.paging.specs.Calls.{asChanged, whole, mapPage, mapHuge, unmapPage};
+ghost use Rattle.paging.specs.Levels.{aboveLast};
+ghost use Rattle.paging.specs.Kept.{lentMemory};
+ghost use Rattle.address.specs.Address.{asFrame};
 
 // Whether all that a call which takes frames is lent is sound: what a walk needs, and the frame record.
-pub fn is_whole(words: &[u64], bitmap: &[u64; 128], frames: FrameAllocator, root: Frame) -> bool
-    ensures { λ r. ⌜ r ≡ whole (memory (now (words .entry)) (framesOf (now (bitmap .entry)) frames)) (root .0) ⌝ }
+pub fn is_whole(words: &[u64], bitmap: &Marks, frames: FrameAllocator, root: Frame) -> bool
+    ensures { λ r. ⌜ r ≡ whole (lentMemory (now (words .entry)) (now (bitmap .entry)) frames) (root .0) ⌝ }
 {
     if !walk::is_lent(words.len(), frames.start, frames.total, root) {
         return false;
@@ -28,7 +30,7 @@ pub fn is_whole(words: &[u64], bitmap: &[u64; 128], frames: FrameAllocator, root
 
 pub fn map_page(
     words: &mut [u64],
-    bitmap: &mut [u64; 128],
+    bitmap: &mut Marks,
     frames: FrameAllocator,
     root: Frame,
     virt: VirtAddr,
@@ -36,9 +38,9 @@ pub fn map_page(
     writable: bool,
     user: bool,
 ) -> Changed
-    ensures { λ r. ⌜ r ≡ changed (mapPage 3 (memory (now (words .entry)) (framesOf (now (bitmap .entry)) frames)) (root .0) (virt .0) (phys .0) writable user) ⌝ }
-    ensures { λ r. ⌜ now (words .exit) ≡ mapPage 3 (memory (now (words .entry)) (framesOf (now (bitmap .entry)) frames)) (root .0) (virt .0) (phys .0) writable user .mem .words ⌝ }
-    ensures { λ r. ⌜ now (bitmap .exit) ≡ mapPage 3 (memory (now (words .entry)) (framesOf (now (bitmap .entry)) frames)) (root .0) (virt .0) (phys .0) writable user .mem .frames .bits ⌝ }
+    ensures { λ r. ⌜ r ≡ asChanged (mapPage aboveLast (lentMemory (now (words .entry)) (now (bitmap .entry)) frames) (root .0) (virt .0) (phys .0) writable user) ⌝ }
+    ensures { λ r. ⌜ now (words .exit) ≡ mapPage aboveLast (lentMemory (now (words .entry)) (now (bitmap .entry)) frames) (root .0) (virt .0) (phys .0) writable user .mem .words ⌝ }
+    ensures { λ r. ⌜ now (bitmap .exit) ≡ mapPage aboveLast (lentMemory (now (words .entry)) (now (bitmap .entry)) frames) (root .0) (virt .0) (phys .0) writable user .mem .frames .bits ⌝ }
 {
     if !is_whole(words, bitmap, frames, root) {
         return Changed {
@@ -53,7 +55,7 @@ pub fn map_page(
 // A 1 GiB entry at the third level, a 2 MiB entry at the last.
 pub fn map_huge_page(
     words: &mut [u64],
-    bitmap: &mut [u64; 128],
+    bitmap: &mut Marks,
     frames: FrameAllocator,
     root: Frame,
     virt: VirtAddr,
@@ -62,9 +64,9 @@ pub fn map_huge_page(
     writable: bool,
     user: bool,
 ) -> Changed
-    ensures { λ r. ⌜ r ≡ changed (mapHuge 3 (memory (now (words .entry)) (framesOf (now (bitmap .entry)) frames)) (root .0) (virt .0) (phys .0) size writable user) ⌝ }
-    ensures { λ r. ⌜ now (words .exit) ≡ mapHuge 3 (memory (now (words .entry)) (framesOf (now (bitmap .entry)) frames)) (root .0) (virt .0) (phys .0) size writable user .mem .words ⌝ }
-    ensures { λ r. ⌜ now (bitmap .exit) ≡ mapHuge 3 (memory (now (words .entry)) (framesOf (now (bitmap .entry)) frames)) (root .0) (virt .0) (phys .0) size writable user .mem .frames .bits ⌝ }
+    ensures { λ r. ⌜ r ≡ asChanged (mapHuge aboveLast (lentMemory (now (words .entry)) (now (bitmap .entry)) frames) (root .0) (virt .0) (phys .0) size writable user) ⌝ }
+    ensures { λ r. ⌜ now (words .exit) ≡ mapHuge aboveLast (lentMemory (now (words .entry)) (now (bitmap .entry)) frames) (root .0) (virt .0) (phys .0) size writable user .mem .words ⌝ }
+    ensures { λ r. ⌜ now (bitmap .exit) ≡ mapHuge aboveLast (lentMemory (now (words .entry)) (now (bitmap .entry)) frames) (root .0) (virt .0) (phys .0) size writable user .mem .frames .bits ⌝ }
 {
     if !is_whole(words, bitmap, frames, root) {
         return Changed {
@@ -105,14 +107,14 @@ pub fn unmap_page(
     root: Frame,
     virt: VirtAddr,
 ) -> FrameAnswer
-    ensures { λ r. ⌜ r ≡ asFrame (unmapPage 3 (now (words .entry)) start total (root .0) (virt .0) .walked) ⌝ }
-    ensures { λ r. ⌜ now (words .exit) ≡ unmapPage 3 (now (words .entry)) start total (root .0) (virt .0) .words ⌝ }
+    ensures { λ r. ⌜ r ≡ asFrame (unmapPage aboveLast (now (words .entry)) start total (root .0) (virt .0) .walked) ⌝ }
+    ensures { λ r. ⌜ now (words .exit) ≡ unmapPage aboveLast (now (words .entry)) start total (root .0) (virt .0) .words ⌝ }
 {
     if !walk::is_lent(words.len(), start, total, root) {
         return FrameAnswer::NoFrame(answer::BROKEN_RECORD);
     }
     match inner::unmap_leaf(words, start, total, root, virt) {
-        Walked::At(f) => FrameAnswer::AtFrame(Frame(f)),
-        Walked::Stop(n) => FrameAnswer::NoFrame(n),
+        Outcome::Value(f) => FrameAnswer::AtFrame(Frame(f)),
+        Outcome::Stop(n) => FrameAnswer::NoFrame(n),
     }
 }

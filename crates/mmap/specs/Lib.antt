@@ -1,4 +1,3 @@
-pub mod Regions
-pub mod List
+pub mod Flags
 pub mod Calls
-pub mod Results
+pub mod Packed

@@ -8,9 +8,10 @@ use lib.ListN.{getD, set}
 use Rattle.bits.specs.Bit.{flag}
 use Rattle.entry.specs.Entry.{frameOf}
 use Rattle.entry.proofs.Entry.{flag-zero}
-use Rattle.paging.specs.declared.Walked.{Walked}
-use Rattle.paging.specs.declared.Walked.the-variants.{At, Stop}
-use Rattle.paging.specs.Walk.{place, andThen, entryAt, reach}
+use Rattle.answer.specs.Outcomes.{andThen}
+use Rattle.answer.specs.declared.Outcome.{Outcome}
+use Rattle.answer.specs.declared.Outcome.the-variants.{Value, Stop}
+use Rattle.paging.specs.Walk.{place, entryAt, reach}
 use Rattle.tree.proofs.Walks.{nowhere, entry-cases, entry-there}
 
 -- each present entry of ws′ is one of ws
@@ -43,27 +44,27 @@ fewer-set ws p =
 -- ---- walks
 
 module _ {ws ws′ : List ℕ} (f : Fewer ws ws′) (start total : ℕ) where
-  pub fewer-entry : (t i e : ℕ) → entryAt ws′ start total t i ≡ At e → entryAt ws start total t i ≡ At e
+  pub fewer-entry : (t i e : ℕ) → entryAt ws′ start total t i ≡ Value e → entryAt ws start total t i ≡ Value e
   fewer-entry t i e h =
       let c = entry-cases ws′ start total t i e h in
       let w : e ≡ getD ws (place start t i) 0 = sym (c .word) ∙ f .from _ (rw (c .word) (c .bit)) in
-      entry-there ws start total t i (c .table) (c .small) (rw w at (c .bit)) ∙ ap At (sym w)
+      entry-there ws start total t i (c .table) (c .small) (rw w at (c .bit)) ∙ ap Value (sym w)
 
-  pub fewer-reach : (p : List ℕ) (t g : ℕ) → reach ws′ start total t p ≡ At g → reach ws start total t p ≡ At g
+  pub fewer-reach : (p : List ℕ) (t g : ℕ) → reach ws′ start total t p ≡ Value g → reach ws start total t p ≡ Value g
   unfolding reach
   fewer-reach [] t g h = h
   fewer-reach (i ∷ is) t g h = go (entryAt ws′ start total t i) refl h (λ e. fewer-reach is (frameOf e) g)
     where
-      go : (x : Walked) → entryAt ws′ start total t i ≡ x → andThen x (λ e. reach ws′ start total (frameOf e) is) ≡ At g
-          → ((e : ℕ) → reach ws′ start total (frameOf e) is ≡ At g → reach ws start total (frameOf e) is ≡ At g)
-          → andThen (entryAt ws start total t i) (λ e. reach ws start total (frameOf e) is) ≡ At g
-      go (At e) k q r = rw (fewer-entry t i e k) (r e q)
+      go : (x : Outcome) → entryAt ws′ start total t i ≡ x → andThen x Stop (λ e. reach ws′ start total (frameOf e) is) ≡ Value g
+          → ((e : ℕ) → reach ws′ start total (frameOf e) is ≡ Value g → reach ws start total (frameOf e) is ≡ Value g)
+          → andThen (entryAt ws start total t i) Stop (λ e. reach ws start total (frameOf e) is) ≡ Value g
+      go (Value e) k q r = rw (fewer-entry t i e k) (r e q)
       go (Stop n) k q r = absurd (nowhere q)
 
   -- so what was not reached is so still
   pub fewer-stop : (p : List ℕ) (t a : ℕ) → reach ws start total t p ≡ Stop a → (b : ℕ) × (reach ws′ start total t p ≡ Stop b)
   fewer-stop p t a h = go (reach ws′ start total t p) refl
     where
-      go : (x : Walked) → reach ws′ start total t p ≡ x → (b : ℕ) × (reach ws′ start total t p ≡ Stop b)
-      go (At g) k = absurd (nowhere (sym h ∙ fewer-reach p t g k))
+      go : (x : Outcome) → reach ws′ start total t p ≡ x → (b : ℕ) × (reach ws′ start total t p ≡ Stop b)
+      go (Value g) k = absurd (nowhere (sym h ∙ fewer-reach p t g k))
       go (Stop b) k = (b, k)

@@ -19,17 +19,18 @@ use Rattle.frame.specs.declared.Changed.{Changed}
 use Rattle.frame.specs.declared.Given.{Given}
 use Rattle.frame.specs.Frames.{Frames, frames, takeFrame, giveFrame}
 use Rattle.frame.specs.Results.{allocated, given}
-use Rattle.paging.specs.declared.Walked.{Walked}
-use Rattle.paging.specs.declared.Walked.the-variants.{At, Stop}
-use Rattle.paging.specs.Walk.{place, Lent}
-use Rattle.paging.specs.Map.{Memory, memory, startOf, totalOf, Out, out, clear, Left, left, Roomy}
-use Rattle.paging.specs.Calls.{changed, asAnswer, mapAt}
+use Rattle.answer.specs.declared.Outcome.{Outcome}
+use Rattle.answer.specs.declared.Outcome.the-variants.{Value, Stop}
+use Rattle.paging.specs.Walk.{place, WordsLent}
+use Rattle.paging.specs.Map.{Memory, memory, startFrame, totalOf, Out, out, clear, Left, left, RoomToTake}
+use Rattle.paging.specs.Calls.{asChanged, mapAt}
+use Rattle.answer.specs.Outcomes.{asAnswer}
 use Rattle.paging.proofs.Map.{roomy-less}
 use Rattle.paging.specs.Pages.{Ran, ran, freshFrame, orFailed, mapFresh, mapPages, clearPage, clearPages, freePages}
 use Rattle.paging.proofs.Pages.{fresh-new, fresh-full, fresh-roomy, fresh-low, map-fresh-on, map-fresh-roomy, map-entry-at}
 use Rattle.paging.proofs.Pages.{map-pages-none, map-pages-on, map-pages-stop, clear-pages-none, clear-pages-more, free-pages-none}
 use Rattle.mapper.proofs.Laws.{stepped}
-use Rattle.pages.specs.Answers.{asWalked}
+use Rattle.pages.specs.Answers.{asOutcome}
 
 -- ---- a fresh frame, after `take_frame`
 
@@ -40,10 +41,10 @@ module _ (m : Memory) (r : Allocated) (bm : List ℕ) (e : r ≡ allocated (take
   answered : takeFrame (m .frames) .answer ≡ r .answer
   answered = sym (ap (λ (x : Allocated). x .answer) e)
 
-  pub fresh-made : (f : Frame) → r .answer ≡ AtFrame f → (ws : List ℕ) (at : ℕ) → ws ≡ clear (m .words) at 512 → at ≡ place (startOf m) (f .0) 0
-      → out (At (f .0)) (memory ws (frames bm (r .frames))) ≡ freshFrame m
+  pub fresh-made : (f : Frame) → r .answer ≡ AtFrame f → (ws : List ℕ) (at : ℕ) → ws ≡ clear (m .words) at 512 → at ≡ place (startFrame m) (f .0) 0
+      → out (Value (f .0)) (memory ws (frames bm (r .frames))) ≡ freshFrame m
   fresh-made f q ws at z y =
-      let from : at ≡ (f .0 - startOf m) * 512 = omega arith in
+      let from : at ≡ (f .0 - startFrame m) * 512 = omega arith in
       rw (z, from, kept) (sym (fresh-new m f (answered ∙ q)))
 
   pub fresh-refused : (n : ℕ) → r .answer ≡ NoFrame n → out (Stop n) (memory (m .words) (frames bm (r .frames))) ≡ freshFrame m
@@ -51,35 +52,35 @@ module _ (m : Memory) (r : Allocated) (bm : List ℕ) (e : r ≡ allocated (take
 
 -- ---- a page on it
 
-pub fresh-left : {w : Walked} {m m′ : Memory} → out w m′ ≡ freshFrame m → (n : ℕ) → Roomy m (n + 1) → Roomy m′ n
-fresh-left {m = m} e n r = subst (λ (x : Memory). Roomy x n) (sym (ap (λ (o : Out). o .mem) e)) (fresh-roomy m n r)
+pub fresh-left : {w : Outcome} {m m′ : Memory} → out w m′ ≡ freshFrame m → (n : ℕ) → RoomToTake m (n + 1) → RoomToTake m′ n
+fresh-left {m = m} e n r = subst (λ (x : Memory). RoomToTake x n) (sym (ap (λ (o : Out). o .mem) e)) (fresh-roomy m n r)
 
 -- what the mapping of a page answers says where it came
-told-at : (o : Out) → ((x : ℕ) → o .walked ≡ At x → x ≡ 0) → asWalked (asAnswer (o .walked)) ≡ o .walked
+told-at : (o : Out) → ((x : ℕ) → o .walked ≡ Value x → x ≡ 0) → asOutcome (asAnswer (o .walked)) ≡ o .walked
 told-at o h = go (o .walked) h
   where
-    go : (w : Walked) → ((x : ℕ) → w ≡ At x → x ≡ 0) → asWalked (asAnswer w) ≡ w
-    go (At x) k = ap At (sym (k x refl))
+    go : (w : Outcome) → ((x : ℕ) → w ≡ Value x → x ≡ 0) → asOutcome (asAnswer w) ≡ w
+    go (Value x) k = ap Value (sym (k x refl))
     go (Stop n) k = refl
 
-module _ (up : ℕ) (w u : Bool) (m : Memory) (root v : ℕ) (low : startOf m + totalOf m ≤ 2 ^ 40) where
-  pub map-fresh-made : (f : ℕ) (m′ : Memory) → freshFrame m ≡ out (At f) m′ → (e a : ℕ) → e ≡ entryOf a w u → a ≡ f * 2 ^ 12 % 2 ^ 64
+module _ (up : ℕ) (w u : Bool) (m : Memory) (root v : ℕ) (low : startFrame m + totalOf m ≤ 2 ^ 40) where
+  pub map-fresh-made : (f : ℕ) (m′ : Memory) → freshFrame m ≡ out (Value f) m′ → (e a : ℕ) → e ≡ entryOf a w u → a ≡ f * 2 ^ 12 % 2 ^ 64
       → (r : Changed) (ws bm : List ℕ)
-      → (r ≡ changed (mapAt up up u m′ root v e)) × ((ws ≡ mapAt up up u m′ root v e .mem .words) × (bm ≡ mapAt up up u m′ root v e .mem .frames .bits))
-      → (x : Walked) → x ≡ orFailed (asWalked (r .answer)) → out x (memory ws (frames bm (r .frames))) ≡ mapFresh up w u m root v
+      → (r ≡ asChanged (mapAt up up u m′ root v e)) × ((ws ≡ mapAt up up u m′ root v e .mem .words) × (bm ≡ mapAt up up u m′ root v e .mem .frames .bits))
+      → (x : Outcome) → x ≡ orFailed (asOutcome (r .answer)) → out x (memory ws (frames bm (r .frames))) ≡ mapFresh up w u m root v
   map-fresh-made f m′ h e a q g r ws bm p x y =
       let low-f : f < 2 ^ 40 = fresh-low m f (ap (λ (o : Out). o .walked) h) low in
       let small : a ≡ f * 2 ^ 12 = g ∙ mod-eq-of-lt (omega arith) in
       let word : e ≡ entryOf (f * 2 ^ 12) w u = q ∙ ap (λ (n : ℕ). entryOf n w u) small in
       let came : x ≡ orFailed (mapAt up up u m′ root v e .walked) =
-      y ∙ ap (λ (c : Changed). orFailed (asWalked (c .answer))) (p .0) ∙ ap orFailed (told-at (mapAt up up u m′ root v e) (map-entry-at u m′ root _ _ e)) in
+      y ∙ ap (λ (c : Changed). orFailed (asOutcome (c .answer))) (p .0) ∙ ap orFailed (told-at (mapAt up up u m′ root v e) (map-entry-at u m′ root _ _ e)) in
       (λ j. out (came j) (memory (p .1 .0 j) (frames (p .1 .1 j) (p .0 j .frames))))
       ∙ ap (λ (n : ℕ). out (orFailed (mapAt up up u m′ root v n .walked)) (mapAt up up u m′ root v n .mem)) word
       ∙ sym (map-fresh-on up w u m root v f m′ h)
 
-pub map-fresh-left : {w : Walked} {m′ : Memory} (wr u : Bool) (m : Memory) (root v : ℕ) → out w m′ ≡ mapFresh 3 wr u m root v
-    → (n : ℕ) → Roomy m (n + 4) → Roomy m′ n
-map-fresh-left wr u m root v e n r = subst (λ (x : Memory). Roomy x n) (sym (ap (λ (o : Out). o .mem) e)) (map-fresh-roomy 3 wr u m root v n r)
+pub map-fresh-left : {w : Outcome} {m′ : Memory} (wr u : Bool) (m : Memory) (root v : ℕ) → out w m′ ≡ mapFresh 3 wr u m root v
+    → (n : ℕ) → RoomToTake m (n + 4) → RoomToTake m′ n
+map-fresh-left wr u m root v e n r = subst (λ (x : Memory). RoomToTake x n) (sym (ap (λ (o : Out). o .mem) e)) (map-fresh-roomy 3 wr u m root v n r)
 
 -- ---- runs, at turn i of n
 
@@ -91,19 +92,19 @@ module _ (root v i n : ℕ) (lt : i < n) where
   next-page = omega arith
 
   module _ (up : ℕ) (w u : Bool) (m m′ : Memory) where
-    pub run-on : (x : ℕ) → mapFresh up w u m root (v + i * 4096) ≡ out (At x) m′
+    pub run-on : (x : ℕ) → mapFresh up w u m root (v + i * 4096) ≡ out (Value x) m′
         → mapPages up w u m root (v + i * 4096) i (n - i) ≡ mapPages up w u m′ root (v + (i + 1) * 4096) (i + 1) (n - (i + 1))
     run-on x e = rw (one-less, next-page, add-one i) (map-pages-on up w u m root _ i _ m′ x e)
 
     pub run-stop : (a : ℕ) → mapFresh up w u m root (v + i * 4096) ≡ out (Stop a) m′ → mapPages up w u m root (v + i * 4096) i (n - i) ≡ ran (Stop a) i m′
     run-stop a e = rw one-less (map-pages-stop up w u m root _ i _ m′ a e)
 
-  module _ (w u : Bool) (m m′ : Memory) {x : Walked} (e : out x m′ ≡ mapFresh 3 w u m root (v + i * 4096)) where
-    pub turn-left : Roomy m ((n - i) * 4) → Roomy m′ ((n - (i + 1)) * 4)
+  module _ (w u : Bool) (m m′ : Memory) {x : Outcome} (e : out x m′ ≡ mapFresh 3 w u m root (v + i * 4096)) where
+    pub turn-left : RoomToTake m ((n - i) * 4) → RoomToTake m′ ((n - (i + 1)) * 4)
     turn-left r = map-fresh-left w u m root (v + i * 4096) e ((n - (i + 1)) * 4) (roomy-less ((n - (i + 1)) * 4 + 4) (omega arith) r)
 
     module _ {o : Ran} (a : o ≡ mapPages 3 w u m root (v + i * 4096) i (n - i)) where
-      pub turn-on : (y : ℕ) → x ≡ At y → o ≡ mapPages 3 w u m′ root (v + (i + 1) * 4096) (i + 1) (n - (i + 1))
+      pub turn-on : (y : ℕ) → x ≡ Value y → o ≡ mapPages 3 w u m′ root (v + (i + 1) * 4096) (i + 1) (n - (i + 1))
       turn-on y h = a ∙ run-on 3 w u m m′ y (stepped e h)
 
       pub turn-stop : (y : ℕ) → x ≡ Stop y → ran (Stop y) i m′ ≡ o
@@ -118,7 +119,7 @@ module _ (root v i n : ℕ) (over : n ≤ i) (m : Memory) where
   none-left : n - i ≡ 0
   none-left = omega arith
 
-  pub run-end : (up : ℕ) (w u : Bool) → mapPages up w u m root v i (n - i) ≡ ran (At 0) i m
+  pub run-end : (up : ℕ) (w u : Bool) → mapPages up w u m root v i (n - i) ≡ ran (Value 0) i m
   run-end up w u = rw none-left (map-pages-none up w u m root v i)
 
   pub clear-end : (up : ℕ) → clearPages up m root v (n - i) ≡ m
@@ -129,7 +130,7 @@ module _ (root v i n : ℕ) (over : n ≤ i) (m : Memory) where
 
 -- ---- a leaf, after `unmap_leaf`
 
-pub unmapped : {l : Left} {w w′ : Walked} {ws : List ℕ} → w ≡ l .walked → ws ≡ l .words → w ≡ w′ → l ≡ left w′ ws
+pub unmapped : {l : Left} {w w′ : Outcome} {ws : List ℕ} → w ≡ l .walked → ws ≡ l .words → w ≡ w′ → l ≡ left w′ ws
 unmapped a b c = λ j. left ((sym a ∙ c) j) (sym b j)
 
 -- the frame that was given back
@@ -138,5 +139,5 @@ pub given-back : (ws : List ℕ) (fr : Frames) (f : ℕ) {r : Given} {bm : List 
 given-back ws fr f a b = λ j. memory ws (frames (b j) (a j .frames))
 
 -- words of the same number are lent still
-pub lent-still : {ws ws′ : List ℕ} {start total : ℕ} → length ws′ ≡ length ws → Lent ws start total → Lent ws′ start total
+pub lent-still : {ws ws′ : List ℕ} {start total : ℕ} → length ws′ ≡ length ws → WordsLent ws start total → WordsLent ws′ start total
 lent-still {total = total} e l = record { few = l .few; enough = subst (λ (n : ℕ). total * 512 ≤ n) (sym e) (l .enough); low = l .low }

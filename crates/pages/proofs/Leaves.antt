@@ -4,9 +4,9 @@ use mathlib.Core.Path.{_≡_, sym, subst}
 use mathlib.Core.List.{List}
 use native.Mathlib.Omega.{arith}
 use Rattle.frame.specs.Frames.{giveFrame}
-use Rattle.paging.specs.declared.Walked.{Walked}
-use Rattle.paging.specs.declared.Walked.the-variants.{At, Stop}
-use Rattle.paging.specs.Map.{Memory, memory, startOf, totalOf, left, takeLeaf, Roomy}
+use Rattle.answer.specs.declared.Outcome.{Outcome}
+use Rattle.answer.specs.declared.Outcome.the-variants.{Value, Stop}
+use Rattle.paging.specs.Map.{Memory, memory, startFrame, totalOf, left, takeLeaf, RoomToTake}
 use Rattle.paging.specs.Pages.{freed}
 use Rattle.paging.proofs.Map.{take-leaf-length}
 use Rattle.paging.proofs.Pages.{give-roomy}
@@ -14,31 +14,31 @@ use Rattle.pages.specs.Freeing.{freeLeaf, freeLeaves}
 
 -- after `take_leaf`
 module _ (m : Memory) (t i : ℕ) (ws : List ℕ) where
-  pub leaf-none : (n : ℕ) → takeLeaf (m .words) (startOf m) (totalOf m) t i ≡ left (Stop n) ws → freeLeaf m t i ≡ memory ws (m .frames)
+  pub leaf-none : (n : ℕ) → takeLeaf (m .words) (startFrame m) (totalOf m) t i ≡ left (Stop n) ws → freeLeaf m t i ≡ memory ws (m .frames)
   unfolding freeLeaf
   leaf-none n e = rw e
 
-  pub leaf-freed : (f : ℕ) → takeLeaf (m .words) (startOf m) (totalOf m) t i ≡ left (At f) ws → freeLeaf m t i ≡ memory ws (giveFrame (m .frames) f .frames)
+  pub leaf-freed : (f : ℕ) → takeLeaf (m .words) (startFrame m) (totalOf m) t i ≡ left (Value f) ws → freeLeaf m t i ≡ memory ws (giveFrame (m .frames) f .frames)
   unfolding freeLeaf
   leaf-freed f e = rw e
 
 -- the room that is left
-leaf-roomy : (m : Memory) (t i n : ℕ) → Roomy m n → Roomy (freeLeaf m t i) n
+leaf-roomy : (m : Memory) (t i n : ℕ) → RoomToTake m n → RoomToTake (freeLeaf m t i) n
 unfolding freeLeaf
-leaf-roomy m t i n r = go (takeLeaf (m .words) (startOf m) (totalOf m) t i .walked)
+leaf-roomy m t i n r = go (takeLeaf (m .words) (startFrame m) (totalOf m) t i .walked)
   where
     ws : List ℕ
-    ws = takeLeaf (m .words) (startOf m) (totalOf m) t i .words
+    ws = takeLeaf (m .words) (startFrame m) (totalOf m) t i .words
 
-    same : Roomy (memory ws (m .frames)) n
-    same = record { enough = subst (λ (x : ℕ). totalOf m * 512 ≤ x) (sym (take-leaf-length (m .words) (startOf m) (totalOf m) t i)) (r .enough); held = r .held }
+    same : RoomToTake (memory ws (m .frames)) n
+    same = record { enough = subst (λ (x : ℕ). totalOf m * 512 ≤ x) (sym (take-leaf-length (m .words) (startFrame m) (totalOf m) t i)) (r .enough); held = r .held }
 
-    go : (x : Walked) → Roomy (memory ws (freed x (m .frames))) n
-    go (At f) = give-roomy ws (m .frames) f n same
+    go : (x : Outcome) → RoomToTake (memory ws (freed x (m .frames))) n
+    go (Value f) = give-roomy ws (m .frames) f n same
     go (Stop a) = same
 
-pub leaf-left : {m′ : Memory} (m : Memory) (t i : ℕ) → m′ ≡ freeLeaf m t i → Roomy m 0 → Roomy m′ 0
-leaf-left m t i e r = subst (λ (x : Memory). Roomy x 0) (sym e) (leaf-roomy m t i 0 r)
+pub leaf-left : {m′ : Memory} (m : Memory) (t i : ℕ) → m′ ≡ freeLeaf m t i → RoomToTake m 0 → RoomToTake m′ 0
+leaf-left m t i e r = subst (λ (x : Memory). RoomToTake x 0) (sym e) (leaf-roomy m t i 0 r)
 
 -- turn j of n, and after the last
 pub leaves-on : (t i j n : ℕ) → j < n → (m m′ : Memory) → m′ ≡ freeLeaf m t (i + j) → freeLeaves m t (i + j) (n - j) ≡ freeLeaves m′ t (i + (j + 1)) (n - (j + 1))

@@ -8,12 +8,13 @@ use Rattle.bits.specs.Bit.{flag}
 use Rattle.bits.proofs.Choice.{pick-cases}
 use Rattle.entry.proofs.Entry.{flag-zero}
 use Rattle.frame.specs.declared.Found.{Found}
-use Rattle.frame.specs.Frames.{Frames, Did, inside, withoutMark}
+use Rattle.frame.specs.Frames.{Frames, FramesDid, inside, withoutMark}
 use Rattle.frame.proofs.Laws.{give-cases}
-use Rattle.paging.specs.declared.Walked.{Walked}
-use Rattle.paging.specs.declared.Walked.the-variants.{At, Stop}
+use Rattle.answer.specs.Outcomes.{andThen}
+use Rattle.answer.specs.declared.Outcome.{Outcome}
+use Rattle.answer.specs.declared.Outcome.the-variants.{Value, Stop}
 use Rattle.paging.specs.Walk.{place, reach}
-use Rattle.paging.specs.Map.{Memory, memory, startOf, totalOf, Left, left, takeLeaf, afterReach, unmapEntry}
+use Rattle.paging.specs.Map.{Memory, memory, startFrame, totalOf, Left, left, takeLeaf, unmapEntry}
 use Rattle.paging.specs.Pages.{unmapLeaf, freed, freePage}
 use Rattle.paging.proofs.Map.{take-leaf-there, unmap-entry-take}
 use Rattle.tree.proofs.Paths.{path, upper, last, path-split}
@@ -23,7 +24,7 @@ use Rattle.pages.specs.Freeing.{freeLeaf}
 use Rattle.pages.proofs.Fewer.{Fewer, fewer-refl, fewer-trans, fewer-set, set-own, fewer-entry, fewer-reach, fewer-stop}
 
 pub record Less (m m′ : Memory) : Type 0 where
-  pub start : startOf m′ ≡ startOf m
+  pub start : startFrame m′ ≡ startFrame m
   pub total : totalOf m′ ≡ totalOf m
   pub words : Fewer (m .words) (m′ .words)
 
@@ -34,21 +35,21 @@ pub less-trans : {a b c : Memory} → Less a b → Less b c → Less a c
 less-trans f g = record { start = g .start ∙ f .start; total = g .total ∙ f .total; words = fewer-trans (f .words) (g .words) }
 
 module _ {m m′ : Memory} (f : Less m m′) (root : ℕ) (p : List ℕ) where
-  same-lent : reachIn m′ root p ≡ reach (m′ .words) (startOf m) (totalOf m) root p
+  same-lent : reachIn m′ root p ≡ reach (m′ .words) (startFrame m) (totalOf m) root p
   same-lent = rw (f .start, f .total)
 
-  pub less-reach : (g : ℕ) → reachIn m′ root p ≡ At g → reachIn m root p ≡ At g
-  less-reach g h = fewer-reach (f .words) (startOf m) (totalOf m) p root g (sym same-lent ∙ h)
+  pub less-reach : (g : ℕ) → reachIn m′ root p ≡ Value g → reachIn m root p ≡ Value g
+  less-reach g h = fewer-reach (f .words) (startFrame m) (totalOf m) p root g (sym same-lent ∙ h)
 
   pub less-stop : (a : ℕ) → reachIn m root p ≡ Stop a → (b : ℕ) × (reachIn m′ root p ≡ Stop b)
-  less-stop a h = let s = fewer-stop (f .words) (startOf m) (totalOf m) p root a h in (s .0, same-lent ∙ s .1)
+  less-stop a h = let s = fewer-stop (f .words) (startFrame m) (totalOf m) p root a h in (s .0, same-lent ∙ s .1)
 
 -- ---- a leaf freed, and a page
 
-freed-lent : (w : Walked) (fr : Frames) → (freed w fr .fa .start ≡ fr .fa .start) × (freed w fr .fa .total ≡ fr .fa .total)
+freed-lent : (w : Outcome) (fr : Frames) → (freed w fr .fa .start ≡ fr .fa .start) × (freed w fr .fa .total ≡ fr .fa .total)
 unfolding withoutMark
-freed-lent (At f) fr =
-    give-cases fr f (λ (d : Did Found). (d .frames .fa .start ≡ fr .fa .start) × (d .frames .fa .total ≡ fr .fa .total))
+freed-lent (Value f) fr =
+    give-cases fr f (λ (d : FramesDid Found). (d .frames .fa .start ≡ fr .fa .start) × (d .frames .fa .total ≡ fr .fa .total))
     (λ _. (refl, refl)) (λ _ _. (refl, refl)) (λ _ _. (refl, refl))
 freed-lent (Stop n) fr = (refl, refl)
 
@@ -66,17 +67,17 @@ unmap-fewer : (ws : List ℕ) (start total root : ℕ) (p : List ℕ) (i : ℕ) 
 unfolding unmapEntry
 unmap-fewer ws start total root p i = go (reach ws start total root p)
   where
-    go : (w : Walked) → Fewer ws (afterReach w ws (λ t. takeLeaf ws start total t i) .words)
-    go (At t) = take-fewer ws start total t i
+    go : (w : Outcome) → Fewer ws (andThen w (λ n. left (Stop n) ws) (λ t. takeLeaf ws start total t i) .words)
+    go (Value t) = take-fewer ws start total t i
     go (Stop n) = fewer-refl ws
 
 pub leaf-less : (m : Memory) (t i : ℕ) → Less m (freeLeaf m t i)
 unfolding freeLeaf
-leaf-less m t i = freed-less m (takeLeaf (m .words) (startOf m) (totalOf m) t i) (take-fewer (m .words) (startOf m) (totalOf m) t i)
+leaf-less m t i = freed-less m (takeLeaf (m .words) (startFrame m) (totalOf m) t i) (take-fewer (m .words) (startFrame m) (totalOf m) t i)
 
 pub free-less : (up : ℕ) (m : Memory) (root v : ℕ) → Less m (freePage up m root v)
 unfolding freePage
-free-less up m root v = freed-less m (unmapLeaf up m root v) (unmap-fewer (m .words) (startOf m) (totalOf m) root (upper up v) (last up v))
+free-less up m root v = freed-less m (unmapLeaf up m root v) (unmap-fewer (m .words) (startFrame m) (totalOf m) root (upper up v) (last up v))
 
 -- a page that was freed is not reached
 pub free-gone : (up : ℕ) (m : Memory) (root v : ℕ) → (b : ℕ) × (reachIn (freePage up m root v) root (path up v) ≡ Stop b)
@@ -95,20 +96,20 @@ free-gone up m root v = go (reachIn m′ root (path up v)) refl
     f : Less m m′
     f = free-less up m root v
 
-    still : (g : ℕ) → reach ws′ (startOf m) (totalOf m) root (upper up v ++ (last up v ∷ [])) ≡ At g → ⊥
+    still : (g : ℕ) → reach ws′ (startFrame m) (totalOf m) root (upper up v ++ (last up v ∷ [])) ≡ Value g → ⊥
     still g h =
-        let b = reach-back ws′ (startOf m) (totalOf m) root (upper up v) (last up v) g h in
+        let b = reach-back ws′ (startFrame m) (totalOf m) root (upper up v) (last up v) g h in
         let t = b .table in
-        let way : reach ws (startOf m) (totalOf m) root (upper up v) ≡ At t = fewer-reach (f .words) (startOf m) (totalOf m) (upper up v) root t (b .way) in
-        let c = entry-cases ws (startOf m) (totalOf m) t (last up v) (b .word) (fewer-entry (f .words) (startOf m) (totalOf m) t (last up v) (b .word) (b .entry)) in
-        let c′ = entry-cases ws′ (startOf m) (totalOf m) t (last up v) (b .word) (b .entry) in
-        let e : unmapLeaf up m root v ≡ left (At _) (set ws (place (startOf m) t (last up v)) 0) =
-        unmap-entry-take ws (startOf m) (totalOf m) root (upper up v) (last up v) t way
-        ∙ take-leaf-there ws (startOf m) (totalOf m) t (last up v) (c .table) (rw (c .word) (c .bit)) in
+        let way : reach ws (startFrame m) (totalOf m) root (upper up v) ≡ Value t = fewer-reach (f .words) (startFrame m) (totalOf m) (upper up v) root t (b .way) in
+        let c = entry-cases ws (startFrame m) (totalOf m) t (last up v) (b .word) (fewer-entry (f .words) (startFrame m) (totalOf m) t (last up v) (b .word) (b .entry)) in
+        let c′ = entry-cases ws′ (startFrame m) (totalOf m) t (last up v) (b .word) (b .entry) in
+        let e : unmapLeaf up m root v ≡ left (Value _) (set ws (place (startFrame m) t (last up v)) 0) =
+        unmap-entry-take ws (startFrame m) (totalOf m) root (upper up v) (last up v) t way
+        ∙ take-leaf-there ws (startFrame m) (totalOf m) t (last up v) (c .table) (rw (c .word) (c .bit)) in
         let z : b .word ≡ 0 =
-        sym (c′ .word) ∙ ap (λ (l : Left). getD (l .words) (place (startOf m) t (last up v)) 0) e ∙ set-own ws (place (startOf m) t (last up v)) in
+        sym (c′ .word) ∙ ap (λ (l : Left). getD (l .words) (place (startFrame m) t (last up v)) 0) e ∙ set-own ws (place (startFrame m) t (last up v)) in
         false≢true (sym (flag-zero 0) ∙ ap (flag 0) (sym z) ∙ c′ .bit)
 
-    go : (x : Walked) → reachIn m′ root (path up v) ≡ x → (b : ℕ) × (reachIn m′ root (path up v) ≡ Stop b)
+    go : (x : Outcome) → reachIn m′ root (path up v) ≡ x → (b : ℕ) × (reachIn m′ root (path up v) ≡ Stop b)
     go (Stop b) h = (b, h)
-    go (At g) h = absurd (still g (ap (reach ws′ (startOf m) (totalOf m) root) (path-split up v) ∙ sym (same-lent f root (path up v)) ∙ h))
+    go (Value g) h = absurd (still g (ap (reach ws′ (startFrame m) (totalOf m) root) (path-split up v) ∙ sym (same-lent f root (path up v)) ∙ h))

@@ -15,9 +15,9 @@ use Rattle.bits.specs.Bit.{flag}
 use Rattle.bits.proofs.Choice.{pick-cases}
 use Rattle.frame.specs.Frames.{inside}
 use Rattle.frame.proofs.Laws.{inside-from}
-use Rattle.paging.specs.declared.Walked.the-variants.{At, Stop}
+use Rattle.answer.specs.declared.Outcome.the-variants.{Value, Stop}
 use Rattle.paging.specs.Walk.{place, reach}
-use Rattle.paging.specs.Map.{Memory, memory, startOf, totalOf, Left, takeLeaf}
+use Rattle.paging.specs.Map.{Memory, memory, startFrame, totalOf, Left, takeLeaf}
 use Rattle.paging.specs.Pages.{freed, freePage, freePages}
 use Rattle.paging.proofs.Map.{unmap-entry-take}
 use Rattle.tree.proofs.Paths.{path, upper, last, last-small}
@@ -114,41 +114,41 @@ module _ (up root : ℕ) (m : Memory) (v : ℕ) where
 
 -- a leaf freed changes its own entry alone
 leaf-rest : (m : Memory) (t i s j : ℕ) → insideIn m t ≡ true → i < 512 → insideIn m s ≡ true → j < 512 → ((s ≡ t) × (j ≡ i) → ⊥)
-    → getD (freeLeaf m t i .words) (place (startOf m) s j) 0 ≡ getD (m .words) (place (startOf m) s j) 0
+    → getD (freeLeaf m t i .words) (place (startFrame m) s j) 0 ≡ getD (m .words) (place (startFrame m) s j) 0
 unfolding freeLeaf takeLeaf
 leaf-rest m t i s j it li is lj d =
-    let P : Left → Type 0 = λ l. getD (l .words) (place (startOf m) s j) 0 ≡ getD (m .words) (place (startOf m) s j) 0 in
-    pick-cases P (inside (startOf m) (totalOf m) t) _ _
-    (λ _. pick-cases P (flag 0 (getD (m .words) (place (startOf m) t i) 0)) _ _
-    (λ _. getD-set-other (m .words) (place (startOf m) t i) (place (startOf m) s j) 0 0 (λ e.
-    let a = inside-from (startOf m) (totalOf m) t it in
-    let b = inside-from (startOf m) (totalOf m) s is in
-    d (place-table (startOf m) t i s j a b li lj e, place-index (startOf m) t i s j a b li lj e)))
+    let P : Left → Type 0 = λ l. getD (l .words) (place (startFrame m) s j) 0 ≡ getD (m .words) (place (startFrame m) s j) 0 in
+    pick-cases P (inside (startFrame m) (totalOf m) t) _ _
+    (λ _. pick-cases P (flag 0 (getD (m .words) (place (startFrame m) t i) 0)) _ _
+    (λ _. getD-set-other (m .words) (place (startFrame m) t i) (place (startFrame m) s j) 0 0 (λ e.
+    let a = inside-from (startFrame m) (totalOf m) t it in
+    let b = inside-from (startFrame m) (totalOf m) s is in
+    d (place-table (startFrame m) t i s j a b li lj e, place-index (startFrame m) t i s j a b li lj e)))
     (λ _. refl)) (λ _. refl)
 
 -- no entry on the way to page v, but for the last of its k leaves, is one of those that are freed
 abbrev pub Apart : ℕ → Memory → ℕ → ℕ → ℕ → ℕ → Type 0
-Apart up m root v t k = (a : List ℕ) (i : ℕ) (r : List ℕ) → upper up v ≡ a ++ (i ∷ r) → reachIn m root a ≡ At t → Off i (last up v) k
+Apart up m root v t k = (a : List ℕ) (i : ℕ) (r : List ℕ) → upper up v ≡ a ++ (i ∷ r) → reachIn m root a ≡ Value t → Off i (last up v) k
 
 -- then the way to the next page is the same
-way-next : (up root : ℕ) (m : Memory) (v t k : ℕ) → reachIn m root (upper up v) ≡ At t → insideIn m t ≡ true → Apart up m root v t (suc (suc k))
-    → reachIn (freeLeaf m t (last up v)) root (upper up v) ≡ At t
+way-next : (up root : ℕ) (m : Memory) (v t k : ℕ) → reachIn m root (upper up v) ≡ Value t → insideIn m t ≡ true → Apart up m root v t (suc (suc k))
+    → reachIn (freeLeaf m t (last up v)) root (upper up v) ≡ Value t
 way-next up root m v t k way ins apart =
     let f = leaf-less m t (last up v) in
     let ws′ = freeLeaf m t (last up v) .words in
-    let same : reach ws′ (startOf m) (totalOf m) root (upper up v) ≡ reachIn m root (upper up v) =
-    same-reach (m .words) ws′ (startOf m) (totalOf m) (upper up v) root
-    (same-along (m .words) ws′ (startOf m) (totalOf m) (λ s j. (s ≡ t) × (j ≡ last up v))
+    let same : reach ws′ (startFrame m) (totalOf m) root (upper up v) ≡ reachIn m root (upper up v) =
+    same-reach (m .words) ws′ (startFrame m) (totalOf m) (upper up v) root
+    (same-along (m .words) ws′ (startFrame m) (totalOf m) (λ s j. (s ≡ t) × (j ≡ last up v))
     (λ s j is lj d. leaf-rest m t (last up v) s j ins (last-small up v) is lj d) (upper up v) root
-    (λ a i r s e h _ _ d. ⊎-elim (λ l. omega (arith, d .1)) (λ l. omega (arith, d .1)) (apart a i r e (h ∙ ap At (d .0))))) in
+    (λ a i r s e h _ _ d. ⊎-elim (λ l. omega (arith, d .1)) (λ l. omega (arith, d .1)) (apart a i r e (h ∙ ap Value (d .0))))) in
     rw (f .start, f .total) (same ∙ way)
 
-leaf-is : (up root : ℕ) (m : Memory) (v t : ℕ) → reachIn m root (upper up v) ≡ At t → freePage up m root v ≡ freeLeaf m t (last up v)
+leaf-is : (up root : ℕ) (m : Memory) (v t : ℕ) → reachIn m root (upper up v) ≡ Value t → freePage up m root v ≡ freeLeaf m t (last up v)
 unfolding freePage freeLeaf
 leaf-is up root m v t way =
-    ap (λ (l : Left). memory (l .words) (freed (l .walked) (m .frames))) (unmap-entry-take (m .words) (startOf m) (totalOf m) root (upper up v) (last up v) t way)
+    ap (λ (l : Left). memory (l .words) (freed (l .walked) (m .frames))) (unmap-entry-take (m .words) (startFrame m) (totalOf m) root (upper up v) (last up v) t way)
 
-pub leaves-are : (up root k : ℕ) (m : Memory) (v t : ℕ) → reachIn m root (upper up v) ≡ At t → insideIn m t ≡ true → last up v + k ≤ 512 → Apart up m root v t k
+pub leaves-are : (up root k : ℕ) (m : Memory) (v t : ℕ) → reachIn m root (upper up v) ≡ Value t → insideIn m t ≡ true → last up v + k ≤ 512 → Apart up m root v t k
     → freePages up m root v k ≡ freeLeaves m t (last up v) k
 unfolding freePages freeLeaves
 leaves-are up root zero m v t way ins fit apart = refl

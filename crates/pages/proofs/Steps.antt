@@ -9,7 +9,7 @@ use mir.Val.{Fits}
 use lib.ListN.{length, getD, take, length-append}
 use lib.Seq.{getD-take, getD-append-seam, take-append-seam, take-take}
 use Rattle.entry.specs.Entry.{indices}
-use Rattle.paging.specs.Map.{Memory, startOf, totalOf, Roomy}
+use Rattle.paging.specs.Map.{Memory, startFrame, totalOf, RoomToTake}
 use Rattle.paging.specs.Pages.{freePages}
 use Rattle.paging.proofs.Pages.{free-pages-roomy}
 use Rattle.tree.proofs.Paths.{last, length-upper}
@@ -31,13 +31,13 @@ module _ (ws : List ℕ) (start total root v : ℕ) {s : Span} (h : IsSpan ws st
   is-leaves e = subst (IsSpan ws start total root v) e h
 
 -- pages that are not mapped
-pub gap-step : (m : Memory) (root v k n : ℕ) {r : ℕ} → IsGap (m .words) (startOf m) (totalOf m) root v k → 0 < n → r ≡ min k n
+pub gap-step : (m : Memory) (root v k n : ℕ) {r : ℕ} → IsGap (m .words) (startFrame m) (totalOf m) root v k → 0 < n → r ≡ min k n
     → (0 < r) × ((r ≤ n) × (m ≡ freePages 3 m root v r))
 gap-step m root v k n {r} g some e =
     (omega (arith, g .some), (omega arith, sym (pass-over 3 root m r v (λ j l. g .off j (omega arith)))))
 
 -- leaves of one table: its way by levels as its way by parts of the path
-by-level : (m : Memory) (root v t k r : ℕ) → IsLeaves (m .words) (startOf m) (totalOf m) root v t k → r ≤ k → Apart 3 m root v t r
+by-level : (m : Memory) (root v t k r : ℕ) → IsLeaves (m .words) (startFrame m) (totalOf m) root v t k → r ≤ k → Apart 3 m root v t r
 by-level m root v t k r g less a i s e h =
     let low : length a < 3 = omega (arith, length-upper 3 v, ap length e, length-append a (i ∷ s)) in
     let from : a ≡ take (length a) (indices 4 v) =
@@ -50,7 +50,7 @@ pub leaves-fit : (ws : List ℕ) (start total root v t k n : ℕ) {r : ℕ} {is 
     → r ≡ min k n → is ≡ indices 4 v → getD is 3 0 + r ≤ 512
 leaves-fit ws start total root v t k n g e i = rw i (omega (arith, g .fit))
 
-pub leaves-step : (m : Memory) (root v t k n i : ℕ) {r : ℕ} {m′ : Memory} → IsLeaves (m .words) (startOf m) (totalOf m) root v t k → 0 < n → r ≡ min k n
+pub leaves-step : (m : Memory) (root v t k n i : ℕ) {r : ℕ} {m′ : Memory} → IsLeaves (m .words) (startFrame m) (totalOf m) root v t k → 0 < n → r ≡ min k n
     → i ≡ last 3 v → m′ ≡ freeLeaves m t i r → (0 < r) × ((r ≤ n) × (m′ ≡ freePages 3 m root v r))
 leaves-step m root v t k n i {r} g some e at h = (
   omega (arith, g .some),
@@ -91,5 +91,5 @@ module _ (n done r : ℕ) (less : r ≤ n - done) where
   pub span-less : 0 < r → n - (done + r) < n - done
   span-less some = omega arith
 
-pub span-roomy : {m′ : Memory} (m : Memory) (root v r : ℕ) → m′ ≡ freePages 3 m root v r → Roomy m 0 → Roomy m′ 0
-span-roomy m root v r e w = subst (λ (x : Memory). Roomy x 0) (sym e) (free-pages-roomy 3 root r m v 0 w)
+pub span-roomy : {m′ : Memory} (m : Memory) (root v r : ℕ) → m′ ≡ freePages 3 m root v r → RoomToTake m 0 → RoomToTake m′ 0
+span-roomy m root v r e w = subst (λ (x : Memory). RoomToTake x 0) (sym e) (free-pages-roomy 3 root r m v 0 w)

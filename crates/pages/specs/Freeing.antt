@@ -6,13 +6,13 @@ use mathlib.Core.List.{List}
 use lib.ListN.{getD}
 use Rattle.bits.specs.Bit.{flag}
 use Rattle.bitmap.specs.Bitmap.{marked}
-use Rattle.paging.specs.Map.{Memory, memory, startOf, totalOf, takeLeaf}
+use Rattle.paging.specs.Map.{Memory, memory, startFrame, totalOf, takeLeaf}
 use Rattle.paging.specs.Pages.{freed}
 
 -- the leaf at entry i of table t, cleared, and its frame freed
 unfoldable pub freeLeaf : Memory → ℕ → ℕ → Memory
 freeLeaf m t i =
-    memory (takeLeaf (m .words) (startOf m) (totalOf m) t i .words) (freed (takeLeaf (m .words) (startOf m) (totalOf m) t i .walked) (m .frames))
+    memory (takeLeaf (m .words) (startFrame m) (totalOf m) t i .words) (freed (takeLeaf (m .words) (startFrame m) (totalOf m) t i .walked) (m .frames))
 
 -- n leaves from entry i on, one after the other
 unfoldable pub freeLeaves : Memory → ℕ → ℕ → ℕ → Memory

@@ -1,15 +1,18 @@
 // Parts of a run of pages freed at once: the leaves of one table, and the pages below an entry that is absent or leads outside.
 use address::Frame;
 use address::VirtAddr;
+use answer::Outcome;
 use frame::FrameAllocator;
-use paging::Walked;
+use frame::Marks;
 use spans::Span;
 ghost use mathlib.Core.Path.{_≡_};
 ghost use mathlib.Core.Bool.{true};
 ghost use Prim.Native.Nat.{ℕ, _+_, _≤_, _<_, min};
-ghost use Rattle.frame.specs.Frames.{frames as framesOf, inside};
-ghost use Rattle.paging.specs.Map.{memory, Roomy};
+ghost use Rattle.frame.specs.Frames.{inside};
+ghost use Rattle.paging.specs.Map.{RoomToTake};
 ghost use Rattle.paging.specs.Pages.{freePages};
+ghost use Rattle.paging.specs.Levels.{aboveLast};
+ghost use Rattle.paging.specs.Kept.{lentMemory};
 ghost use Rattle.pages.specs.Freeing.{freeLeaf, freeLeaves, Blank};
 
 // How many pages were freed.
@@ -30,18 +33,19 @@ pub fn at_most(n: u64, most: u64) -> u64
 // The leaf at entry i of table t, cleared, and its frame freed.
 fn free_leaf(
     words: &mut [u64],
-    bitmap: &mut [u64; 128],
+    bitmap: &mut Marks,
     frames: FrameAllocator,
     t: u64,
     i: usize,
 ) -> FrameAllocator
-    requires { ⌜ Roomy (memory (now words) (framesOf (now bitmap) frames)) 0 ⌝ }
+    requires { ⌜ RoomToTake (lentMemory (now words) (now bitmap) frames) 0 ⌝ }
     requires { ⌜ i < 512 ⌝ }
-    ensures { λ r. ⌜ memory (now (words .exit)) (framesOf (now (bitmap .exit)) r) ≡ freeLeaf (memory (now (words .entry)) (framesOf (now (bitmap .entry)) frames)) t i ⌝ }
+    ensures { λ r. ⌜ lentMemory (now (words .exit)) (now (bitmap .exit)) r
+        ≡ freeLeaf (lentMemory (now (words .entry)) (now (bitmap .entry)) frames) t i ⌝ }
 {
     match mapper::inner::take_leaf(words, frames.start, frames.total, t, i) {
-        Walked::Stop(_) => frames,
-        Walked::At(f) => {
+        Outcome::Stop(_) => frames,
+        Outcome::Value(f) => {
             let given = frame::inner::give_frame(bitmap, frames, Frame(f));
             given.frames
         }
@@ -51,15 +55,16 @@ fn free_leaf(
 // The same of n leaves from entry i on.
 fn free_leaves(
     words: &mut [u64],
-    bitmap: &mut [u64; 128],
+    bitmap: &mut Marks,
     frames: FrameAllocator,
     t: u64,
     i: usize,
     n: u64,
 ) -> FrameAllocator
-    requires { ⌜ Roomy (memory (now words) (framesOf (now bitmap) frames)) 0 ⌝ }
+    requires { ⌜ RoomToTake (lentMemory (now words) (now bitmap) frames) 0 ⌝ }
     requires { ⌜ i + n ≤ 512 ⌝ }
-    ensures { λ r. ⌜ memory (now (words .exit)) (framesOf (now (bitmap .exit)) r) ≡ freeLeaves (memory (now (words .entry)) (framesOf (now (bitmap .entry)) frames)) t i n ⌝ }
+    ensures { λ r. ⌜ lentMemory (now (words .exit)) (now (bitmap .exit)) r
+        ≡ freeLeaves (lentMemory (now (words .entry)) (now (bitmap .entry)) frames) t i n ⌝ }
 {
     let mut left = frames;
     for j in 0..n {
@@ -71,18 +76,19 @@ fn free_leaves(
 // The same where `empty` marks tables without a present entry, which are passed over; a table that was gone through whole is one of them.
 fn free_table(
     words: &mut [u64],
-    bitmap: &mut [u64; 128],
-    empty: &mut [u64; 128],
+    bitmap: &mut Marks,
+    empty: &mut Marks,
     frames: FrameAllocator,
     t: u64,
     i: usize,
     n: u64,
 ) -> FrameAllocator
-    requires { ⌜ Roomy (memory (now words) (framesOf (now bitmap) frames)) 0 ⌝ }
+    requires { ⌜ RoomToTake (lentMemory (now words) (now bitmap) frames) 0 ⌝ }
     requires { ⌜ Blank (now words) (now empty) ⌝ }
     requires { ⌜ inside (frames .start) (frames .total) t ≡ true ⌝ }
     requires { ⌜ i + n ≤ 512 ⌝ }
-    ensures { λ r. ⌜ memory (now (words .exit)) (framesOf (now (bitmap .exit)) r) ≡ freeLeaves (memory (now (words .entry)) (framesOf (now (bitmap .entry)) frames)) t i n ⌝ }
+    ensures { λ r. ⌜ lentMemory (now (words .exit)) (now (bitmap .exit)) r
+        ≡ freeLeaves (lentMemory (now (words .entry)) (now (bitmap .entry)) frames) t i n ⌝ }
     ensures { λ _. ⌜ Blank (now (words .exit)) (now (empty .exit)) ⌝ }
 {
     let place = (t - frames.start) as usize;
@@ -100,20 +106,21 @@ fn free_table(
 // Some of n pages from `virt` on, at least one: those that are freed at once.
 pub fn free_span(
     words: &mut [u64],
-    bitmap: &mut [u64; 128],
-    empty: &mut [u64; 128],
+    bitmap: &mut Marks,
+    empty: &mut Marks,
     frames: FrameAllocator,
     root: Frame,
     virt: VirtAddr,
     n: u64,
 ) -> Freed
-    requires { ⌜ Roomy (memory (now words) (framesOf (now bitmap) frames)) 0 ⌝ }
+    requires { ⌜ RoomToTake (lentMemory (now words) (now bitmap) frames) 0 ⌝ }
     requires { ⌜ Blank (now words) (now empty) ⌝ }
     requires { ⌜ 0 < n ⌝ }
     ensures { λ r. ⌜ Blank (now (words .exit)) (now (empty .exit)) ⌝ }
     ensures { λ r. ⌜ 0 < r .done ⌝ }
     ensures { λ r. ⌜ r .done ≤ n ⌝ }
-    ensures { λ r. ⌜ memory (now (words .exit)) (framesOf (now (bitmap .exit)) (r .frames)) ≡ freePages 3 (memory (now (words .entry)) (framesOf (now (bitmap .entry)) frames)) (root .0) (virt .0) (r .done) ⌝ }
+    ensures { λ r. ⌜ lentMemory (now (words .exit)) (now (bitmap .exit)) (r .frames)
+        ≡ freePages aboveLast (lentMemory (now (words .entry)) (now (bitmap .entry)) frames) (root .0) (virt .0) (r .done) ⌝ }
 {
     match spans::find_span(words, frames.start, frames.total, root, virt) {
         Span::Gap(k) => Freed {

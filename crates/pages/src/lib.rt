@@ -6,46 +6,50 @@ use address::FrameAnswer;
 use address::PhysAddr;
 use address::VirtAddr;
 use answer::Answer;
+use answer::Outcome;
 use entry::paging::PageTableEntry;
 use frame::FrameAllocator;
+use frame::Marks;
 use paging::Entered;
-use paging::Walked;
 ghost use mathlib.Core.Path.{_≡_};
 ghost use mathlib.Core.List.{List};
 ghost use Prim.Native.Nat.{ℕ, _+_, _*_, _^_, _<_};
 ghost use Rattle.frame.specs.Frames.{frames as framesOf};
-ghost use Rattle.paging.specs.Walk.{Lent};
-ghost use Rattle.paging.specs.Map.{memory, out, Roomy};
+ghost use Rattle.paging.specs.Walk.{WordsLent};
+ghost use Rattle.paging.specs.Map.{memory, out, RoomToTake};
 ghost use Rattle.paging.specs.Pages.{ran, freshFrame, orFailed, mapFresh, mapPages, clearPage, freePage, clearPages, freePages};
-ghost use Rattle.pages.specs.Answers.{asWalked};
+ghost use Rattle.paging.specs.Levels.{aboveLast};
+ghost use Rattle.paging.specs.Kept.{lentMemory};
+ghost use Rattle.pages.specs.Answers.{asOutcome};
 
 // All the pages that there are: bits 63-48 of an address are ignored.
 const ALL_PAGES: u64 = 0x10_0000_0000;
 
 // How far a run of pages came: `done` of them are mapped.
 pub struct Run {
-    pub walked: Walked,
+    pub walked: Outcome,
     pub done: u64,
     pub frames: FrameAllocator,
 }
 
 // The lowest free frame, zeroed.
-pub fn fresh_frame(words: &mut [u64], bitmap: &mut [u64; 128], frames: FrameAllocator) -> Entered
-    requires { ⌜ Roomy (memory (now words) (framesOf (now bitmap) frames)) 1 ⌝ }
-    ensures { λ r. ⌜ out (r .walked) (memory (now (words .exit)) (framesOf (now (bitmap .exit)) (r .frames))) ≡ freshFrame (memory (now (words .entry)) (framesOf (now (bitmap .entry)) frames)) ⌝ }
+pub fn fresh_frame(words: &mut [u64], bitmap: &mut Marks, frames: FrameAllocator) -> Entered
+    requires { ⌜ RoomToTake (lentMemory (now words) (now bitmap) frames) 1 ⌝ }
+    ensures { λ r. ⌜ out (r .walked) (lentMemory (now (words .exit)) (now (bitmap .exit)) (r .frames))
+        ≡ freshFrame (lentMemory (now (words .entry)) (now (bitmap .entry)) frames) ⌝ }
 {
     let taken = frame::inner::take_frame(bitmap, frames);
     let answer = taken.answer;
     let left = taken.frames;
     match answer {
         FrameAnswer::NoFrame(n) => Entered {
-            walked: Walked::Stop(n),
+            walked: Outcome::Stop(n),
             frames: left,
         },
         FrameAnswer::AtFrame(f) => {
             mapper::inner::zero_frame(words, walk::entry_place(frames.start, f.0, 0));
             Entered {
-                walked: Walked::At(f.0),
+                walked: Outcome::Value(f.0),
                 frames: left,
             }
         }
@@ -55,25 +59,26 @@ pub fn fresh_frame(words: &mut [u64], bitmap: &mut [u64; 128], frames: FrameAllo
 // A page on a fresh frame: 11 where there is no frame, 13 where it cannot be mapped.
 pub fn map_fresh(
     words: &mut [u64],
-    bitmap: &mut [u64; 128],
+    bitmap: &mut Marks,
     frames: FrameAllocator,
     root: Frame,
     virt: VirtAddr,
     writable: bool,
     user: bool,
 ) -> Entered
-    requires { ⌜ Roomy (memory (now words) (framesOf (now bitmap) frames)) 4 ⌝ }
-    ensures { λ r. ⌜ out (r .walked) (memory (now (words .exit)) (framesOf (now (bitmap .exit)) (r .frames))) ≡ mapFresh 3 writable user (memory (now (words .entry)) (framesOf (now (bitmap .entry)) frames)) (root .0) (virt .0) ⌝ }
+    requires { ⌜ RoomToTake (lentMemory (now words) (now bitmap) frames) 4 ⌝ }
+    ensures { λ r. ⌜ out (r .walked) (lentMemory (now (words .exit)) (now (bitmap .exit)) (r .frames))
+        ≡ mapFresh aboveLast writable user (lentMemory (now (words .entry)) (now (bitmap .entry)) frames) (root .0) (virt .0) ⌝ }
 {
     let fresh = fresh_frame(words, bitmap, frames);
     let walked = fresh.walked;
     let left = fresh.frames;
     match walked {
-        Walked::Stop(n) => Entered {
-            walked: Walked::Stop(n),
+        Outcome::Stop(n) => Entered {
+            walked: Outcome::Stop(n),
             frames: left,
         },
-        Walked::At(f) => {
+        Outcome::Value(f) => {
             let e = PageTableEntry::set(PhysAddr(Frame(f).start_address()), writable, user);
             let mapped = mapper::inner::map_entry(words, bitmap, left, root, virt, 3, user, e.0);
             let answer = mapped.answer;
@@ -89,7 +94,7 @@ pub fn map_fresh(
 // `done` pages of `n` from `virt` on are mapped, in order; it stops at the first page that cannot be had.
 pub fn map_pages(
     words: &mut [u64],
-    bitmap: &mut [u64; 128],
+    bitmap: &mut Marks,
     frames: FrameAllocator,
     root: Frame,
     virt: VirtAddr,
@@ -97,9 +102,10 @@ pub fn map_pages(
     writable: bool,
     user: bool,
 ) -> Run
-    requires { ⌜ Roomy (memory (now words) (framesOf (now bitmap) frames)) (n * 4) ⌝ }
+    requires { ⌜ RoomToTake (lentMemory (now words) (now bitmap) frames) (n * 4) ⌝ }
     requires { ⌜ virt .0 + n * 4096 < 2 ^ 64 ⌝ }
-    ensures { λ r. ⌜ ran (r .walked) (r .done) (memory (now (words .exit)) (framesOf (now (bitmap .exit)) (r .frames))) ≡ mapPages 3 writable user (memory (now (words .entry)) (framesOf (now (bitmap .entry)) frames)) (root .0) (virt .0) 0 n ⌝ }
+    ensures { λ r. ⌜ ran (r .walked) (r .done) (lentMemory (now (words .exit)) (now (bitmap .exit)) (r .frames))
+        ≡ mapPages aboveLast writable user (lentMemory (now (words .entry)) (now (bitmap .entry)) frames) (root .0) (virt .0) 0 n ⌝ }
 {
     let mut left = frames;
     for i in 0..n {
@@ -115,18 +121,18 @@ pub fn map_pages(
         let walked = r.walked;
         left = r.frames;
         match walked {
-            Walked::Stop(a) => {
+            Outcome::Stop(a) => {
                 return Run {
-                    walked: Walked::Stop(a),
+                    walked: Outcome::Stop(a),
                     done: i,
                     frames: left,
                 };
             }
-            Walked::At(_) => {}
+            Outcome::Value(_) => {}
         }
     }
     Run {
-        walked: Walked::At(0),
+        walked: Outcome::Value(0),
         done: n,
         frames: left,
     }
@@ -134,8 +140,8 @@ pub fn map_pages(
 
 // A page's leaf, cleared; a page that is not mapped is passed over.
 pub fn clear_page(words: &mut [u64], frames: FrameAllocator, root: Frame, virt: VirtAddr)
-    requires { ⌜ Lent (now words) (frames .start) (frames .total) ⌝ }
-    ensures { λ _. ⌜ ((b : List ℕ) → memory (now (words .exit)) (framesOf b frames) ≡ clearPage 3 (memory (now (words .entry)) (framesOf b frames)) (root .0) (virt .0)) ⌝ }
+    requires { ⌜ WordsLent (now words) (frames .start) (frames .total) ⌝ }
+    ensures { λ _. ⌜ ((b : List ℕ) → memory (now (words .exit)) (framesOf b frames) ≡ clearPage aboveLast (memory (now (words .entry)) (framesOf b frames)) (root .0) (virt .0)) ⌝ }
 {
     mapper::inner::unmap_leaf(words, frames.start, frames.total, root, virt);
 }
@@ -143,17 +149,18 @@ pub fn clear_page(words: &mut [u64], frames: FrameAllocator, root: Frame, virt: 
 // .. and its frame freed.
 pub fn free_page(
     words: &mut [u64],
-    bitmap: &mut [u64; 128],
+    bitmap: &mut Marks,
     frames: FrameAllocator,
     root: Frame,
     virt: VirtAddr,
 ) -> FrameAllocator
-    requires { ⌜ Roomy (memory (now words) (framesOf (now bitmap) frames)) 0 ⌝ }
-    ensures { λ r. ⌜ memory (now (words .exit)) (framesOf (now (bitmap .exit)) r) ≡ freePage 3 (memory (now (words .entry)) (framesOf (now (bitmap .entry)) frames)) (root .0) (virt .0) ⌝ }
+    requires { ⌜ RoomToTake (lentMemory (now words) (now bitmap) frames) 0 ⌝ }
+    ensures { λ r. ⌜ lentMemory (now (words .exit)) (now (bitmap .exit)) r
+        ≡ freePage aboveLast (lentMemory (now (words .entry)) (now (bitmap .entry)) frames) (root .0) (virt .0) ⌝ }
 {
     match mapper::inner::unmap_leaf(words, frames.start, frames.total, root, virt) {
-        Walked::Stop(_) => frames,
-        Walked::At(f) => {
+        Outcome::Stop(_) => frames,
+        Outcome::Value(f) => {
             let given = frame::inner::give_frame(bitmap, frames, Frame(f));
             given.frames
         }
@@ -162,9 +169,9 @@ pub fn free_page(
 
 // The leaves of `n` pages from `virt` on, cleared.
 pub fn clear_pages(words: &mut [u64], frames: FrameAllocator, root: Frame, virt: VirtAddr, n: u64)
-    requires { ⌜ Lent (now words) (frames .start) (frames .total) ⌝ }
+    requires { ⌜ WordsLent (now words) (frames .start) (frames .total) ⌝ }
     requires { ⌜ virt .0 + n * 4096 < 2 ^ 64 ⌝ }
-    ensures { λ _. ⌜ ((b : List ℕ) → memory (now (words .exit)) (framesOf b frames) ≡ clearPages 3 (memory (now (words .entry)) (framesOf b frames)) (root .0) (virt .0) n) ⌝ }
+    ensures { λ _. ⌜ ((b : List ℕ) → memory (now (words .exit)) (framesOf b frames) ≡ clearPages aboveLast (memory (now (words .entry)) (framesOf b frames)) (root .0) (virt .0) n) ⌝ }
 {
     for i in 0..n {
         clear_page(words, frames, root, VirtAddr(virt.0 + i * 4096));
@@ -174,15 +181,16 @@ pub fn clear_pages(words: &mut [u64], frames: FrameAllocator, root: Frame, virt:
 // .. and their frames freed.
 pub fn free_pages(
     words: &mut [u64],
-    bitmap: &mut [u64; 128],
+    bitmap: &mut Marks,
     frames: FrameAllocator,
     root: Frame,
     virt: VirtAddr,
     n: u64,
 ) -> FrameAllocator
-    requires { ⌜ Roomy (memory (now words) (framesOf (now bitmap) frames)) 0 ⌝ }
+    requires { ⌜ RoomToTake (lentMemory (now words) (now bitmap) frames) 0 ⌝ }
     requires { ⌜ virt .0 + n * 4096 < 2 ^ 64 ⌝ }
-    ensures { λ r. ⌜ memory (now (words .exit)) (framesOf (now (bitmap .exit)) r) ≡ freePages 3 (memory (now (words .entry)) (framesOf (now (bitmap .entry)) frames)) (root .0) (virt .0) n ⌝ }
+    ensures { λ r. ⌜ lentMemory (now (words .exit)) (now (bitmap .exit)) r
+        ≡ freePages aboveLast (lentMemory (now (words .entry)) (now (bitmap .entry)) frames) (root .0) (virt .0) n ⌝ }
 {
     let most = freeing::at_most(n, ALL_PAGES);
     let mut empty: [u64; 128] = [0; 128];
@@ -205,11 +213,11 @@ pub fn free_pages(
 }
 
 // 13 for whatever `map_page` was refused with.
-fn or_failed(a: Answer) -> Walked
-    ensures { λ r. ⌜ r ≡ orFailed (asWalked a) ⌝ }
+fn or_failed(a: Answer) -> Outcome
+    ensures { λ r. ⌜ r ≡ orFailed (asOutcome a) ⌝ }
 {
     match a {
-        Answer::Met => Walked::At(0),
-        Answer::Refused(_) => Walked::Stop(answer::MAP_PAGE_FAILED),
+        Answer::Met => Outcome::Value(0),
+        Answer::Refused(_) => Outcome::Stop(answer::MAP_PAGE_FAILED),
     }
 }

@@ -1,6 +1,6 @@
 -- What the mapper's calls come to: broken, or the step below.
 use Prim.Native.Nat.{ℕ, suc, _^_, _≤_}
-use mathlib.Core.Path.{_≡_, sym, ap}
+use mathlib.Core.Path.{_≡_, refl, sym, ap}
 use mathlib.Core.Bool.{Bool, true, false}
 use mathlib.Core.List.{List}
 use native.Mathlib.Omega.{arith}
@@ -12,17 +12,23 @@ use Rattle.address.specs.Address.{aligned}
 use Rattle.entry.specs.Entry.{entryOf, hugeEntryOf, indices}
 use Rattle.frame.specs.Frames.{sound}
 use Rattle.frame.proofs.Laws.{sound-held}
-use Rattle.paging.specs.declared.Walked.the-variants.{Stop}
+use Rattle.answer.specs.declared.Outcome.{Outcome}
+use Rattle.answer.specs.declared.Outcome.the-variants.{Value, Stop}
 use Rattle.paging.specs.declared.HugePageSize.{HugePageSize}
 use Rattle.paging.specs.declared.HugePageSize.the-variants.{Size2MB, Size1GB}
-use Rattle.paging.specs.Walk.{leaf, address, lent}
-use Rattle.paging.specs.Map.{Memory, startOf, totalOf, Out, out, Left, left, unmapEntry, Roomy}
-use Rattle.paging.specs.Calls.{changed, whole, translate, userLeaf, userMay, mapAt, mapPage, sizeOf, tablesAbove, mapHuge, unmapPage}
+use Rattle.paging.specs.Walk.{leaf, address, mayWalk}
+use Rattle.paging.specs.Map.{Memory, startFrame, totalOf, Out, out, Left, left, unmapEntry, RoomToTake}
+use Rattle.paging.specs.Calls.{asChanged, whole, translate, userLeaf, userMay, mapAt, mapPage, sizeOf, tablesAbove, mapHuge, unmapPage}
 use Rattle.paging.proofs.Walk.{lent-enough}
 
+-- the two ways of a step
+pub walked-cases : (P : Outcome → Type 0) (w : Outcome) → ((x : ℕ) → w ≡ Value x → P (Value x)) → ((e : ℕ) → w ≡ Stop e → P (Stop e)) → P w
+walked-cases P (Value x) a b = a x refl
+walked-cases P (Stop e) a b = b e refl
+
 -- what code says of an outcome, part by part
-pub told : {o p : Out} → o ≡ p → (changed p ≡ changed o) × ((p .mem .words ≡ o .mem .words) × (p .mem .frames .bits ≡ o .mem .frames .bits))
-told e = (ap changed (sym e), (ap (λ (x : Out). x .mem .words) (sym e), ap (λ (x : Out). x .mem .frames .bits) (sym e)))
+pub told : {o p : Out} → o ≡ p → (asChanged p ≡ asChanged o) × ((p .mem .words ≡ o .mem .words) × (p .mem .frames .bits ≡ o .mem .frames .bits))
+told e = (ap asChanged (sym e), (ap (λ (x : Out). x .mem .words) (sym e), ap (λ (x : Out). x .mem .frames .bits) (sym e)))
 
 pub told-left : {l k : Left} → l ≡ k → (k .walked ≡ l .walked) × (k .words ≡ l .words)
 told-left e = (ap (λ (x : Left). x .walked) (sym e), ap (λ (x : Left). x .words) (sym e))
@@ -30,13 +36,13 @@ told-left e = (ap (λ (x : Left). x .walked) (sym e), ap (λ (x : Left). x .word
 -- ---- what the test of all that is lent says
 
 module _ (m : Memory) (root : ℕ) (h : whole m root ≡ true) where
-  pub whole-lent : lent (length (m .words)) (startOf m) (totalOf m) root ≡ true
-  whole-lent = both-true (lent (length (m .words)) (startOf m) (totalOf m) root) _ h .0
+  pub whole-lent : mayWalk (length (m .words)) (startFrame m) (totalOf m) root ≡ true
+  whole-lent = both-true (mayWalk (length (m .words)) (startFrame m) (totalOf m) root) _ h .0
 
   pub whole-sound : sound (m .frames) ≡ true
-  whole-sound = both-true (lent (length (m .words)) (startOf m) (totalOf m) root) _ h .1
+  whole-sound = both-true (mayWalk (length (m .words)) (startFrame m) (totalOf m) root) _ h .1
 
-  pub whole-roomy : (n : ℕ) → n ≤ 2 ^ 63 → Roomy m n
+  pub whole-roomy : (n : ℕ) → n ≤ 2 ^ 63 → RoomToTake m n
   whole-roomy n l = record { enough = lent-enough _ _ _ _ whole-lent; held = sound-held (m .frames) n l whole-sound }
 
 -- a huge page's entry stands below no more tables than a page's
@@ -47,29 +53,29 @@ tables-few up Size1GB = omega arith
 -- ---- the calls
 
 module _ (up : ℕ) (ws : List ℕ) (start total root v : ℕ) where
-  pub translate-broken : lent (length ws) start total root ≡ false → translate up ws start total root v ≡ Stop brokenRecord
+  pub translate-broken : mayWalk (length ws) start total root ≡ false → translate up ws start total root v ≡ Stop brokenRecord
   unfolding translate
   translate-broken h = rw h
 
-  pub translate-is : lent (length ws) start total root ≡ true
+  pub translate-is : mayWalk (length ws) start total root ≡ true
       → translate up ws start total root v ≡ address v (leaf ws start total root (indices (suc up) v))
   unfolding translate
   translate-is h = rw h
 
-  pub may-broken : (write : Bool) → lent (length ws) start total root ≡ false → userMay up ws start total root v write ≡ NoFlag brokenRecord
+  pub may-broken : (write : Bool) → mayWalk (length ws) start total root ≡ false → userMay up ws start total root v write ≡ NoFlag brokenRecord
   unfolding userMay
   may-broken write h = rw h
 
-  pub may-is : (write : Bool) → lent (length ws) start total root ≡ true
+  pub may-is : (write : Bool) → mayWalk (length ws) start total root ≡ true
       → userMay up ws start total root v write ≡ Flag (userLeaf write (leaf ws start total root (indices (suc up) v)))
   unfolding userMay
   may-is write h = rw h
 
-  pub unmap-broken : lent (length ws) start total root ≡ false → unmapPage up ws start total root v ≡ left (Stop brokenRecord) ws
+  pub unmap-broken : mayWalk (length ws) start total root ≡ false → unmapPage up ws start total root v ≡ left (Stop brokenRecord) ws
   unfolding unmapPage
   unmap-broken h = rw h
 
-  pub unmap-is : lent (length ws) start total root ≡ true
+  pub unmap-is : mayWalk (length ws) start total root ≡ true
       → unmapPage up ws start total root v ≡ unmapEntry ws start total root (take up (indices (suc up) v)) (getD (indices (suc up) v) up 0)
   unfolding unmapPage
   unmap-is h = rw h

@@ -8,27 +8,28 @@ use native.Mathlib.Numerals.{add-one}
 use lib.ListN.{length, getD, set, length-set}
 use Rattle.bits.specs.Bit.{pick, flag}
 use Rattle.bits.proofs.Choice.{pick-cases}
+use Rattle.answer.specs.Outcomes.{andThen}
 use Rattle.answer.specs.Numbers.{noFreeFrame, alreadyMapped, notMapped, outside}
 use Rattle.address.specs.declared.Frame.{Frame}
 use Rattle.address.specs.declared.FrameAnswer.{FrameAnswer}
 use Rattle.address.specs.declared.FrameAnswer.the-variants.{AtFrame, NoFrame}
 use Rattle.bitmap.specs.Bitmap.{marked}
 use Rattle.entry.specs.Entry.{frameOf, entryOf}
-use Rattle.frame.specs.Frames.{Frames, Did, inside, withMark, takeFrame}
+use Rattle.frame.specs.Frames.{Frames, FramesDid, inside, withMark, takeFrame}
 use Rattle.frame.proofs.Laws.{inside-yes, take-cases}
-use Rattle.paging.specs.declared.Walked.{Walked}
-use Rattle.paging.specs.declared.Walked.the-variants.{At, Stop}
-use Rattle.paging.specs.Walk.{place, reach, Lent}
-use Rattle.paging.specs.Map.{Memory, memory, startOf, totalOf, Out, out, onward, goOn, clear, zeroFrame, newTable, create, below, enter, make, Left, left, putEntry, withWords, mapEntry, takeLeaf, afterReach, unmapEntry, Roomy}
+use Rattle.answer.specs.declared.Outcome.{Outcome}
+use Rattle.answer.specs.declared.Outcome.the-variants.{Value, Stop}
+use Rattle.paging.specs.Walk.{place, reach, WordsLent}
+use Rattle.paging.specs.Map.{Memory, memory, startFrame, totalOf, Out, out, goOn, clear, zeroFrame, newTable, create, below, enter, make, Left, left, putEntry, withWords, mapEntry, takeLeaf, unmapEntry, RoomToTake}
 
 -- both ways on from a step
 pub goOn-cases : (P : Out → Type 0) (o : Out) (k : ℕ → Memory → Out)
-    → ((n : ℕ) → o .walked ≡ Stop n → P (out (Stop n) (o .mem))) → ((x : ℕ) → o .walked ≡ At x → P (k x (o .mem))) → P (goOn o k)
+    → ((n : ℕ) → o .walked ≡ Stop n → P (out (Stop n) (o .mem))) → ((x : ℕ) → o .walked ≡ Value x → P (k x (o .mem))) → P (goOn o k)
 goOn-cases P o k a b = go (o .walked) refl
   where
-    go : (w : Walked) → o .walked ≡ w → P (onward w (o .mem) k)
+    go : (w : Outcome) → o .walked ≡ w → P (andThen w (λ n m. out (Stop n) m) k (o .mem))
     go (Stop n) e = a n e
-    go (At x) e = b x e
+    go (Value x) e = b x e
 
 -- ---- words set to 0
 
@@ -60,13 +61,13 @@ length-linked u ws start p f = length-set (zeroFrame ws start f) p _ ∙ length-
 -- a frame that was taken is one of those lent
 pub taken-inside : (fr : Frames) (f : Frame) → takeFrame fr .answer ≡ AtFrame f → inside (fr .fa .start) (fr .fa .total) (f .0) ≡ true
 taken-inside fr f =
-    take-cases fr (λ (d : Did FrameAnswer). d .answer ≡ AtFrame f → inside (fr .fa .start) (fr .fa .total) (f .0) ≡ true)
+    take-cases fr (λ (d : FramesDid FrameAnswer). d .answer ≡ AtFrame f → inside (fr .fa .start) (fr .fa .total) (f .0) ≡ true)
     (λ j h _ _ e. let n : fr .fa .start + j ≡ f .0 = cc in inside-yes (fr .fa .start) (fr .fa .total) (f .0) (omega arith) (omega arith))
     (λ _ e. let z : _≡_ {A = ℕ} 0 1 = cc in absurd (omega arith))
 
 module _ (u : Bool) (m : Memory) (p : ℕ) where
   pub create-new : (f : Frame) → takeFrame (m .frames) .answer ≡ AtFrame f
-      → create u m p ≡ out (At (f .0)) (memory (linked u (m .words) (startOf m) p (f .0)) (takeFrame (m .frames) .frames))
+      → create u m p ≡ out (Value (f .0)) (memory (linked u (m .words) (startFrame m) p (f .0)) (takeFrame (m .frames) .frames))
   unfolding create
   create-new f e = rw e
 
@@ -75,81 +76,81 @@ module _ (u : Bool) (m : Memory) (p : ℕ) where
   create-full n e = rw e
 
 module _ (u : Bool) (m : Memory) (t i : ℕ) where
-  pub enter-out : inside (startOf m) (totalOf m) t ≡ false → enter u m t i ≡ out (Stop outside) m
+  pub enter-out : inside (startFrame m) (totalOf m) t ≡ false → enter u m t i ≡ out (Stop outside) m
   unfolding enter
   enter-out h = rw h
 
-  module _ (h : inside (startOf m) (totalOf m) t ≡ true) where
+  module _ (h : inside (startFrame m) (totalOf m) t ≡ true) where
     -- 'Present tables keep their bits'
-    pub enter-there : flag 0 (getD (m .words) (place (startOf m) t i) 0) ≡ true
-        → enter u m t i ≡ out (At (frameOf (getD (m .words) (place (startOf m) t i) 0))) m
+    pub enter-there : flag 0 (getD (m .words) (place (startFrame m) t i) 0) ≡ true
+        → enter u m t i ≡ out (Value (frameOf (getD (m .words) (place (startFrame m) t i) 0))) m
     unfolding enter below
     enter-there k = rw (h, k)
 
-    pub enter-absent : flag 0 (getD (m .words) (place (startOf m) t i) 0) ≡ false → enter u m t i ≡ create u m (place (startOf m) t i)
+    pub enter-absent : flag 0 (getD (m .words) (place (startFrame m) t i) 0) ≡ false → enter u m t i ≡ create u m (place (startFrame m) t i)
     unfolding enter below
     enter-absent k = rw (h, k)
 
   -- every outcome of an entered table: outside, there already, a new one in the lowest free frame, or no frame left
   pub enter-cases : (P : Out → Type 0)
-      → (inside (startOf m) (totalOf m) t ≡ false → P (out (Stop outside) m))
-      → (inside (startOf m) (totalOf m) t ≡ true → flag 0 (getD (m .words) (place (startOf m) t i) 0) ≡ true → P (out (At (frameOf (getD (m .words) (place (startOf m) t i) 0))) m))
-      → (inside (startOf m) (totalOf m) t ≡ true → flag 0 (getD (m .words) (place (startOf m) t i) 0) ≡ false
+      → (inside (startFrame m) (totalOf m) t ≡ false → P (out (Stop outside) m))
+      → (inside (startFrame m) (totalOf m) t ≡ true → flag 0 (getD (m .words) (place (startFrame m) t i) 0) ≡ true → P (out (Value (frameOf (getD (m .words) (place (startFrame m) t i) 0))) m))
+      → (inside (startFrame m) (totalOf m) t ≡ true → flag 0 (getD (m .words) (place (startFrame m) t i) 0) ≡ false
       → (j : ℕ) → j < totalOf m → marked (m .frames .bits) j ≡ 0 → ((k : ℕ) → k < j → marked (m .frames .bits) k ≡ 1)
-      → P (out (At (startOf m + j)) (memory (linked u (m .words) (startOf m) (place (startOf m) t i) (startOf m + j)) (withMark (m .frames) j))))
-      → (inside (startOf m) (totalOf m) t ≡ true → flag 0 (getD (m .words) (place (startOf m) t i) 0) ≡ false
+      → P (out (Value (startFrame m + j)) (memory (linked u (m .words) (startFrame m) (place (startFrame m) t i) (startFrame m + j)) (withMark (m .frames) j))))
+      → (inside (startFrame m) (totalOf m) t ≡ true → flag 0 (getD (m .words) (place (startFrame m) t i) 0) ≡ false
       → ((k : ℕ) → k < totalOf m → marked (m .frames .bits) k ≡ 1) → P (out (Stop noFreeFrame) m))
       → P (enter u m t i)
   unfolding enter below create
   enter-cases P a b c d =
-      pick-cases P (inside (startOf m) (totalOf m) t) _ _
-      (λ h. pick-cases P (flag 0 (getD (m .words) (place (startOf m) t i) 0)) _ _ (b h)
-      (λ k. take-cases (m .frames) (λ (r : Did FrameAnswer). P (newTable u m (place (startOf m) t i) (r .answer) (r .frames))) (c h k) (d h k))) a
+      pick-cases P (inside (startFrame m) (totalOf m) t) _ _
+      (λ h. pick-cases P (flag 0 (getD (m .words) (place (startFrame m) t i) 0)) _ _ (b h)
+      (λ k. take-cases (m .frames) (λ (r : FramesDid FrameAnswer). P (newTable u m (place (startFrame m) t i) (r .answer) (r .frames))) (c h k) (d h k))) a
 
 -- ---- what no step changes: the frames lent, and the number of words
 
-pub record Kept (m m′ : Memory) : Type 0 where
-  pub start : startOf m′ ≡ startOf m
+pub record KeptSpan (m m′ : Memory) : Type 0 where
+  pub start : startFrame m′ ≡ startFrame m
   pub total : totalOf m′ ≡ totalOf m
   pub words : length (m′ .words) ≡ length (m .words)
 
-kept-same : (m : Memory) → Kept m m
+kept-same : (m : Memory) → KeptSpan m m
 kept-same m = record { start = refl; total = refl; words = refl }
 
-kept-then : {m₀ m₁ m₂ : Memory} → Kept m₀ m₁ → Kept m₁ m₂ → Kept m₀ m₂
+kept-then : {m₀ m₁ m₂ : Memory} → KeptSpan m₀ m₁ → KeptSpan m₁ m₂ → KeptSpan m₀ m₂
 kept-then a b = record { start = b .start ∙ a .start; total = b .total ∙ a .total; words = b .words ∙ a .words }
 
-pub enter-kept : (u : Bool) (m : Memory) (t i : ℕ) → Kept m (enter u m t i .mem)
+pub enter-kept : (u : Bool) (m : Memory) (t i : ℕ) → KeptSpan m (enter u m t i .mem)
 unfolding withMark
 enter-kept u m t i =
-    enter-cases u m t i (λ (o : Out). Kept m (o .mem)) (λ _. kept-same m) (λ _ _. kept-same m)
-    (λ _ _ j _ _ _. record { start = refl; total = refl; words = length-linked u (m .words) (startOf m) _ _ }) (λ _ _ _. kept-same m)
+    enter-cases u m t i (λ (o : Out). KeptSpan m (o .mem)) (λ _. kept-same m) (λ _ _. kept-same m)
+    (λ _ _ j _ _ _. record { start = refl; total = refl; words = length-linked u (m .words) (startFrame m) _ _ }) (λ _ _ _. kept-same m)
 
 -- room for fewer frames
-pub roomy-less : {m : Memory} {n : ℕ} (k : ℕ) → k ≤ n → Roomy m n → Roomy m k
+pub roomy-less : {m : Memory} {n : ℕ} (k : ℕ) → k ≤ n → RoomToTake m n → RoomToTake m k
 roomy-less k l r = record { enough = r .enough; held = record { few = r .held .few; low = r .held .low; room = omega (arith, r .held .room) } }
 
-pub roomy-lent : {m : Memory} {n : ℕ} → Roomy m n → Lent (m .words) (startOf m) (totalOf m)
+pub roomy-lent : {m : Memory} {n : ℕ} → RoomToTake m n → WordsLent (m .words) (startFrame m) (totalOf m)
 roomy-lent r = record { few = r .held .few; enough = r .enough; low = r .held .low }
 
 -- a table that is entered takes at most one frame
-pub enter-roomy : (u : Bool) (m : Memory) (t i n : ℕ) → Roomy m (n + 1) → Roomy (enter u m t i .mem) n
+pub enter-roomy : (u : Bool) (m : Memory) (t i n : ℕ) → RoomToTake m (n + 1) → RoomToTake (enter u m t i .mem) n
 unfolding withMark
 enter-roomy u m t i n r =
-    enter-cases u m t i (λ (o : Out). Roomy (o .mem) n) (λ _. same) (λ _ _. same)
+    enter-cases u m t i (λ (o : Out). RoomToTake (o .mem) n) (λ _. same) (λ _ _. same)
     (λ _ _ j _ _ _. record {
-      enough = omega (arith, r .enough, length-linked u (m .words) (startOf m) (place (startOf m) t i) (startOf m + j));
+      enough = omega (arith, r .enough, length-linked u (m .words) (startFrame m) (place (startFrame m) t i) (startFrame m + j));
       held = record { few = r .held .few; low = r .held .low; room = omega (arith, r .held .room) };
     })
     (λ _ _ _. same)
   where
-    same : Roomy m n
+    same : RoomToTake m n
     same = roomy-less n (omega arith) r
 
 -- ---- the tables along a path
 
 module _ (u : Bool) (m : Memory) (t : ℕ) {p : List ℕ} where
-  pub make-end : p ≡ [] → make u m t p ≡ out (At t) m
+  pub make-end : p ≡ [] → make u m t p ≡ out (Value t) m
   unfolding make
   make-end c = rw c
 
@@ -158,23 +159,23 @@ module _ (u : Bool) (m : Memory) (t : ℕ) {p : List ℕ} where
     unfolding make
     make-stop n e = rw (c, e)
 
-    pub make-on : (f : ℕ) → enter u m t i ≡ out (At f) m′ → make u m t p ≡ make u m′ f is
+    pub make-on : (f : ℕ) → enter u m t i ≡ out (Value f) m′ → make u m t p ≡ make u m′ f is
     unfolding make
     make-on f e = rw (c, e)
 
-pub make-kept : (u : Bool) (p : List ℕ) (m : Memory) (t : ℕ) → Kept m (make u m t p .mem)
+pub make-kept : (u : Bool) (p : List ℕ) (m : Memory) (t : ℕ) → KeptSpan m (make u m t p .mem)
 unfolding make
 make-kept u [] m t = kept-same m
 make-kept u (i ∷ is) m t =
-    goOn-cases (λ (o : Out). Kept m (o .mem)) (enter u m t i) (λ f m′. make u m′ f is) (λ _ _. enter-kept u m t i)
+    goOn-cases (λ (o : Out). KeptSpan m (o .mem)) (enter u m t i) (λ f m′. make u m′ f is) (λ _ _. enter-kept u m t i)
     (λ f _. kept-then (enter-kept u m t i) (make-kept u is (enter u m t i .mem) f))
 
-pub make-roomy : (u : Bool) (n : ℕ) (p : List ℕ) (m : Memory) (t : ℕ) → Roomy m (n + length p) → Roomy (make u m t p .mem) n
+pub make-roomy : (u : Bool) (n : ℕ) (p : List ℕ) (m : Memory) (t : ℕ) → RoomToTake m (n + length p) → RoomToTake (make u m t p .mem) n
 unfolding make
 make-roomy u n [] m t r = roomy-less n (omega arith) r
 make-roomy u n (i ∷ is) m t r =
     let q = enter-roomy u m t i (n + length is) (roomy-less _ (omega arith) r) in
-    goOn-cases (λ (o : Out). Roomy (o .mem) n) (enter u m t i) (λ f m′. make u m′ f is) (λ _ _. roomy-less n (omega arith) q)
+    goOn-cases (λ (o : Out). RoomToTake (o .mem) n) (enter u m t i) (λ f m′. make u m′ f is) (λ _ _. roomy-less n (omega arith) q)
     (λ f _. make-roomy u n is (enter u m t i .mem) f q)
 
 -- ---- stores into one table
@@ -195,7 +196,7 @@ module _ (ws : List ℕ) (start total t i e : ℕ) where
   put-full h k = rw (h, k)
 
   pub put-free : inside start total t ≡ true → flag 0 (getD ws (place start t i) 0) ≡ false
-      → putEntry ws start total t i e ≡ left (At 0) (set ws (place start t i) e)
+      → putEntry ws start total t i e ≡ left (Value 0) (set ws (place start t i) e)
   unfolding putEntry
   put-free h k = rw (h, k)
 
@@ -213,7 +214,7 @@ module _ (ws : List ℕ) (start total t i : ℕ) where
   take-leaf-none h k = rw (h, k)
 
   pub take-leaf-there : inside start total t ≡ true → flag 0 (getD ws (place start t i) 0) ≡ true
-      → takeLeaf ws start total t i ≡ left (At (frameOf (getD ws (place start t i) 0))) (set ws (place start t i) 0)
+      → takeLeaf ws start total t i ≡ left (Value (frameOf (getD ws (place start t i) 0))) (set ws (place start t i) 0)
   unfolding takeLeaf
   take-leaf-there h k = rw (h, k)
 
@@ -228,23 +229,23 @@ module _ (u : Bool) (m : Memory) (root : ℕ) (path : List ℕ) (i e : ℕ) wher
   unfolding mapEntry
   map-entry-stop n m′ h = rw h
 
-  pub map-entry-put : (t : ℕ) (m′ : Memory) → make u m root path ≡ out (At t) m′
-      → mapEntry u m root path i e ≡ withWords m′ (putEntry (m′ .words) (startOf m′) (totalOf m′) t i e)
+  pub map-entry-put : (t : ℕ) (m′ : Memory) → make u m root path ≡ out (Value t) m′
+      → mapEntry u m root path i e ≡ withWords m′ (putEntry (m′ .words) (startFrame m′) (totalOf m′) t i e)
   unfolding mapEntry
   map-entry-put t m′ h = rw h
 
-  pub map-entry-kept : Kept m (mapEntry u m root path i e .mem)
+  pub map-entry-kept : KeptSpan m (mapEntry u m root path i e .mem)
   unfolding mapEntry
   map-entry-kept =
       let k = make-kept u path m root in
-      goOn-cases (λ (o : Out). Kept m (o .mem)) (make u m root path) _ (λ _ _. k)
+      goOn-cases (λ (o : Out). KeptSpan m (o .mem)) (make u m root path) _ (λ _ _. k)
       (λ t _. record { start = k .start; total = k .total; words = put-length _ _ _ t i e ∙ k .words })
 
-  pub map-entry-roomy : (n : ℕ) → Roomy m (n + length path) → Roomy (mapEntry u m root path i e .mem) n
+  pub map-entry-roomy : (n : ℕ) → RoomToTake m (n + length path) → RoomToTake (mapEntry u m root path i e .mem) n
   unfolding mapEntry
   map-entry-roomy n r =
       let q = make-roomy u n path m root r in
-      goOn-cases (λ (o : Out). Roomy (o .mem) n) (make u m root path) _ (λ _ _. q)
+      goOn-cases (λ (o : Out). RoomToTake (o .mem) n) (make u m root path) _ (λ _ _. q)
       (λ t _. record { enough = subst (λ (x : ℕ). totalOf (make u m root path .mem) * 512 ≤ x) (sym (put-length _ _ _ t i e)) (q .enough); held = q .held })
 
 module _ (ws : List ℕ) (start total root : ℕ) (path : List ℕ) (i : ℕ) where
@@ -252,7 +253,7 @@ module _ (ws : List ℕ) (start total root : ℕ) (path : List ℕ) (i : ℕ) wh
   unfolding unmapEntry
   unmap-entry-stop n h = rw h
 
-  pub unmap-entry-take : (t : ℕ) → reach ws start total root path ≡ At t → unmapEntry ws start total root path i ≡ takeLeaf ws start total t i
+  pub unmap-entry-take : (t : ℕ) → reach ws start total root path ≡ Value t → unmapEntry ws start total root path i ≡ takeLeaf ws start total t i
   unfolding unmapEntry
   unmap-entry-take t h = rw h
 
@@ -260,6 +261,6 @@ module _ (ws : List ℕ) (start total root : ℕ) (path : List ℕ) (i : ℕ) wh
   unfolding unmapEntry
   unmap-entry-length = go (reach ws start total root path)
     where
-      go : (w : Walked) → length (afterReach w ws (λ t. takeLeaf ws start total t i) .words) ≡ length ws
-      go (At t) = take-leaf-length ws start total t i
+      go : (w : Outcome) → length (andThen w (λ n. left (Stop n) ws) (λ t. takeLeaf ws start total t i) .words) ≡ length ws
+      go (Value t) = take-leaf-length ws start total t i
       go (Stop n) = refl

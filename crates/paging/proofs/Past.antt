@@ -11,13 +11,14 @@ use Rattle.bits.proofs.Choice.{pick-cases}
 use Rattle.address.specs.declared.FrameAnswer.{FrameAnswer}
 use Rattle.entry.specs.Entry.{indices}
 use Rattle.entry.proofs.Entry.{indices-lt}
-use Rattle.frame.specs.Frames.{Did, inside}
+use Rattle.frame.specs.Frames.{FramesDid, inside}
 use Rattle.frame.proofs.Laws.{inside-under, take-cases}
 use Rattle.frame.proofs.Steps.{span-with, span-give}
-use Rattle.paging.specs.declared.Walked.{Walked}
-use Rattle.paging.specs.declared.Walked.the-variants.{At, Stop}
+use Rattle.answer.specs.Outcomes.{andThen}
+use Rattle.answer.specs.declared.Outcome.{Outcome}
+use Rattle.answer.specs.declared.Outcome.the-variants.{Value, Stop}
 use Rattle.paging.specs.Walk.{place, reach}
-use Rattle.paging.specs.Map.{Memory, memory, startOf, totalOf, Out, out, goOn, clear, zeroFrame, enter, make, Left, putEntry, mapEntry, takeLeaf, afterReach, unmapEntry}
+use Rattle.paging.specs.Map.{Memory, memory, startFrame, totalOf, Out, out, goOn, clear, zeroFrame, enter, make, Left, left, putEntry, mapEntry, takeLeaf, unmapEntry}
 use Rattle.paging.specs.Calls.{mapAt}
 use Rattle.paging.specs.Pages.{zeroed, freshFrame, mapFresh, mapPages, unmapLeaf, clearPage, freed, freePage, clearPages, freePages}
 use Rattle.paging.proofs.Map.{goOn-cases, enter-cases}
@@ -68,7 +69,7 @@ small-take (suc k) (i ∷ is) h = (h .0, small-take k is (h .1))
 -- ---- what a step leaves of the memory: the frames lent are the same, and no word past them is touched
 
 pub record Stays (m m′ : Memory) : Type 0 where
-  pub start : startOf m′ ≡ startOf m
+  pub start : startFrame m′ ≡ startFrame m
   pub total : totalOf m′ ≡ totalOf m
   pub words : Past (totalOf m * 512) (m .words) (m′ .words)
 
@@ -87,7 +88,7 @@ pub stays-words : (m : Memory) (ws : List ℕ) → Past (totalOf m * 512) (m .wo
 stays-words m ws h = record { start = refl; total = refl; words = h }
 
 -- what follows a step
-pub stays-on : (m : Memory) (o : Out) (k : ℕ → Memory → Out) → Stays m (o .mem) → ((x : ℕ) → o .walked ≡ At x → Stays (o .mem) (k x (o .mem) .mem)) → Stays m (goOn o k .mem)
+pub stays-on : (m : Memory) (o : Out) (k : ℕ → Memory → Out) → Stays m (o .mem) → ((x : ℕ) → o .walked ≡ Value x → Stays (o .mem) (k x (o .mem) .mem)) → Stays m (goOn o k .mem)
 stays-on m o k a b = goOn-cases (λ (r : Out). Stays m (r .mem)) o k (λ _ _. a) (λ x e. stays-then a (b x e))
 
 -- ---- tables made along a path
@@ -98,7 +99,7 @@ stays-enter u m t i small =
     (λ h _ j l _ _. record {
       start = span-with (m .frames) j .start;
       total = span-with (m .frames) j .total;
-      words = past-then (past-zero (m .words) (startOf m) (totalOf m) j l) (past-entry _ (startOf m) (totalOf m) t i _ h small);
+      words = past-then (past-zero (m .words) (startFrame m) (totalOf m) j l) (past-entry _ (startFrame m) (totalOf m) t i _ h small);
     })
     (λ _ _ _. stays-same m)
 
@@ -131,8 +132,8 @@ pub past-unmap : (ws : List ℕ) (start total root : ℕ) (path : List ℕ) (i :
 unfolding unmapEntry
 past-unmap ws start total root path i small = go (reach ws start total root path)
   where
-    go : (w : Walked) → Past (total * 512) ws (afterReach w ws (λ t. takeLeaf ws start total t i) .words)
-    go (At t) = past-take-leaf ws start total t i small
+    go : (w : Outcome) → Past (total * 512) ws (andThen w (λ n. left (Stop n) ws) (λ t. takeLeaf ws start total t i) .words)
+    go (Value t) = past-take-leaf ws start total t i small
     go (Stop n) = past-same _ ws
 
 -- ---- an entry for an address
@@ -151,11 +152,11 @@ stays-map-at up k u m root v e =
 pub stays-fresh : (m : Memory) → Stays m (freshFrame m .mem)
 unfolding freshFrame
 stays-fresh m =
-    take-cases (m .frames) (λ (d : Did FrameAnswer). Stays m (zeroed m (d .answer) (d .frames) .mem))
+    take-cases (m .frames) (λ (d : FramesDid FrameAnswer). Stays m (zeroed m (d .answer) (d .frames) .mem))
     (λ j l _ _. record {
       start = span-with (m .frames) j .start;
       total = span-with (m .frames) j .total;
-      words = past-zero (m .words) (startOf m) (totalOf m) j l;
+      words = past-zero (m .words) (startFrame m) (totalOf m) j l;
     })
     (λ _. stays-same m)
 
@@ -171,12 +172,12 @@ stays-map-pages up w u root (suc n) m v k = go (mapFresh up w u m root v .walked
     first : Stays m (mapFresh up w u m root v .mem)
     first = stays-map-fresh up w u m root v
 
-    came : {x : Walked} → mapFresh up w u m root v .walked ≡ x → mapFresh up w u m root v ≡ out x (mapFresh up w u m root v .mem)
+    came : {x : Outcome} → mapFresh up w u m root v .walked ≡ x → mapFresh up w u m root v ≡ out x (mapFresh up w u m root v .mem)
     came e = λ j. out (e j) (mapFresh up w u m root v .mem)
 
-    go : (x : Walked) → mapFresh up w u m root v .walked ≡ x → Stays (mapFresh up w u m root v .mem) (mapPages up w u (mapFresh up w u m root v .mem) root (v + 4096) (suc k) n .mem)
+    go : (x : Outcome) → mapFresh up w u m root v .walked ≡ x → Stays (mapFresh up w u m root v .mem) (mapPages up w u (mapFresh up w u m root v .mem) root (v + 4096) (suc k) n .mem)
         → Stays m (mapPages up w u m root v k (suc n) .mem)
-    go (At y) e later = rw (map-pages-on up w u m root v k n _ y (came e)) (stays-then first later)
+    go (Value y) e later = rw (map-pages-on up w u m root v k n _ y (came e)) (stays-then first later)
     go (Stop a) e later = rw (map-pages-stop up w u m root v k n _ a (came e)) first
 
 module _ (up : ℕ) (m : Memory) (root v : ℕ) where
@@ -191,8 +192,8 @@ module _ (up : ℕ) (m : Memory) (root v : ℕ) where
   unfolding freePage
   stays-free-page = by (unmapLeaf up m root v .walked)
     where
-      by : (w : Walked) → Stays m (memory (unmapLeaf up m root v .words) (freed w (m .frames)))
-      by (At f) = record { start = span-give (m .frames) f .start; total = span-give (m .frames) f .total; words = unmapped }
+      by : (w : Outcome) → Stays m (memory (unmapLeaf up m root v .words) (freed w (m .frames)))
+      by (Value f) = record { start = span-give (m .frames) f .start; total = span-give (m .frames) f .total; words = unmapped }
       by (Stop a) = stays-words m _ unmapped
 
 pub stays-clear-pages : (up root n : ℕ) (m : Memory) (v : ℕ) → Stays m (clearPages up m root v n)

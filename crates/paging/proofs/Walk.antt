@@ -15,10 +15,10 @@ use Rattle.answer.specs.Numbers.{notMapped, outside}
 use Rattle.entry.specs.Entry.{frameOf}
 use Rattle.frame.specs.Frames.{inside}
 use Rattle.frame.proofs.Laws.{inside-from, inside-under}
-use Rattle.paging.specs.declared.Walked.the-variants.{At, Stop}
+use Rattle.answer.specs.declared.Outcome.the-variants.{Value, Stop}
 use Rattle.paging.specs.declared.Leaf.{Leaf}
 use Rattle.paging.specs.declared.Leaf.the-variants.{Page, Large, NoLeaf}
-use Rattle.paging.specs.Walk.{place, present, entryAt, reach, judge, leaf, lent, Lent}
+use Rattle.paging.specs.Walk.{place, present, entryAt, reach, judge, leaf, mayWalk, WordsLent}
 
 -- The path that is left from index k on. The laws of walks below take a path by such an equation, so that they serve a path that is written out, by `refl`, and a loop's turn.
 pub next : (is : List ℕ) (k : ℕ) → k < length is → drop k is ≡ getD is k 0 ∷ drop (k + 1) is
@@ -33,7 +33,7 @@ none-upper up is k h = drop-of-length-le (take up is) {i = k} (omega (arith, len
 
 -- ---- one entry
 
-pub present-yes : (e : ℕ) → flag 0 e ≡ true → present e ≡ At e
+pub present-yes : (e : ℕ) → flag 0 e ≡ true → present e ≡ Value e
 unfolding present
 present-yes e h = rw h
 
@@ -55,17 +55,17 @@ module _ (ws : List ℕ) (start total t i : ℕ) where
   entry-in h k = rw (h, lt-ltb i 512 k)
 
 -- the entries of a lent table are lent words
-pub place-lent : {ws : List ℕ} {start total : ℕ} (t i : ℕ) → Lent ws start total → inside start total t ≡ true → i < 512 → place start t i < length ws
+pub place-lent : {ws : List ℕ} {start total : ℕ} (t i : ℕ) → WordsLent ws start total → inside start total t ≡ true → i < 512 → place start t i < length ws
 place-lent {start = start} {total = total} t i l h k = omega (arith, l .enough, inside-from start total t h, inside-under start total t h)
 
 -- and so are all 512 words of a lent frame
-pub frame-lent : {ws : List ℕ} {start total : ℕ} (f : ℕ) → Lent ws start total → inside start total f ≡ true → place start f 0 + 512 ≤ length ws
+pub frame-lent : {ws : List ℕ} {start total : ℕ} (f : ℕ) → WordsLent ws start total → inside start total f ≡ true → place start f 0 + 512 ≤ length ws
 frame-lent {start = start} {total = total} f l h = omega (arith, l .enough, inside-from start total f h, inside-under start total f h)
 
 -- ---- the frame at the end of a path
 
 module _ (ws : List ℕ) (start total t : ℕ) {p : List ℕ} where
-  pub reach-end : p ≡ [] → reach ws start total t p ≡ At t
+  pub reach-end : p ≡ [] → reach ws start total t p ≡ Value t
   unfolding reach
   reach-end c = rw c
 
@@ -74,7 +74,7 @@ module _ (ws : List ℕ) (start total t : ℕ) {p : List ℕ} where
     unfolding reach
     reach-stop n h = rw (c, h)
 
-    pub reach-on : (e : ℕ) → entryAt ws start total t i ≡ At e → reach ws start total t p ≡ reach ws start total (frameOf e) is
+    pub reach-on : (e : ℕ) → entryAt ws start total t i ≡ Value e → reach ws start total t p ≡ reach ws start total (frameOf e) is
     unfolding reach
     reach-on e h = rw (c, h)
 
@@ -104,12 +104,12 @@ module _ (ws : List ℕ) (start total t : ℕ) {p : List ℕ} where
     unfolding leaf
     leaf-stop n h = rw (c, h)
 
-    pub leaf-on : (e : ℕ) → entryAt ws start total t i ≡ At e → leaf ws start total t p ≡ judge is e (leaf ws start total (frameOf e) is)
+    pub leaf-on : (e : ℕ) → entryAt ws start total t i ≡ Value e → leaf ws start total t p ≡ judge is e (leaf ws start total (frameOf e) is)
     unfolding leaf
     leaf-on e h = rw (c, h)
 
     -- the same by level
-    module _ (e : ℕ) (h : entryAt ws start total t i ≡ At e) where
+    module _ (e : ℕ) (h : entryAt ws start total t i ≡ Value e) where
       pub leaf-page : length is ≡ 0 → leaf ws start total t p ≡ Page e
       leaf-page l = leaf-on e h ∙ judge-last is e _ l
 
@@ -125,26 +125,26 @@ module _ (ws : List ℕ) (start total t : ℕ) {p : List ℕ} where
 -- ---- the test for a broken record, one comparison after the other
 
 module _ (len start total root : ℕ) where
-  pub lent-many : 8192 < total → lent len start total root ≡ false
-  unfolding lent
+  pub lent-many : 8192 < total → mayWalk len start total root ≡ false
+  unfolding mayWalk
   lent-many a = rw (lt-leb _ _ a)
 
-  pub lent-short : total ≤ 8192 → len < total * 512 → lent len start total root ≡ false
-  unfolding lent
+  pub lent-short : total ≤ 8192 → len < total * 512 → mayWalk len start total root ≡ false
+  unfolding mayWalk
   lent-short a b = rw (le-leb _ _ a, lt-leb _ _ b)
 
-  pub lent-high : total ≤ 8192 → total * 512 ≤ len → 2 ^ 40 < start + total → lent len start total root ≡ false
-  unfolding lent
+  pub lent-high : total ≤ 8192 → total * 512 ≤ len → 2 ^ 40 < start + total → mayWalk len start total root ≡ false
+  unfolding mayWalk
   lent-high a b c = rw (le-leb _ _ a, le-leb _ _ b, lt-leb _ _ c)
 
-  pub lent-rooted : total ≤ 8192 → total * 512 ≤ len → start + total ≤ 2 ^ 40 → lent len start total root ≡ inside start total root
-  unfolding lent
+  pub lent-rooted : total ≤ 8192 → total * 512 ≤ len → start + total ≤ 2 ^ 40 → mayWalk len start total root ≡ inside start total root
+  unfolding mayWalk
   lent-rooted a b c = rw (le-leb _ _ a, le-leb _ _ b, le-leb _ _ c)
 
 -- what a record that passes it says
-module _ (len start total root : ℕ) (h : lent len start total root ≡ true) where
+module _ (len start total root : ℕ) (h : mayWalk len start total root ≡ true) where
   lent-parts : (leb total 8192 ≡ true) × (leb (total * 512) len ≡ true) × (leb (start + total) (2 ^ 40) ≡ true) × (inside start total root ≡ true)
-  unfolding lent
+  unfolding mayWalk
   lent-parts =
       let a = both-true (leb total 8192) _ h in
       let b = both-true (leb (total * 512) len) _ (a .1) in
@@ -163,5 +163,5 @@ module _ (len start total root : ℕ) (h : lent len start total root ≡ true) w
   pub lent-root : inside start total root ≡ true
   lent-root = lent-parts .3
 
-pub lent-words : (ws : List ℕ) (start total root : ℕ) → lent (length ws) start total root ≡ true → Lent ws start total
+pub lent-words : (ws : List ℕ) (start total root : ℕ) → mayWalk (length ws) start total root ≡ true → WordsLent ws start total
 lent-words ws start total root h = record { few = lent-few _ _ _ _ h; enough = lent-enough _ _ _ _ h; low = lent-low _ _ _ _ h }

@@ -5,51 +5,33 @@ use mathlib.Core.List.{List}
 use lib.ListN.{length, getD, take}
 use Rattle.bits.specs.Bit.{pick, unless, both, flag}
 use Rattle.answer.specs.Numbers.{brokenRecord, hugeUnaligned}
-use Rattle.answer.specs.declared.Answer.{Answer}
-use Rattle.answer.specs.declared.Answer.the-variants.{Met, Refused}
+use Rattle.answer.specs.Outcomes.{asAnswer}
 use Rattle.answer.specs.declared.FlagAnswer.{FlagAnswer}
 use Rattle.answer.specs.declared.FlagAnswer.the-variants.{Flag, NoFlag}
 use Rattle.address.specs.Address.{aligned}
-use Rattle.address.specs.declared.PhysAnswer.{PhysAnswer}
-use Rattle.address.specs.declared.PhysAnswer.the-variants.{AtPhys, NoPhys}
-use Rattle.address.specs.declared.FrameAnswer.{FrameAnswer}
-use Rattle.address.specs.declared.FrameAnswer.the-variants.{AtFrame, NoFrame}
 use Rattle.entry.specs.Entry.{entryOf, hugeEntryOf, indices}
 use Rattle.frame.specs.Frames.{sound}
 use Rattle.frame.specs.declared.Changed.{Changed}
-use Rattle.paging.specs.declared.Walked.{Walked}
-use Rattle.paging.specs.declared.Walked.the-variants.{At, Stop}
+use Rattle.answer.specs.declared.Outcome.{Outcome}
+use Rattle.answer.specs.declared.Outcome.the-variants.{Value, Stop}
 use Rattle.paging.specs.declared.Leaf.{Leaf}
 use Rattle.paging.specs.declared.Leaf.the-variants.{Page, Large, NoLeaf}
 use Rattle.paging.specs.declared.HugePageSize.{HugePageSize}
 use Rattle.paging.specs.declared.HugePageSize.the-variants.{Size2MB, Size1GB}
-use Rattle.paging.specs.Walk.{leaf, address, lent}
-use Rattle.paging.specs.Map.{Memory, startOf, totalOf, Out, out, Left, left, mapEntry, unmapEntry}
-
--- where a step came, as the answer of each kind of call
-abbrev pub asAnswer : Walked → Answer
-asAnswer (At x) = Met
-asAnswer (Stop n) = Refused n
-
-abbrev pub asPhys : Walked → PhysAnswer
-asPhys (At a) = AtPhys (record { 0 = a })
-asPhys (Stop n) = NoPhys n
-
-abbrev pub asFrame : Walked → FrameAnswer
-asFrame (At f) = AtFrame (record { 0 = f })
-asFrame (Stop n) = NoFrame n
+use Rattle.paging.specs.Walk.{leaf, address, mayWalk}
+use Rattle.paging.specs.Map.{Memory, startFrame, totalOf, Out, out, Left, left, mapEntry, unmapEntry}
 
 -- the answer of a call that takes frames, beside the frame record that it leaves
-abbrev pub changed : Out → Changed
-changed o = record { answer = asAnswer (o .walked); frames = o .mem .frames .fa }
+abbrev pub asChanged : Out → Changed
+asChanged o = record { answer = asAnswer (o .walked); frames = o .mem .frames .fa }
 
 -- not broken: what a walk needs, and the frame allocator's part
 abbrev pub whole : Memory → ℕ → Bool
-whole m root = both (lent (length (m .words)) (startOf m) (totalOf m) root) (sound (m .frames))
+whole m root = both (mayWalk (length (m .words)) (startFrame m) (totalOf m) root) (sound (m .frames))
 
-unfoldable pub translate : ℕ → List ℕ → ℕ → ℕ → ℕ → ℕ → Walked
+unfoldable pub translate : ℕ → List ℕ → ℕ → ℕ → ℕ → ℕ → Outcome
 translate up ws start total root v =
-    unless (lent (length ws) start total root) (Stop brokenRecord)
+    unless (mayWalk (length ws) start total root) (Stop brokenRecord)
     (address v (leaf ws start total root (indices (suc up) v)))
 
 -- 'read if the leaf has USER, write if it has USER and WRITABLE; no where nothing translates or a third-level HUGE entry does'
@@ -60,7 +42,7 @@ userLeaf write (NoLeaf n) = false
 
 unfoldable pub userMay : ℕ → List ℕ → ℕ → ℕ → ℕ → ℕ → Bool → FlagAnswer
 userMay up ws start total root v write =
-    unless (lent (length ws) start total root) (NoFlag brokenRecord)
+    unless (mayWalk (length ws) start total root) (NoFlag brokenRecord)
     (Flag (userLeaf write (leaf ws start total root (indices (suc up) v))))
 
 -- the entry e of address v, k steps below the root
@@ -90,5 +72,5 @@ mapHuge up m root v p s w u =
 -- '`unmap_page` clears the leaf and returns its frame without freeing it'
 unfoldable pub unmapPage : ℕ → List ℕ → ℕ → ℕ → ℕ → ℕ → Left
 unmapPage up ws start total root v =
-    unless (lent (length ws) start total root) (left (Stop brokenRecord) ws)
+    unless (mayWalk (length ws) start total root) (left (Stop brokenRecord) ws)
     (unmapEntry ws start total root (take up (indices (suc up) v)) (getD (indices (suc up) v) up 0))

@@ -2,3 +2,5 @@ pub mod Walk
 pub mod Map
 pub mod Calls
 pub mod Pages
+pub mod Levels
+pub mod Kept

@@ -1,17 +1,12 @@
 // Page tables: the types that walks give, above the definitions of walks, mappings and the mapper's calls in specs/. The code is in `mapper`.
+use answer::Outcome;
 use frame::FrameAllocator;
 ghost use mathlib.Core.Path.{_≡_};
 ghost use Rattle.paging.specs.Calls.{sizeOf};
 
-// Where a step comes, or the number that it stops with.
-pub enum Walked {
-    At(u64),
-    Stop(u64),
-}
-
 // Where a step that may take a frame comes, beside the frame record that it leaves.
 pub struct Entered {
-    pub walked: Walked,
+    pub walked: Outcome,
     pub frames: FrameAllocator,
 }
 

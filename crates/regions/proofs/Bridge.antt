@@ -1,4 +1,4 @@
--- A list of regions by value whose slots are lent, for the walk of `Lending.antt`: the array is in a local, which is lent as a slice, comes back, and goes with a count into a new `VMAllocator`.
+-- A list of regions by value whose slots are lent, for the walk of `Lending.antt`: the array is in a local, which is lent as a slice, comes back, and goes with a count into a new `Stepped`.
 --     GoodA, typedA    what owning the array tells; its machine value then has the array's MIR type
 --     lends, back      the local that holds the array is lent as a slice for a new lifetime; that is ended, and the local holds the array as it is then
 --     GoodL, typedL    the same of a list: its array field stands in the logic as the list of the records' fields, and its machine value has the array's as it is
@@ -32,13 +32,13 @@ use denote.Steps.{only, owned, peeks}
 use denote.Struct.Steps.{spelt}
 use denote.Struct.Laws as LL
 use Rattle.regions.specs.declared.VMRegion.{VMRegion}
-use Rattle.regions.specs.List.{listOf}
+use Rattle.regions.specs.List.{stepped}
 use Rattle.slots.specs.Slots.{slotted}
 use Rattle.regions.proofs.Slot.{R, ref}
 use Rattle.regions.proofs.VMRegion as T
 use Rattle.regions.proofs.VMRegion.Laws as T′
-use Rattle.regions.proofs.VMAllocator as L
-use Rattle.regions.proofs.VMAllocator.Laws as L′
+use Rattle.regions.proofs.Stepped as L
+use Rattle.regions.proofs.Stepped.Laws as L′
 
 -- ---- the array
 abbrev pub AR : RattleType
@@ -68,7 +68,7 @@ abbrev pub machL : List VMRegion → ℕ → Val
 machL a n = vstruct (ofList (machA a ∷ vint w64 n ∷ []))
 
 abbrev pub GoodL : List VMRegion → ℕ → Type 0
-GoodL a n = Is L.the-row (listOf (slotted a n)) (machL a n ∷ [])
+GoodL a n = Is L.the-row (stepped (slotted a n)) (machL a n ∷ [])
 
 -- a record is its fields
 each-fields : (a : List VMRegion) (us : List Val) → shadow (each VMRegion (R .own) a us) → shadow (each (T.the-field .row .Denot) (T.the-field .row .own) (map (T.the-field .into) a) us)
@@ -89,7 +89,7 @@ module _ {M : Type 1} {𝓤 : URA M} {H : Heap 𝓤} {A : Atoms 𝓤} (W : Given
   makesA = array-makes 𝓤 H A W R (LL.makes T.the-type T′.the-plain 𝓤 H A) 256
 
   pub typedL : (a : List VMRegion) (n : ℕ) → GoodL a n → Holds (hasTy L′.mir (machL a n)) × WT (machL a n)
-  typedL a n g = LL.lawful L.the-type L′.the-laws 𝓤 H A W .typed (listOf (slotted a n)) _ g .0
+  typedL a n g = LL.lawful L.the-type L′.the-laws 𝓤 H A W .typed (stepped (slotted a n)) _ g .0
 
 module _ {M : Type 1} {𝓤 : URA M} {H : Heap 𝓤} {A : Atoms 𝓤} {K : Type 0} {W : Given 𝓤 H A} {Γ : List (Item 𝓤)} {G : Goal 𝓤 H} where
   -- the local lies in memory as an array, which is its records side by side; they are lent for a lifetime ν

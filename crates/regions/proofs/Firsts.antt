@@ -11,10 +11,10 @@ use borrow.Author.Tests.{eqb-true, leb-true}
 use Rattle.bits.specs.Bit.{pick}
 use Rattle.bits.proofs.Choice.{both-true}
 use Rattle.answer.specs.Numbers.{noRegion, regionNotFound}
-use Rattle.paging.specs.declared.Walked.the-variants.{At, Stop}
+use Rattle.answer.specs.declared.Outcome.the-variants.{Value, Stop}
 use Rattle.slots.specs.Slots.{Slots, listed, firstAt}
 use Rattle.regions.specs.declared.VMRegion.{VMRegion}
-use Rattle.regions.specs.Regions.{region, noSlot, fits, firstFit, behind, takeFirst, usedSize, freeFirst}
+use Rattle.regions.specs.Regions.{vmRegion, noVmRegion, fits, firstFit, behind, takeFirst, usedSize, freeFirst}
 use Rattle.regions.specs.List.{usedAt, freedAt}
 
 module _ {A : Type 0} (test : A → Bool) where
@@ -54,24 +54,24 @@ module _ {A : Type 0} (test : A → Bool) where
 
 -- a free region of n bytes or more
 module _ (n : ℕ) where
-  pub fit-at : (l : List VMRegion) → firstAt (fits n) l < length l → firstFit n l ≡ At (getD l (firstAt (fits n) l) noSlot .start)
+  pub fit-at : (l : List VMRegion) → firstAt (fits n) l < length l → firstFit n l ≡ Value (getD l (firstAt (fits n) l) noVmRegion .start)
   unfolding firstFit
-  fit-at = first-found (fits n) (λ l i. firstFit n l ≡ At (getD l i noSlot .start)) (λ r l e. rw e) (λ r l i e more. rw e more)
+  fit-at = first-found (fits n) (λ l i. firstFit n l ≡ Value (getD l i noVmRegion .start)) (λ r l e. rw e) (λ r l i e more. rw e more)
 
   pub fit-none : (l : List VMRegion) → length l ≤ firstAt (fits n) l → firstFit n l ≡ Stop noRegion
   unfolding firstFit
   fit-none = first-missing (fits n) (λ l. firstFit n l ≡ Stop noRegion) refl (λ r l e more. rw (e, more))
 
-  pub fit-large : (l : List VMRegion) → firstAt (fits n) l < length l → n ≤ getD l (firstAt (fits n) l) noSlot .size
+  pub fit-large : (l : List VMRegion) → firstAt (fits n) l < length l → n ≤ getD l (firstAt (fits n) l) noVmRegion .size
   fit-large l h =
-      let r = getD l (firstAt (fits n) l) noSlot in
-      leb-true n (r .size) (both-true (not (r .used)) (leb n (r .size)) (first-passes (fits n) noSlot l h) .1)
+      let r = getD l (firstAt (fits n) l) noVmRegion in
+      leb-true n (r .size) (both-true (not (r .used)) (leb n (r .size)) (first-passes (fits n) noVmRegion l h) .1)
 
-  pub taken-at : (used room : Bool) (l : List VMRegion) → firstAt (fits n) l < length l → let r = getD l (firstAt (fits n) l) noSlot in
-      takeFirst used n room l ≡ take (firstAt (fits n) l) l ++ (region (r .start) n used ∷ behind n room r (drop (suc (firstAt (fits n) l)) l))
+  pub taken-at : (used room : Bool) (l : List VMRegion) → firstAt (fits n) l < length l → let r = getD l (firstAt (fits n) l) noVmRegion in
+      takeFirst used n room l ≡ take (firstAt (fits n) l) l ++ (vmRegion (r .start) n used ∷ behind n room r (drop (suc (firstAt (fits n) l)) l))
   unfolding takeFirst
   taken-at used room =
-      first-found (fits n) (λ l i. takeFirst used n room l ≡ take i l ++ (region (getD l i noSlot .start) n used ∷ behind n room (getD l i noSlot) (drop (suc i) l)))
+      first-found (fits n) (λ l i. takeFirst used n room l ≡ take i l ++ (vmRegion (getD l i noVmRegion .start) n used ∷ behind n room (getD l i noVmRegion) (drop (suc i) l)))
       (λ r l e. rw e) (λ r l i e more. rw (e, more))
 
 -- a used region at a
@@ -80,14 +80,14 @@ module _ (a : ℕ) where
   unfolding usedSize
   used-missing = first-missing (usedAt a) (λ l. usedSize a l ≡ Stop regionNotFound) refl (λ r l e more. rw (e, more))
 
-  pub used-at : (l : List VMRegion) → firstAt (usedAt a) l < length l → usedSize a l ≡ At (getD l (firstAt (usedAt a) l) noSlot .size)
+  pub used-at : (l : List VMRegion) → firstAt (usedAt a) l < length l → usedSize a l ≡ Value (getD l (firstAt (usedAt a) l) noVmRegion .size)
   unfolding usedSize
-  used-at = first-found (usedAt a) (λ l i. usedSize a l ≡ At (getD l i noSlot .size)) (λ r l e. rw e) (λ r l i e more. rw (e, more))
+  used-at = first-found (usedAt a) (λ l i. usedSize a l ≡ Value (getD l i noVmRegion .size)) (λ r l e. rw e) (λ r l i e more. rw (e, more))
 
-  pub used-start : (l : List VMRegion) → firstAt (usedAt a) l < length l → getD l (firstAt (usedAt a) l) noSlot .start ≡ a
+  pub used-start : (l : List VMRegion) → firstAt (usedAt a) l < length l → getD l (firstAt (usedAt a) l) noVmRegion .start ≡ a
   used-start l h =
-      let r = getD l (firstAt (usedAt a) l) noSlot in
-      eqb-true (r .start) a (both-true (eqb (r .start) a) (r .used) (first-passes (usedAt a) noSlot l h) .0)
+      let r = getD l (firstAt (usedAt a) l) noVmRegion in
+      eqb-true (r .start) a (both-true (eqb (r .start) a) (r .used) (first-passes (usedAt a) noVmRegion l h) .0)
 
   pub free-at : (l : List VMRegion) → firstAt (usedAt a) l < length l → freeFirst a l ≡ freedAt (firstAt (usedAt a) l) l
   unfolding freeFirst
@@ -105,22 +105,22 @@ module _ (s : Slots VMRegion) (enough : s .count ≤ length (s .slots)) where
     pub fit-none-of : i ≡ s .count → firstFit n (listed s) ≡ Stop noRegion
     fit-none-of h = fit-none n (listed s) (omega (arith, e, listed-length))
 
-    pub fit-of : i < s .count → (firstFit n (listed s) ≡ At (getD (s .slots) i noSlot .start)) × (n ≤ getD (s .slots) i noSlot .size)
+    pub fit-of : i < s .count → (firstFit n (listed s) ≡ Value (getD (s .slots) i noVmRegion .start)) × (n ≤ getD (s .slots) i noVmRegion .size)
     fit-of h =
         let k : firstAt (fits n) (listed s) < length (listed s) = omega (arith, e, listed-length) in
-        subst (λ (r : VMRegion). (firstFit n (listed s) ≡ At (r .start)) × (n ≤ r .size)) (getD-take (s .count) (s .slots) i noSlot h)
-        (subst (λ (j : ℕ). (firstFit n (listed s) ≡ At (getD (listed s) j noSlot .start)) × (n ≤ getD (listed s) j noSlot .size)) (sym e)
+        subst (λ (r : VMRegion). (firstFit n (listed s) ≡ Value (r .start)) × (n ≤ r .size)) (getD-take (s .count) (s .slots) i noVmRegion h)
+        (subst (λ (j : ℕ). (firstFit n (listed s) ≡ Value (getD (listed s) j noVmRegion .start)) × (n ≤ getD (listed s) j noVmRegion .size)) (sym e)
         (fit-at n (listed s) k, fit-large n (listed s) k))
 
   module _ (a i : ℕ) (e : i ≡ firstAt (usedAt a) (listed s)) where
     pub used-none-of : i ≡ s .count → usedSize a (listed s) ≡ Stop regionNotFound
     used-none-of h = used-missing a (listed s) (omega (arith, e, listed-length))
 
-    pub used-of : i < s .count → (usedSize a (listed s) ≡ At (getD (s .slots) i noSlot .size)) × (getD (s .slots) i noSlot .start ≡ a)
+    pub used-of : i < s .count → (usedSize a (listed s) ≡ Value (getD (s .slots) i noVmRegion .size)) × (getD (s .slots) i noVmRegion .start ≡ a)
     used-of h =
         let k : firstAt (usedAt a) (listed s) < length (listed s) = omega (arith, e, listed-length) in
-        subst (λ (r : VMRegion). (usedSize a (listed s) ≡ At (r .size)) × (r .start ≡ a)) (getD-take (s .count) (s .slots) i noSlot h)
-        (subst (λ (j : ℕ). (usedSize a (listed s) ≡ At (getD (listed s) j noSlot .size)) × (getD (listed s) j noSlot .start ≡ a)) (sym e)
+        subst (λ (r : VMRegion). (usedSize a (listed s) ≡ Value (r .size)) × (r .start ≡ a)) (getD-take (s .count) (s .slots) i noVmRegion h)
+        (subst (λ (j : ℕ). (usedSize a (listed s) ≡ Value (getD (listed s) j noVmRegion .size)) × (getD (listed s) j noVmRegion .start ≡ a)) (sym e)
         (used-at a (listed s) k, used-start a (listed s) k))
 
     pub free-of : i < s .count → freeFirst a (listed s) ≡ freedAt i (listed s)

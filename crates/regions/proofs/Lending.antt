@@ -1,4 +1,4 @@
--- One walk for every step on a list that is held by value, `let mut next = regions; let n = g(&mut next, count, xs..); VMAllocator { regions: next, count: n }`, where g is the step of the same kind on a lent slice: over the name of g, the types of xs (`Passed.antt` of frame), what f and g ask, P and Q, and the slots S that both leave. A function's own proof cites `meets`; antt finds by computing that its MIR and its contract are those here.
+-- One walk for every step on a list that is held by value, `let mut next = regions; let n = g(&mut next, count, xs..); Stepped { regions: next, count: n }`, where g is the step of the same kind on a lent slice: over the name of g, the types of xs (`Passed.antt` of frame), what f and g ask, P and Q, and the slots S that both leave. A function's own proof cites `meets`; antt finds by computing that its MIR and its contract are those here.
 -- The array is in a local of its own, which is lent as a slice to g for a lifetime that is made for the call, comes back at the last list, and goes with the number that the call answers into a new list (`Bridge.antt`).
 -- Assumes nothing.
 use mathlib.Core.Path.{_≡_, refl, sym, ap, subst, _∙_}
@@ -41,14 +41,14 @@ use denote.Exit.{yes}
 use Rattle.slots.specs.Slots.{Slots, slotted}
 use Rattle.frame.proofs.Passed.{Passed, Values, Fine, slots, rows, values, args, values-args, spells, tellss, spelled, vals, fine, own-all, keeps, stays, ends, has-all, fits, locals, operands, behind, after, rooms, make-own, make-has, goes-all, forgets⊢, alloc-all, pass-all, free-all, past, reads-all}
 use Rattle.regions.specs.declared.VMRegion.{VMRegion}
-use Rattle.regions.specs.List.{listOf}
+use Rattle.regions.specs.List.{stepped}
 use Rattle.regions.proofs.Slot.{R, word, ref}
 use Rattle.regions.proofs.Lends.{first-slice}
 use Rattle.regions.proofs.Bridge.{AR, arrTy, lent, machA, GoodA, as-long, typedA, makesA, machL, GoodL, good-list, typedL, lends, back}
 use Rattle.regions.proofs.VMRegion as T
 use Rattle.regions.proofs.VMRegion.Laws as T′
-use Rattle.regions.proofs.VMAllocator as L
-use Rattle.regions.proofs.VMAllocator.Laws as L′
+use Rattle.regions.proofs.Stepped as L
+use Rattle.regions.proofs.Stepped.Laws as L′
 
 module _ (Xs : List Passed) where
   -- the signatures of f and of g
@@ -67,7 +67,7 @@ module _ (Xs : List Passed) where
     clauses 𝓤 κs a = record {
       ghost = Unit {0};
       requires = λ _. fact 𝓤 (P (a .0) (a .1 .0) (values 0 κs Xs (a .1 .1)));
-      ensures = λ _ r e. fact 𝓤 (r ≡ listOf (S (a .0) (a .1 .0) (values 0 κs Xs (a .1 .1))));
+      ensures = λ _ r e. fact 𝓤 (r ≡ stepped (S (a .0) (a .1 .0) (values 0 κs Xs (a .1 .1))));
     }
 
     abbrev pub lent-clauses : {M : Type 1} (𝓤 : URA M) → Clauses 𝓤 lent-ended
@@ -111,8 +111,8 @@ module _ (Xs : List Passed) where
 
       exits : (zs : List VMRegion) (n : ℕ) → slotted zs n ≡ S a count v → GoodL zs n → ent 𝓤 (emp 𝓤) (Post (machL zs n))
       exits zs n e gz =
-          qed W [] ∵ suffices ! _ (ends-at 𝓤 H A ended stayed (clauses 𝓤) W bound (machL zs n) (listOf (slotted zs n)) (tt, (tt, ends 0 tt Xs xs)) (tt, (tt, fits 0 tt Xs xs))) $ says ! (ap listOf e) $
-          owned ! L.the-row (Is L.the-row) (LL.makes L.the-type L′.the-plain 𝓤 H A) (listOf (slotted zs n)) _ gz $
+          qed W [] ∵ suffices ! _ (ends-at 𝓤 H A ended stayed (clauses 𝓤) W bound (machL zs n) (stepped (slotted zs n)) (tt, (tt, ends 0 tt Xs xs)) (tt, (tt, fits 0 tt Xs xs))) $ says ! (ap stepped e) $
+          owned ! L.the-row (Is L.the-row) (LL.makes L.the-type L′.the-plain 𝓤 H A) (stepped (slotted zs n)) _ gz $
           use0 W (‵ (has-all 0 tt Xs xs)) (make-has 𝓤 H A W 0 tt Xs xs g) $ owned ! usize (Is usize) (uint-makes 𝓤 H A W w64) count _ (refl, gc) $ fjoin ! $ owned ! AR (Is AR) (makesA W) a _ ga $ fjoin ! $ nothing ! $ done !
 
       -- what g's triple binds outside, for the local l that is lent for ν under a name γ, and its `pre`

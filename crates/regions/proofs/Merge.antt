@@ -10,11 +10,11 @@ use borrow.Author.Tests.{eqb-true, not-true}
 use Rattle.bits.specs.Bit.{pick, both}
 use Rattle.bits.proofs.Choice.{both-true}
 use Rattle.regions.specs.declared.VMRegion.{VMRegion}
-use Rattle.regions.specs.Regions.{region, joins, mergeFrom, merge}
+use Rattle.regions.specs.Regions.{vmRegion, joins, mergeFrom, merge}
 
 -- two regions joined into one
 abbrev pub join : VMRegion → VMRegion → VMRegion
-join r s = region (r .start) (r .size + s .size) false
+join r s = vmRegion (r .start) (r .size + s .size) false
 
 -- what it says that two regions join
 pub record Joined (r s : VMRegion) : Type 0 where
@@ -76,7 +76,7 @@ merge-again (r ∷ l) = merge-from-again r l
 
 -- a region with those that start at a freed
 abbrev pub freed : ℕ → VMRegion → VMRegion
-freed a r = region (r .start) (r .size) (both (r .used) (not (eqb (r .start) a)))
+freed a r = vmRegion (r .start) (r .size) (both (r .used) (not (eqb (r .start) a)))
 
 unfoldable pub freedAll : ℕ → List VMRegion → List VMRegion
 freedAll a l = map (freed a) l
@@ -110,7 +110,7 @@ pub freed-comm : (a b : ℕ) (l : List VMRegion) → freedAll a (freedAll b l) �
 unfolding freedAll
 freed-comm a b [] = refl
 freed-comm a b (r ∷ l) =
-    ap₂ (λ (x : Bool) (xs : List VMRegion). region (r .start) (r .size) x ∷ xs) (three (r .used) (not (eqb (r .start) b)) (not (eqb (r .start) a))) (freed-comm a b l)
+    ap₂ (λ (x : Bool) (xs : List VMRegion). vmRegion (r .start) (r .size) x ∷ xs) (three (r .used) (not (eqb (r .start) b)) (not (eqb (r .start) a))) (freed-comm a b l)
   where
     three : (x y z : Bool) → both (both x y) z ≡ both (both x z) y
     three false y z = refl

@@ -10,7 +10,7 @@ use lib.Seq.{slice, length-slice, length-take-le, getD-take, take-take, take-suc
 use Rattle.bits.proofs.Choice.{both-true}
 use Rattle.slots.specs.Slots.{Slots, listed, every, store}
 use Rattle.regions.specs.declared.VMRegion.{VMRegion}
-use Rattle.regions.specs.Regions.{region, noSlot, wellPlacedRegion, joins, mergeFrom, merge}
+use Rattle.regions.specs.Regions.{vmRegion, noVmRegion, wellPlacedVm, joins, mergeFrom, merge}
 use Rattle.slots.specs.Shifts.{shiftedDown}
 use Rattle.regions.specs.List.{markedAt}
 use Rattle.regions.proofs.Merge.{join, joined}
@@ -24,11 +24,11 @@ pub record Merging (s : Slots VMRegion) (l : List VMRegion) (count i : ℕ) : Ty
   pub few : count ≤ 256
   pub fewer : count ≤ s .count
   pub low : i ≤ count
-  pub rest : drop count l ≡ replicate (s .count - count) noSlot ++ drop (s .count) (s .slots)
+  pub rest : drop count l ≡ replicate (s .count - count) noVmRegion ++ drop (s .count) (s .slots)
   pub same : take i (take count l) ++ merge (slice i count l) ≡ merge (listed s)
-  pub lie : every wellPlacedRegion (take count l) ≡ true
+  pub lie : every wellPlacedVm (take count l) ≡ true
 
-pub merge-start : (s : Slots VMRegion) → length (s .slots) ≡ 256 → s .count ≤ 256 → every wellPlacedRegion (listed s) ≡ true → Merging s (s .slots) (s .count) 0
+pub merge-start : (s : Slots VMRegion) → length (s .slots) ≡ 256 → s .count ≤ 256 → every wellPlacedVm (listed s) ≡ true → Merging s (s .slots) (s .count) 0
 merge-start s long few lie =
     let z : s .count - s .count ≡ 0 = omega arith in
     record { long = long; few = few; fewer = omega arith; low = omega arith; rest = rw z; same = refl; lie = lie }
@@ -44,47 +44,47 @@ module _ (s : Slots VMRegion) (l : List VMRegion) (count i : ℕ) (m : Merging s
   enough : count ≤ length l
   enough = omega (arith, m .few, m .long)
 
-  pub lies : (k : ℕ) → k < count → Placed (getD l k noSlot .start) (getD l k noSlot .size)
+  pub lies : (k : ℕ) → k < count → Placed (getD l k noVmRegion .start) (getD l k noVmRegion .size)
   lies k h = placed-at (record { slots = l; count = count }) (m .lie) enough k h
 
-  pub merge-end : count ≤ i + 1 → record { slots = l; count = count } ≡ store noSlot (merge (listed s)) s
+  pub merge-end : count ≤ i + 1 → record { slots = l; count = count } ≡ store noVmRegion (merge (listed s)) s
   merge-end h =
       let e : take count l ≡ merge (listed s) =
       sym (take-append-drop i (take count l))
       ∙ ap (λ (xs : List VMRegion). take i (take count l) ++ xs) (sym (one-merged (slice i count l) (omega (arith, length-slice i count l enough))))
       ∙ m .same in
       let n : length (merge (listed s)) ≡ count = ap length (sym e) ∙ length-take-le count l enough in
-      sym (store-shorter noSlot (merge (listed s)) s count n (m .fewer)
+      sym (store-shorter noVmRegion (merge (listed s)) s count n (m .fewer)
       ∙ λ j. record { slots = ((λ k. sym e k ++ sym (m .rest) k) ∙ take-append-drop count l) j; count = count })
 
   module _ (h : i + 1 < count) where
     abbrev this : VMRegion
-    this = getD l i noSlot
+    this = getD l i noVmRegion
 
     abbrev that : VMRegion
-    that = getD l (i + 1) noSlot
+    that = getD l (i + 1) noVmRegion
 
     pair : slice i count l ≡ this ∷ that ∷ slice (i + 1 + 1) count l
-    pair = next noSlot l count enough i (omega arith) ∙ ap (λ (xs : List VMRegion). this ∷ xs) (next noSlot l count enough (i + 1) h)
+    pair = next noVmRegion l count enough i (omega arith) ∙ ap (λ (xs : List VMRegion). this ∷ xs) (next noVmRegion l count enough (i + 1) h)
 
     -- region i keeps its start where the slots behind it move down: marked with both sizes it is the two joined
-    pub marked-join : markedAt i (this .size + that .size) false (shiftedDown noSlot l (i + 1) count) ≡ set (shiftedDown noSlot l (i + 1) count) i (join this that)
+    pub marked-join : markedAt i (this .size + that .size) false (shiftedDown noVmRegion l (i + 1) count) ≡ set (shiftedDown noVmRegion l (i + 1) count) i (join this that)
     unfolding shiftedDown
     marked-join =
-        let rest = slice (i + 1 + 1) count l ++ (noSlot ∷ drop count l) in
-        let same : getD (take (i + 1) l ++ rest) i noSlot ≡ this =
-        List·getD-append (take (i + 1) l) rest noSlot i (omega (arith, length-take-le (i + 1) l (omega (arith, enough)))) ∙ getD-take (i + 1) l i noSlot (omega arith) in
-        ap (λ (r : VMRegion). set (take (i + 1) l ++ rest) i (region (r .start) (this .size + that .size) false)) same
+        let rest = slice (i + 1 + 1) count l ++ (noVmRegion ∷ drop count l) in
+        let same : getD (take (i + 1) l ++ rest) i noVmRegion ≡ this =
+        List·getD-append (take (i + 1) l) rest noVmRegion i (omega (arith, length-take-le (i + 1) l (omega (arith, enough)))) ∙ getD-take (i + 1) l i noVmRegion (omega arith) in
+        ap (λ (r : VMRegion). set (take (i + 1) l ++ rest) i (vmRegion (r .start) (this .size + that .size) false)) same
 
     -- regions i and i + 1 stay apart
     apart : joins this that ≡ false → merge (slice i count l) ≡ this ∷ merge (slice (i + 1) count l)
     unfolding merge mergeFrom
-    apart e = rw (pair, e, next noSlot l count enough (i + 1) h)
+    apart e = rw (pair, e, next noVmRegion l count enough (i + 1) h)
 
     pub merge-on : joins this that ≡ false → Merging s l count (i + 1)
     merge-on e =
         let one : take (i + 1) (take count l) ≡ take i (take count l) ++ (this ∷ []) =
-        rw (add-one i, ← getD-take count l i noSlot (omega arith)) (take-suc (take count l) i noSlot (omega (arith, length-take-le count l enough))) in
+        rw (add-one i, ← getD-take count l i noVmRegion (omega arith)) (take-suc (take count l) i noVmRegion (omega (arith, length-take-le count l enough))) in
         record {
           long = m .long;
           few = m .few;
@@ -104,13 +104,13 @@ module _ (s : Slots VMRegion) (l : List VMRegion) (count i : ℕ) (m : Merging s
       front = take i l ++ (both-joined ∷ slice (i + 1 + 1) count l)
 
       after : List VMRegion
-      after = set (shiftedDown noSlot l (i + 1) count) i both-joined
+      after = set (shiftedDown noVmRegion l (i + 1) count) i both-joined
 
-      split : after ≡ front ++ (noSlot ∷ drop count l)
+      split : after ≡ front ++ (noVmRegion ∷ drop count l)
       unfolding after front shiftedDown
       split =
-          set-last noSlot l i both-joined (slice (i + 1 + 1) count l ++ (noSlot ∷ drop count l)) (omega (arith, enough))
-          ∙ sym (append-assoc (take i l) (both-joined ∷ slice (i + 1 + 1) count l) (noSlot ∷ drop count l))
+          set-last noVmRegion l i both-joined (slice (i + 1 + 1) count l ++ (noVmRegion ∷ drop count l)) (omega (arith, enough))
+          ∙ sym (append-assoc (take i l) (both-joined ∷ slice (i + 1 + 1) count l) (noVmRegion ∷ drop count l))
 
       front-length : length front ≡ count - 1
       unfolding front
@@ -119,10 +119,10 @@ module _ (s : Slots VMRegion) (l : List VMRegion) (count i : ℕ) (m : Merging s
           ∙ omega (arith, length-take-le i l (omega (arith, enough)), length-slice (i + 1 + 1) count l enough)
 
       now-listed : take (count - 1) after ≡ front
-      now-listed = rw split (take-at front (noSlot ∷ drop count l) (count - 1) front-length)
+      now-listed = rw split (take-at front (noVmRegion ∷ drop count l) (count - 1) front-length)
 
-      now-rest : drop (count - 1) after ≡ noSlot ∷ drop count l
-      now-rest = rw split (drop-at front (noSlot ∷ drop count l) (count - 1) front-length)
+      now-rest : drop (count - 1) after ≡ noVmRegion ∷ drop count l
+      now-rest = rw split (drop-at front (noVmRegion ∷ drop count l) (count - 1) front-length)
 
       merged : merge (slice i count l) ≡ merge (both-joined ∷ slice (i + 1 + 1) count l)
       unfolding both-joined merge mergeFrom
@@ -139,28 +139,28 @@ module _ (s : Slots VMRegion) (l : List VMRegion) (count i : ℕ) (m : Merging s
             end = omega (arith, joined this that e .meet, b .end);
           }
 
-      all-lie : every wellPlacedRegion front ≡ true
+      all-lie : every wellPlacedVm front ≡ true
       unfolding both-joined front every
       all-lie =
-          let whole : every wellPlacedRegion (take i l ++ (this ∷ that ∷ slice (i + 1 + 1) count l)) ≡ true =
+          let whole : every wellPlacedVm (take i l ++ (this ∷ that ∷ slice (i + 1 + 1) count l)) ≡ true =
           rw (← pair, ← take-take i count l (omega arith), take-append-drop i (take count l)) (m .lie) in
-          let parts = both-true (every wellPlacedRegion (take i l)) _ (sym (every-append wellPlacedRegion (take i l) _) ∙ whole) in
-          let more = both-true (wellPlacedRegion that) _ (both-true (wellPlacedRegion this) _ (parts .1) .1) in
+          let parts = both-true (every wellPlacedVm (take i l)) _ (sym (every-append wellPlacedVm (take i l) _) ∙ whole) in
+          let more = both-true (wellPlacedVm that) _ (both-true (wellPlacedVm this) _ (parts .1) .1) in
           let one = placed-back (this .start) (this .size + that .size) joined-lies in
-          rw (every-append wellPlacedRegion (take i l) (both-joined ∷ slice (i + 1 + 1) count l), parts .0, one) (more .1)
+          rw (every-append wellPlacedVm (take i l) (both-joined ∷ slice (i + 1 + 1) count l), parts .0, one) (more .1)
 
-      pub merge-joined : Merging s (set (shiftedDown noSlot l (i + 1) count) i (join this that)) (count - 1) i
+      pub merge-joined : Merging s (set (shiftedDown noVmRegion l (i + 1) count) i (join this that)) (count - 1) i
       unfolding both-joined front after
       merge-joined =
           let f : s .count - (count - 1) ≡ suc (s .count - count) = omega (arith, m .fewer) in
           let n : length (take i l) ≡ i = length-take-le i l (omega (arith, enough)) in
           let rest = both-joined ∷ slice (i + 1 + 1) count l in
           record {
-            long = ap length split ∙ length-append front (noSlot ∷ drop count l) ∙ omega (arith, front-length, length-drop count l, enough, m .long);
+            long = ap length split ∙ length-append front (noVmRegion ∷ drop count l) ∙ omega (arith, front-length, length-drop count l, enough, m .long);
             few = omega (arith, m .few);
             fewer = omega (arith, m .fewer);
             low = omega arith;
-            rest = now-rest ∙ rw f (ap (λ (xs : List VMRegion). noSlot ∷ xs) (m .rest));
+            rest = now-rest ∙ rw f (ap (λ (xs : List VMRegion). noVmRegion ∷ xs) (m .rest));
             same = rw (now-listed, take-at (take i l) rest i n, drop-at (take i l) rest i n, ← merged, ← take-take i count l (omega arith)) (m .same);
             lie = rw now-listed all-lie;
           }

@@ -1,23 +1,20 @@
 -- The test for a broken list, one comparison after the other, and what it says of a region of a sound list.
 use Prim.Native.Nat.{ℕ, zero, suc, _+_, _-_, _%_, _<_, _≤_}
 use mathlib.Core.Path.{_≡_, refl, sym, _∙_, subst}
-use mathlib.Core.Bool.{Bool, true, false, not}
+use mathlib.Core.Bool.{Bool, true, false}
 use mathlib.Core.List.{List, [], _∷_, _++_}
 use native.Mathlib.Omega.{arith}
 use native.Mathlib.Decide.{decLe}
-use native.Mathlib.Numerals.{add-one}
 use lib.Dec.{eqb, leb, ltb}
-use lib.Bits.{bitOr, or-add-and, and-le-r, or-zero-l}
-use lib.ListN.{length, getD, set, drop, drop-of-length-le}
-use lib.Seq.{drop-cons, getD-take, length-take-le}
-use mir.Val.{boolByte}
-use borrow.Author.Tests.{le-leb, lt-leb, leb-true, ltb-true, eqb-true, eqb-false, eq-eqb, ne-eqb, lt-ltb, le-ltb}
+use lib.ListN.{length, getD, set, drop}
+use lib.Seq.{getD-take, length-take-le}
+use borrow.Author.Tests.{le-leb, lt-leb, leb-true, ltb-true, eqb-true, eq-eqb, ne-eqb, lt-ltb, le-ltb}
 use Rattle.bits.specs.Bit.{both}
 use Rattle.bits.proofs.Choice.{both-true}
 use Rattle.allocator.specs.Round.{lastPage}
 use Rattle.slots.specs.Slots.{Slots, listed, every}
 use Rattle.regions.specs.declared.VMRegion.{VMRegion}
-use Rattle.regions.specs.Regions.{noSlot, wellPlaced, wellPlacedRegion, isNoSlot, soundRegions}
+use Rattle.regions.specs.Regions.{noVmRegion, wellPlaced, wellPlacedVm, isNoSlot, soundRegions}
 
 -- ---- one region
 
@@ -90,71 +87,25 @@ module _ {A : Type 0} (test : A → Bool) where
       let p = both-true (test b) (every test l) h in
       rw (p .0, every-set l (p .1) i a t)
 
--- ---- slots past the count, joined into one flag
-
-or-none : (a b : ℕ) → eqb (bitOr a b) 0 ≡ both (eqb a 0) (eqb b 0)
-or-none a b = by (eqb a 0) refl
-  where
-    by : (x : Bool) → eqb a 0 ≡ x → eqb (bitOr a b) 0 ≡ both x (eqb b 0)
-    by true e = rw (eqb-true a 0 e, or-zero-l b)
-    by false e = ne-eqb (bitOr a b) 0 (λ z. eqb-false a 0 e (omega (arith, or-add-and a b, and-le-r a b)))
-
-byte-none : (t : Bool) → eqb (boolByte t) 0 ≡ not t
-byte-none true = refl
-byte-none false = refl
-
-pub blank-on : (l : List VMRegion) (any i : ℕ) → i < length l
-    → both (eqb (bitOr any (bitOr (bitOr (getD l i noSlot .start) (getD l i noSlot .size)) (boolByte (getD l i noSlot .used)))) 0) (every isNoSlot (drop (i + 1) l))
-    ≡ both (eqb any 0) (every isNoSlot (drop i l))
-unfolding every
-blank-on l any i h =
-    let r = getD l i noSlot in
-    let sum = bitOr (r .start) (r .size) in
-    let mark = boolByte (r .used) in
-    rw (drop-cons l i noSlot h, add-one i, or-none any (bitOr sum mark), or-none sum mark, or-none (r .start) (r .size), byte-none (r .used))
-    (five (eqb any 0) (eqb (r .start) 0) (eqb (r .size) 0) (not (r .used)) (every isNoSlot (drop (suc i) l)))
-  where
-    five : (a b c e f : Bool) → both (both a (both (both b c) e)) f ≡ both a (both (both b (both c e)) f)
-    five true true c e f = refl
-    five true false c e f = refl
-    five false b c e f = refl
-
-pub blank-end : (l : List VMRegion) (any i : ℕ) → length l ≤ i → both (eqb any 0) (every isNoSlot (drop i l)) ≡ eqb any 0
-unfolding every
-blank-end l any i h = rw (drop-of-length-le l {i = i} h) (by (eqb any 0))
-  where
-    by : (x : Bool) → both x true ≡ x
-    by true = refl
-    by false = refl
-
--- ---- the whole list
+-- ---- what a sound list says
 
 module _ (s : Slots VMRegion) where
-  pub sound-many : 256 < s .count → soundRegions s ≡ false
-  unfolding soundRegions
-  sound-many h = rw (lt-leb _ _ h)
-
-  pub sound-misplaced : s .count ≤ 256 → every wellPlacedRegion (listed s) ≡ false → soundRegions s ≡ false
-  unfolding soundRegions
-  sound-misplaced h e = rw (le-leb _ _ h, e)
-
-  pub sound-rest : s .count ≤ 256 → every wellPlacedRegion (listed s) ≡ true → soundRegions s ≡ every isNoSlot (drop (s .count) (s .slots))
-  unfolding soundRegions
-  sound-rest h e = rw (le-leb _ _ h, e)
-
-  -- what a sound list says
   pub sound-few : soundRegions s ≡ true → s .count ≤ 256
   unfolding soundRegions
   sound-few h = leb-true _ _ (both-true (leb (s .count) 256) _ h .0)
 
-  pub sound-placed : soundRegions s ≡ true → every wellPlacedRegion (listed s) ≡ true
+  pub sound-placed : soundRegions s ≡ true → every wellPlacedVm (listed s) ≡ true
   unfolding soundRegions
-  sound-placed h = both-true (every wellPlacedRegion (listed s)) _ (both-true (leb (s .count) 256) _ h .1) .0
+  sound-placed h = both-true (every wellPlacedVm (listed s)) _ (both-true (leb (s .count) 256) _ h .1) .0
+
+  pub sound-blank : soundRegions s ≡ true → every isNoSlot (drop (s .count) (s .slots)) ≡ true
+  unfolding soundRegions
+  sound-blank h = both-true (every wellPlacedVm (listed s)) _ (both-true (leb (s .count) 256) _ h .1) .1
 
 -- .. and of each of its regions
-pub placed-at : (s : Slots VMRegion) → every wellPlacedRegion (listed s) ≡ true → s .count ≤ length (s .slots) → (i : ℕ) → i < s .count
-    → Placed (getD (s .slots) i noSlot .start) (getD (s .slots) i noSlot .size)
+pub placed-at : (s : Slots VMRegion) → every wellPlacedVm (listed s) ≡ true → s .count ≤ length (s .slots) → (i : ℕ) → i < s .count
+    → Placed (getD (s .slots) i noVmRegion .start) (getD (s .slots) i noVmRegion .size)
 placed-at s h enough i k =
     placed _ _
-    (subst (λ (r : VMRegion). wellPlacedRegion r ≡ true) (getD-take (s .count) (s .slots) i noSlot k)
-    (every-at wellPlacedRegion (listed s) h noSlot i (omega (arith, length-take-le (s .count) (s .slots) enough))))
+    (subst (λ (r : VMRegion). wellPlacedVm r ≡ true) (getD-take (s .count) (s .slots) i noVmRegion k)
+    (every-at wellPlacedVm (listed s) h noVmRegion i (omega (arith, length-take-le (s .count) (s .slots) enough))))

@@ -11,10 +11,10 @@ use borrow.Author.Tests.{eq-eqb, ne-eqb, lt-ltb, le-leb, leb-true, ltb-true, eqb
 use Rattle.bits.specs.Bit.{pick, both, one}
 use Rattle.bits.proofs.Choice.{both-true}
 use Rattle.allocator.specs.Round.{lastPage}
-use Rattle.paging.specs.declared.Walked.the-variants.{At}
+use Rattle.answer.specs.declared.Outcome.the-variants.{Value}
 use Rattle.slots.specs.Slots.{every}
 use Rattle.regions.specs.declared.VMRegion.{VMRegion}
-use Rattle.regions.specs.Regions.{region, wellPlacedRegion, fits, firstFit, behind, takeFirst, taken, freeFirst, joins, mergeFrom, merge}
+use Rattle.regions.specs.Regions.{vmRegion, wellPlacedVm, fits, firstFit, behind, takeFirst, taken, freeFirst, joins, mergeFrom, merge}
 use Rattle.regions.proofs.Merge.{join, joined, freedAll}
 
 -- a region from lo on, aligned and not empty
@@ -39,7 +39,7 @@ rows-earlier k lo hi (r ∷ l) e h =
     (record { from = le-trans e (h .0 .from); even = h .0 .even; whole = h .0 .whole; some = h .0 .some }, h .1)
 
 -- each is well placed
-pub rows-placed : (lo hi : ℕ) (l : List VMRegion) → hi ≤ lastPage → Rows lo hi l → every wellPlacedRegion l ≡ true
+pub rows-placed : (lo hi : ℕ) (l : List VMRegion) → hi ≤ lastPage → Rows lo hi l → every wellPlacedVm l ≡ true
 unfolding every
 rows-placed lo hi [] e h = refl
 rows-placed lo hi (r ∷ l) e h =
@@ -47,12 +47,12 @@ rows-placed lo hi (r ∷ l) e h =
     rw (eq-eqb _ _ (h .0 .even), eq-eqb _ _ (h .0 .whole), lt-ltb _ _ (h .0 .some), le-leb _ _ end, rows-placed (r .start + r .size) hi l e (h .1))
 
 -- the first region large enough starts where the rows do, or later
-pub fit-from : (n lo hi a : ℕ) (l : List VMRegion) → Rows lo hi l → firstFit n l ≡ At a → lo ≤ a
+pub fit-from : (n lo hi a : ℕ) (l : List VMRegion) → Rows lo hi l → firstFit n l ≡ Value a → lo ≤ a
 unfolding firstFit
 fit-from n lo hi a [] h e = let z : _≡_ {A = ℕ} 0 1 = cc in absurd (omega arith)
 fit-from n lo hi a (r ∷ l) h e = by (fits n r) e (fit-from n (r .start + r .size) hi a l (h .1))
   where
-    by : (b : Bool) → pick b (At (r .start)) (firstFit n l) ≡ At a → (firstFit n l ≡ At a → r .start + r .size ≤ a) → lo ≤ a
+    by : (b : Bool) → pick b (Value (r .start)) (firstFit n l) ≡ Value a → (firstFit n l ≡ Value a → r .start + r .size ≤ a) → lo ≤ a
     by true g later = let k : r .start ≡ a = cc in omega (arith, h .0 .from)
     by false g later = omega (arith, h .0 .from, later g)
 
@@ -64,7 +64,7 @@ freed-above a lo hi (r ∷ l) k h =
     let d : eqb (r .start) a ≡ false = ne-eqb (r .start) a (λ e. omega (arith, h .0 .from)) in
     ap₂ (λ (x : VMRegion) (xs : List VMRegion). x ∷ xs) (rw d (kept (r .used) r refl)) (freed-above a (r .start + r .size) hi l (omega (arith, h .0 .from)) (h .1))
   where
-    kept : (b : Bool) (s : VMRegion) → s .used ≡ b → region (s .start) (s .size) (both b true) ≡ s
+    kept : (b : Bool) (s : VMRegion) → s .used ≡ b → vmRegion (s .start) (s .size) (both b true) ≡ s
     kept true s e = rw e
     kept false s e = rw e
 
@@ -75,10 +75,10 @@ freed-first a lo hi [] h = refl
 freed-first a lo hi (r ∷ l) h = by (eqb (r .start) a) refl (r .used) refl (freed-first a (r .start + r .size) hi l (h .1))
   where
     by : (x : Bool) → eqb (r .start) a ≡ x → (y : Bool) → r .used ≡ y → freeFirst a l ≡ freedAll a l
-        → pick (both x y) (region (r .start) (r .size) false ∷ l) (r ∷ freeFirst a l) ≡ region (r .start) (r .size) (both y (not x)) ∷ freedAll a l
+        → pick (both x y) (vmRegion (r .start) (r .size) false ∷ l) (r ∷ freeFirst a l) ≡ vmRegion (r .start) (r .size) (both y (not x)) ∷ freedAll a l
     by true e true u more =
         let k : a < r .start + r .size = omega (arith, eqb-true (r .start) a e, h .0 .some) in
-        ap (λ (xs : List VMRegion). region (r .start) (r .size) false ∷ xs) (sym (freed-above a (r .start + r .size) hi l k (h .1)))
+        ap (λ (xs : List VMRegion). vmRegion (r .start) (r .size) false ∷ xs) (sym (freed-above a (r .start + r .size) hi l k (h .1)))
     by true e false u more = ap₂ (λ (x : VMRegion) (xs : List VMRegion). x ∷ xs) (rw (← u)) more
     by false e true u more = ap₂ (λ (x : VMRegion) (xs : List VMRegion). x ∷ xs) (rw (← u)) more
     by false e false u more = ap₂ (λ (x : VMRegion) (xs : List VMRegion). x ∷ xs) (rw (← u)) more
@@ -137,13 +137,13 @@ module _ (used : Bool) (n : ℕ) (room : Bool) (full : n % 4096 ≡ 0) (pos : 0 
   rows-taken lo hi [] h = h
   rows-taken lo hi (r ∷ l) h = by (fits n r) refl (rows-taken (r .start + r .size) hi l (h .1))
     where
-      head : fits n r ≡ true → Row lo (region (r .start) n used)
+      head : fits n r ≡ true → Row lo (vmRegion (r .start) n used)
       head e = record { from = h .0 .from; even = h .0 .even; whole = full; some = pos }
 
       large : fits n r ≡ true → n ≤ r .size
       large e = leb-true _ _ (both-true (not (r .used)) (leb n (r .size)) e .1)
 
-      rest : fits n r ≡ true → (x : Bool) → both room (ltb n (r .size)) ≡ x → Rows (r .start + n) hi (pick x (region (r .start + n) (r .size - n) false ∷ l) l)
+      rest : fits n r ≡ true → (x : Bool) → both room (ltb n (r .size)) ≡ x → Rows (r .start + n) hi (pick x (vmRegion (r .start + n) (r .size - n) false ∷ l) l)
       rest e true g =
           let k : n < r .size = ltb-true _ _ (both-true room (ltb n (r .size)) g .1) in (
             record { from = le-refl _; even = omega (arith, h .0 .even, full); whole = omega (arith, h .0 .whole, full); some = omega arith },
@@ -151,7 +151,7 @@ module _ (used : Bool) (n : ℕ) (room : Bool) (full : n % 4096 ≡ 0) (pos : 0 
           )
       rest e false g = rows-earlier (r .start + n) (r .start + r .size) hi l (omega (arith, large e)) (h .1)
 
-      by : (x : Bool) → fits n r ≡ x → Rows (r .start + r .size) hi (takeFirst used n room l) → Rows lo hi (pick x (region (r .start) n used ∷ behind n room r l) (r ∷ takeFirst used n room l))
+      by : (x : Bool) → fits n r ≡ x → Rows (r .start + r .size) hi (takeFirst used n room l) → Rows lo hi (pick x (vmRegion (r .start) n used ∷ behind n room r l) (r ∷ takeFirst used n room l))
       by true e more = (head e, rest e (both room (ltb n (r .size))) refl)
       by false e more = (h .0, more)
 
@@ -160,16 +160,16 @@ unfolding takeFirst
 length-taken used n room [] = omega arith
 length-taken used n room (r ∷ l) = by (fits n r) (length-taken used n room l)
   where
-    rest : (y : Bool) → length (pick (both y (ltb n (r .size))) (region (r .start + n) (r .size - n) false ∷ l) l) ≤ length l + one y
+    rest : (y : Bool) → length (pick (both y (ltb n (r .size))) (vmRegion (r .start + n) (r .size - n) false ∷ l) l) ≤ length l + one y
     rest true = tail (ltb n (r .size))
       where
-        tail : (x : Bool) → length (pick x (region (r .start + n) (r .size - n) false ∷ l) l) ≤ length l + 1
+        tail : (x : Bool) → length (pick x (vmRegion (r .start + n) (r .size - n) false ∷ l) l) ≤ length l + 1
         tail true = omega arith
         tail false = omega arith
     rest false = omega arith
 
     by : (x : Bool) → length (takeFirst used n room l) ≤ length l + one room
-        → length (pick x (region (r .start) n used ∷ behind n room r l) (r ∷ takeFirst used n room l)) ≤ suc (length l) + one room
+        → length (pick x (vmRegion (r .start) n used ∷ behind n room r l) (r ∷ takeFirst used n room l)) ≤ suc (length l) + one room
     by true more = omega (arith, rest room)
     by false more = omega arith
 

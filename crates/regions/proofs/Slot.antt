@@ -29,7 +29,7 @@ use denote.Index.{place, row, others, elem-out, elem-back, elem-put, opens-slice
 use denote.Steps.{only, owned}
 use denote.Struct.Laws as LL
 use Rattle.regions.specs.declared.VMRegion.{VMRegion}
-use Rattle.regions.specs.Regions.{region, noSlot}
+use Rattle.regions.specs.Regions.{vmRegion, noVmRegion}
 use Rattle.regions.proofs.VMRegion as T
 use Rattle.regions.proofs.VMRegion.Laws as T′
 
@@ -50,10 +50,10 @@ mach r = only (LL.vals T.the-type T′.the-laws r)
 abbrev pub Good : VMRegion → Type 0
 Good r = Is R r (mach r ∷ [])
 
-pub made : {start size : ℕ} {used : Bool} → start < 2 ^ 64 → size < 2 ^ 64 → Good (region start size used)
-made {start} {size} {used} fits fits′ = LL.owes T.the-type T′.the-laws (region start size used) ((refl, fits), ((refl, fits′), (refl, tt)))
+pub made : {start size : ℕ} {used : Bool} → start < 2 ^ 64 → size < 2 ^ 64 → Good (vmRegion start size used)
+made {start} {size} {used} fits fits′ = LL.owes T.the-type T′.the-laws (vmRegion start size used) ((refl, fits), ((refl, fits′), (refl, tt)))
 
-pub blank-good : Good noSlot
+pub blank-good : Good noVmRegion
 blank-good = made (lit< tt) (lit< tt)
 
 pub start-fits : {r : VMRegion} → Good r → r .start < 2 ^ 64
@@ -82,13 +82,13 @@ module _ {M : Type 1} {𝓤 : URA M} {H : Heap 𝓤} {A : Atoms 𝓤} {K : Type 
   closes t {κ} {γ} ys zs b o e room = step (λ s. fjoin t $ pureI t (at-slice R (ref b o γ zs) (sliceVal (b, o) (length ys) ∷ [])) (tt, (tt, tt)) (ap (λ (m : ℕ). sliceVal (b, o) m ∷ []) (sym e), subst (Room R) (sym e) room) $ fjoin t $ s)
 
   pub rec-out : K → (zs : List VMRegion) (i b o : ℕ) → i < length zs
-      → (Good (getD zs i noSlot) → Seq K W (‵ (cellAt fullShare (R .mir) (mach (getD zs i noSlot) ∷ []) b (place 24 o i)) ∷ ‵ (R .own (getD zs i noSlot) (mach (getD zs i noSlot) ∷ [])) ∷ ‵ (others (shares R) fullShare zs i b o) ∷ Γ) G)
+      → (Good (getD zs i noVmRegion) → Seq K W (‵ (cellAt fullShare (R .mir) (mach (getD zs i noVmRegion) ∷ []) b (place 24 o i)) ∷ ‵ (R .own (getD zs i noVmRegion) (mach (getD zs i noVmRegion) ∷ [])) ∷ ‵ (others (shares R) fullShare zs i b o) ∷ Γ) G)
       → Seq K W (‵ (row R fullShare zs b o) ∷ Γ) G
-  rec-out t zs i b o h k = elem-out t R (Is R) (shows 𝓤 H A R) (LL.vals T.the-type T′.the-laws) (LL.tells T.the-type T′.the-laws) fullShare zs i noSlot b o h k
+  rec-out t zs i b o h k = elem-out t R (Is R) (shows 𝓤 H A R) (LL.vals T.the-type T′.the-laws) (LL.tells T.the-type T′.the-laws) fullShare zs i noVmRegion b o h k
 
   pub rec-back : K → (zs : List VMRegion) (i b o : ℕ) → i < length zs
-      → Step K W (‵ (row R fullShare zs b o) ∷ Γ) G (‵ (cellAt fullShare (R .mir) (mach (getD zs i noSlot) ∷ []) b (place 24 o i)) ∷ ‵ (R .own (getD zs i noSlot) (mach (getD zs i noSlot) ∷ [])) ∷ ‵ (others (shares R) fullShare zs i b o) ∷ Γ) G
-  rec-back t zs i b o h = elem-back t R fullShare zs i noSlot (mach (getD zs i noSlot) ∷ []) b o h
+      → Step K W (‵ (row R fullShare zs b o) ∷ Γ) G (‵ (cellAt fullShare (R .mir) (mach (getD zs i noVmRegion) ∷ []) b (place 24 o i)) ∷ ‵ (R .own (getD zs i noVmRegion) (mach (getD zs i noVmRegion) ∷ [])) ∷ ‵ (others (shares R) fullShare zs i b o) ∷ Γ) G
+  rec-back t zs i b o h = elem-back t R fullShare zs i noVmRegion (mach (getD zs i noVmRegion) ∷ []) b o h
 
   pub rec-put : K → (zs : List VMRegion) (i b o : ℕ) (r : VMRegion) → i < length zs → Good r → {P : Fml}
       → Step K W (‵ (row R fullShare (set zs i r) b o) ∷ Γ) G (‵ (cellAt fullShare (R .mir) (mach r ∷ []) b (place 24 o i)) ∷ ‵ P ∷ ‵ (others (shares R) fullShare zs i b o) ∷ Γ) G

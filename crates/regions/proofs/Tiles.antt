@@ -10,7 +10,7 @@ use borrow.Author.Tests.{eq-eqb, ltb-false, leb-true, not-true}
 use Rattle.bits.specs.Bit.{pick, both}
 use Rattle.bits.proofs.Choice.{both-true}
 use Rattle.regions.specs.declared.VMRegion.{VMRegion}
-use Rattle.regions.specs.Regions.{region, fits, behind, takeFirst, joins, mergeFrom, merge}
+use Rattle.regions.specs.Regions.{vmRegion, fits, behind, takeFirst, joins, mergeFrom, merge}
 use Rattle.regions.proofs.Merge.{join, joined, freedAll}
 use Rattle.regions.proofs.Used.{AllFree}
 
@@ -68,7 +68,7 @@ used-apart r s u = rw u
 
 -- cutting a used region off makes no such pair: a tail's next neighbour adjoined the whole region before
 module _ (n : ℕ) (room : Bool) where
-  tail-apart : (r : VMRegion) (l : List VMRegion) → r .used ≡ false → n ≤ r .size → ApartFrom r l → ApartFrom (region (r .start + n) (r .size - n) false) l
+  tail-apart : (r : VMRegion) (l : List VMRegion) → r .used ≡ false → n ≤ r .size → ApartFrom r l → ApartFrom (vmRegion (r .start + n) (r .size - n) false) l
   tail-apart r [] u k h = tt
   tail-apart r (s ∷ l) u k h =
       let e : r .start + n + (r .size - n) ≡ r .start + r .size = omega arith in
@@ -76,7 +76,7 @@ module _ (n : ℕ) (room : Bool) where
       let d′ : both (not (s .used)) (eqb (r .start + r .size) (s .start)) ≡ false = rw u at d in
       (rw e d′, h .1)
 
-  behind-apart : (r : VMRegion) (l : List VMRegion) → fits n r ≡ true → ApartFrom r l → ApartFrom (region (r .start) n true) (behind n room r l)
+  behind-apart : (r : VMRegion) (l : List VMRegion) → fits n r ≡ true → ApartFrom r l → ApartFrom (vmRegion (r .start) n true) (behind n room r l)
   behind-apart r l f h = by (both room (ltb n (r .size))) refl l h
     where
       u : r .used ≡ false
@@ -85,15 +85,15 @@ module _ (n : ℕ) (room : Bool) where
       k : n ≤ r .size
       k = leb-true _ _ (both-true (not (r .used)) (leb n (r .size)) f .1)
 
-      whole : (l : List VMRegion) → ApartFrom r l → ApartFrom (region (r .start) n true) l
+      whole : (l : List VMRegion) → ApartFrom r l → ApartFrom (vmRegion (r .start) n true) l
       whole [] h = tt
       whole (s ∷ l) h = (refl, h .1)
 
-      by : (x : Bool) → both room (ltb n (r .size)) ≡ x → (l : List VMRegion) → ApartFrom r l → ApartFrom (region (r .start) n true) (pick x (region (r .start + n) (r .size - n) false ∷ l) l)
+      by : (x : Bool) → both room (ltb n (r .size)) ≡ x → (l : List VMRegion) → ApartFrom r l → ApartFrom (vmRegion (r .start) n true) (pick x (vmRegion (r .start + n) (r .size - n) false ∷ l) l)
       by true e l h = (refl, tail-apart r l u k h)
       by false e l h = whole l h
 
-  before-used : (q : VMRegion) (a : ℕ) → joins q (region a n true) ≡ false
+  before-used : (q : VMRegion) (a : ℕ) → joins q (vmRegion a n true) ≡ false
   before-used q a = by (q .used)
     where
       by : (x : Bool) → both (not x) (both false (eqb (q .start + q .size) a)) ≡ false
@@ -105,7 +105,7 @@ module _ (n : ℕ) (room : Bool) where
   apart-taken-from q [] h = tt
   apart-taken-from q (r ∷ l) h = by (fits n r) refl (apart-taken-from r l (h .1))
     where
-      by : (x : Bool) → fits n r ≡ x → ApartFrom r (takeFirst true n room l) → ApartFrom q (pick x (region (r .start) n true ∷ behind n room r l) (r ∷ takeFirst true n room l))
+      by : (x : Bool) → fits n r ≡ x → ApartFrom r (takeFirst true n room l) → ApartFrom q (pick x (vmRegion (r .start) n true ∷ behind n room r l) (r ∷ takeFirst true n room l))
       by true f more = (before-used q (r .start), behind-apart r l f (h .1))
       by false f more = (h .0, more)
 
@@ -114,7 +114,7 @@ module _ (n : ℕ) (room : Bool) where
   apart-taken [] h = tt
   apart-taken (r ∷ l) h = by (fits n r) refl
     where
-      by : (x : Bool) → fits n r ≡ x → Apart (pick x (region (r .start) n true ∷ behind n room r l) (r ∷ takeFirst true n room l))
+      by : (x : Bool) → fits n r ≡ x → Apart (pick x (vmRegion (r .start) n true ∷ behind n room r l) (r ∷ takeFirst true n room l))
       by true f = behind-apart r l f h
       by false f = apart-taken-from r l h
 
@@ -148,11 +148,11 @@ unfolding takeFirst
 tiled-taken used n lo hi [] h = h
 tiled-taken used n lo hi (r ∷ l) h = by (fits n r) refl (tiled-taken used n (lo + r .size) hi l (h .1))
   where
-    rest : n ≤ r .size → (x : Bool) → ltb n (r .size) ≡ x → Tiled (lo + n) hi (pick x (region (r .start + n) (r .size - n) false ∷ l) l)
+    rest : n ≤ r .size → (x : Bool) → ltb n (r .size) ≡ x → Tiled (lo + n) hi (pick x (vmRegion (r .start + n) (r .size - n) false ∷ l) l)
     rest k true e = (ap (λ (a : ℕ). a + n) (h .0), subst (λ (a : ℕ). Tiled a hi l) (omega arith) (h .1))
     rest k false e = subst (λ (a : ℕ). Tiled a hi l) (omega (arith, ltb-false n (r .size) e)) (h .1)
 
-    by : (x : Bool) → fits n r ≡ x → Tiled (lo + r .size) hi (takeFirst used n true l) → Tiled lo hi (pick x (region (r .start) n used ∷ behind n true r l) (r ∷ takeFirst used n true l))
+    by : (x : Bool) → fits n r ≡ x → Tiled (lo + r .size) hi (takeFirst used n true l) → Tiled lo hi (pick x (vmRegion (r .start) n used ∷ behind n true r l) (r ∷ takeFirst used n true l))
     by true f more = (h .0, rest (leb-true _ _ (both-true (not (r .used)) (leb n (r .size)) f .1)) (ltb n (r .size)) refl)
     by false f more = (h .0, more)
 
@@ -167,17 +167,17 @@ unfolding takeFirst
 taken-exact used room n [] h = refl
 taken-exact used room n (r ∷ l) h = by (fits n r) h (taken-exact used room n l)
   where
-    same : (y : Bool) → ltb n (r .size) ≡ false → pick (both y (ltb n (r .size))) (region (r .start + n) (r .size - n) false ∷ l) l ≡ pick (ltb n (r .size)) (region (r .start + n) (r .size - n) false ∷ l) l
+    same : (y : Bool) → ltb n (r .size) ≡ false → pick (both y (ltb n (r .size))) (vmRegion (r .start + n) (r .size - n) false ∷ l) l ≡ pick (ltb n (r .size)) (vmRegion (r .start + n) (r .size - n) false ∷ l) l
     same true e = refl
     same false e = rw e
 
     by : (x : Bool) → pick x (ltb n (r .size)) (larger n l) ≡ false → (larger n l ≡ false → takeFirst used n room l ≡ takeFirst used n true l)
-        → pick x (region (r .start) n used ∷ behind n room r l) (r ∷ takeFirst used n room l) ≡ pick x (region (r .start) n used ∷ behind n true r l) (r ∷ takeFirst used n true l)
-    by true e more = ap (λ (xs : List VMRegion). region (r .start) n used ∷ xs) (same room e)
+        → pick x (vmRegion (r .start) n used ∷ behind n room r l) (r ∷ takeFirst used n room l) ≡ pick x (vmRegion (r .start) n used ∷ behind n true r l) (r ∷ takeFirst used n true l)
+    by true e more = ap (λ (xs : List VMRegion). vmRegion (r .start) n used ∷ xs) (same room e)
     by false e more = ap (λ (xs : List VMRegion). r ∷ xs) (more e)
 
 -- free regions without a gap come to one
-row-one : (lo hi : ℕ) (r : VMRegion) (l : List VMRegion) → r .used ≡ false → AllFree l → Tiled lo hi (r ∷ l) → mergeFrom r l ≡ region lo (hi - lo) false ∷ []
+row-one : (lo hi : ℕ) (r : VMRegion) (l : List VMRegion) → r .used ≡ false → AllFree l → Tiled lo hi (r ∷ l) → mergeFrom r l ≡ vmRegion lo (hi - lo) false ∷ []
 unfolding mergeFrom
 row-one lo hi r [] u f h =
     let e : r .size ≡ hi - lo = omega (arith, h .1) in
@@ -186,7 +186,7 @@ row-one lo hi r (s ∷ l) u f h =
     let j : joins r s ≡ true = rw (u, f .0, eq-eqb (r .start + r .size) (s .start) (omega (arith, h .0, h .1 .0))) in
     rw j (row-one lo hi (join r s) l refl (f .1) (h .0, subst (λ (k : ℕ). Tiled k hi l) (add-assoc lo (r .size) (s .size)) (h .1 .1)))
 
-pub one-region : (lo hi : ℕ) (l : List VMRegion) → lo < hi → AllFree l → Tiled lo hi l → merge l ≡ region lo (hi - lo) false ∷ []
+pub one-region : (lo hi : ℕ) (l : List VMRegion) → lo < hi → AllFree l → Tiled lo hi l → merge l ≡ vmRegion lo (hi - lo) false ∷ []
 unfolding merge
 one-region lo hi [] k f h = absurd (omega arith)
 one-region lo hi (r ∷ l) k f h = row-one lo hi r l (f .0) (f .1) h

@@ -7,18 +7,16 @@ use lib.ListN.{getD, set, replicate}
 use Rattle.bits.specs.Bit.{both}
 use Rattle.slots.specs.Slots.{Slots}
 use Rattle.regions.specs.declared.VMRegion.{VMRegion}
-use Rattle.regions.specs.declared.VMAllocator.{VMAllocator}
-use Rattle.regions.specs.Regions.{region, window, noSlot}
+use Rattle.regions.specs.declared.Stepped.{Stepped}
+use Rattle.regions.specs.Regions.{vmRegion, window, noVmRegion}
 
-abbrev pub slotsOf : VMAllocator → Slots VMRegion
-slotsOf a = record { slots = a .regions; count = a .count }
-
-abbrev pub listOf : Slots VMRegion → VMAllocator
-listOf s = record { regions = s .slots; count = s .count }
+-- what a step leaves, as code holds it
+abbrev pub stepped : Slots VMRegion → Stepped
+stepped s = record { regions = s .slots; count = s .count }
 
 -- the board's start: the window as one free region
 abbrev pub oneRegion : Slots VMRegion
-oneRegion = record { slots = window ∷ replicate 255 noSlot; count = 1 }
+oneRegion = record { slots = window ∷ replicate 255 noVmRegion; count = 1 }
 
 -- a used region that starts at a
 abbrev pub usedAt : ℕ → VMRegion → Bool
@@ -26,8 +24,8 @@ usedAt a r = both (eqb (r .start) a) (r .used)
 
 -- region i with n bytes, used or free
 abbrev pub markedAt : ℕ → ℕ → Bool → List VMRegion → List VMRegion
-markedAt i n used l = set l i (region (getD l i noSlot .start) n used)
+markedAt i n used l = set l i (vmRegion (getD l i noVmRegion .start) n used)
 
 -- region i, free
 abbrev pub freedAt : ℕ → List VMRegion → List VMRegion
-freedAt i l = markedAt i (getD l i noSlot .size) false l
+freedAt i l = markedAt i (getD l i noVmRegion .size) false l

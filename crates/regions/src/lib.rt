@@ -1,10 +1,8 @@
 // The list of vmalloc.rs: 256 region records and a count.
 pub mod lent;
-pub mod list;
 
 ghost use mathlib.Core.Path.{_≡_};
-ghost use Rattle.regions.specs.Regions.{wellPlaced, soundRegions};
-ghost use Rattle.regions.specs.List.{slotsOf, listOf, oneRegion};
+ghost use Rattle.regions.specs.Regions.{wellPlaced};
 
 pub const VMALLOC_START: u64 = 0xFFFF_FFC0_0000_0000;
 
@@ -22,8 +20,8 @@ pub struct VMRegion {
     pub used: bool,
 }
 
-// The list: the first `count` slots are its regions.
-pub struct VMAllocator {
+// What a step on slots that are held by value leaves: the slots, and how many regions stand.
+pub struct Stepped {
     pub regions: [VMRegion; 256],
     pub count: usize,
 }
@@ -45,37 +43,4 @@ pub fn is_well_placed(start: u64, size: u64) -> bool
         return false;
     }
     size <= LAST_PAGE - start
-}
-
-impl VMAllocator {
-    // The window as one free region.
-    pub fn new() -> VMAllocator
-        ensures { λ r. ⌜ r ≡ listOf oneRegion ⌝ }
-    {
-        let blank = VMRegion {
-            start: 0,
-            size: 0,
-            used: false,
-        };
-        let mut regions = [blank; 256];
-        regions[0] = VMRegion {
-            start: VMALLOC_START,
-            size: VMALLOC_END - VMALLOC_START,
-            used: false,
-        };
-        VMAllocator { regions, count: 1 }
-    }
-
-    // Whether the list is not broken.
-    pub fn is_sound(self) -> bool
-        ensures { λ r. ⌜ r ≡ soundRegions (slotsOf self) ⌝ }
-    {
-        if self.count > MAX_VM_REGIONS {
-            return false;
-        }
-        if !list::all_placed(self) {
-            return false;
-        }
-        list::rest_blank(self)
-    }
 }

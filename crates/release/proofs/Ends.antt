@@ -6,26 +6,25 @@ use mathlib.Core.List.{List, _∷_, List·Memᴰ·head}
 use native.Mathlib.Omega.{arith}
 use borrow.Author.Tests.{eq-eqb}
 use Rattle.allocator.specs.Round.{rounded}
-use Rattle.answer.specs.declared.CountAnswer.the-variants.{Count}
-use Rattle.release.specs.Levels.{up}
-use Rattle.paging.specs.declared.Walked.the-variants.{At}
+use Rattle.answer.specs.declared.Outcome.the-variants.{Value}
+use Rattle.paging.specs.Levels.{aboveLast}
 use Rattle.paging.specs.Map.{Memory}
 use Rattle.paging.specs.Pages.{freePages}
 use Rattle.slots.proofs.Filled.{filled}
 use Rattle.regions.specs.declared.VMRegion.{VMRegion}
 use Rattle.regions.specs.Regions.{windowStart, windowEnd, usedSize, merge}
-use Rattle.regions.specs.Regions.{noSlot as noKernelSlot}
+use Rattle.regions.specs.Regions.{noVmRegion}
 use Rattle.regions.proofs.Merge.{freedAll}
 use Rattle.regions.proofs.Used.{used-inside}
 use Rattle.vmalloc.proofs.Calls.{vfree-met}
-use Rattle.mmap.specs.declared.MappedRegion.{MappedRegion}
-use Rattle.mmap.specs.Regions.{holds, remove}
-use Rattle.mmap.specs.Regions.{noSlot as noUserSlot}
-use Rattle.mmap.proofs.Rising.{holds-placed}
+use Rattle.mappings.specs.declared.MappedRegion.{MappedRegion}
+use Rattle.mappings.specs.Regions.{holds, remove}
+use Rattle.mappings.specs.Regions.{noMappedRegion}
+use Rattle.mappings.proofs.Rising.{holds-placed}
 use Rattle.mmap.proofs.Calls.{munmap-met}
-use Rattle.board.specs.Board.{Board, Did, did}
-use Rattle.release.specs.Calls.{Call, vfrees, munmaps, kernelOf, userOf, play}
-use Rattle.release.specs.Demand3.{Region, kernels, users, startIs, sizeIs, next}
+use Rattle.board.specs.Board.{Board, BoardDid, boardDid}
+use Rattle.release.specs.Calls.{Call, vfreeCall, munmapCall, kernelOf, userOf, play}
+use Rattle.release.specs.Demand3.{Region, kernelRegion, userRegion, startIs, sizeIs, next}
 use Rattle.release.proofs.Regions.{kernel-give, kernel-fewer, user-give, user-fewer}
 use Rattle.release.proofs.Paged.{paged-give, give-start}
 use Rattle.release.proofs.Invariant.{Leftover, Inv}
@@ -35,46 +34,46 @@ use Rattle.release.proofs.User.{user-listed, slots-removed}
 
 -- a board with other memory and other lists
 abbrev pub board : Board → Memory → List VMRegion → List MappedRegion → Board
-board b m k u = record { mem = m; root = b .root; kernel = filled noKernelSlot k; user = filled noUserSlot u; next = b .next; marked = b .marked }
+board b m k u = record { mem = m; root = b .root; kernel = filled noVmRegion k; user = filled noMappedRegion u; next = b .next; marked = b .marked }
 
 -- what a release leaves of memory and lists
 abbrev pub memoryAfter : ℕ → Memory → Region → Memory
-memoryAfter root m r = freePages up m root (startIs r) (sizeIs r / 4096)
+memoryAfter root m r = freePages aboveLast m root (startIs r) (sizeIs r / 4096)
 
 abbrev pub kernelAfter : List VMRegion → Region → List VMRegion
-kernelAfter k (kernels a n) = merge (freedAll a k)
-kernelAfter k (users a n) = k
+kernelAfter k (kernelRegion a n) = merge (freedAll a k)
+kernelAfter k (userRegion a n) = k
 
 abbrev pub userAfter : List MappedRegion → Region → List MappedRegion
-userAfter u (kernels a n) = u
-userAfter u (users a n) = remove a u
+userAfter u (kernelRegion a n) = u
+userAfter u (userRegion a n) = remove a u
 
 -- one release
 pub record Gave (left : Leftover) (b : Board) (k : List VMRegion) (u : List MappedRegion) (r : Region) (l : List Region) (c : Call) : Type 0 where
-  pub met : play b c .answer ≡ At 0
+  pub met : play b c .answer ≡ Value 0
   pub leaves : play b c .board ≡ board b (memoryAfter (b .root) (b .mem) r) (kernelAfter k r) (userAfter u r)
   pub inv : Inv left (board b (memoryAfter (b .root) (b .mem) r) (kernelAfter k r) (userAfter u r)) (kernelAfter k r) (userAfter u r) l
 
 -- of a kernel's region
-module _ {b : Board} {k : List VMRegion} {u : List MappedRegion} {l : List Region} {left : Leftover} (a n : ℕ) (h : Inv left b k u (kernels a n ∷ l)) where
-  used : usedSize a k ≡ At n
+module _ {b : Board} {k : List VMRegion} {u : List MappedRegion} {l : List Region} {left : Leftover} (a n : ℕ) (h : Inv left b k u (kernelRegion a n ∷ l)) where
+  used : usedSize a k ≡ Value n
   used = h .kernelList .live a n (List·Memᴰ·head refl)
 
-  kernel-play : play b (vfrees a) ≡ did (At 0) (board b (freePages up (b .mem) (b .root) a (n / 4096)) (merge (freedAll a k)) u)
+  kernel-play : play b (vfreeCall a) ≡ boardDid (Value 0) (board b (freePages aboveLast (b .mem) (b .root) a (n / 4096)) (merge (freedAll a k)) u)
   unfolding play
   kernel-play =
-      rw (vfree-met up (kernelOf b) (b .root) a n (kernel-sound h) (omega (arith, used-inside a n windowStart windowEnd k (h .kernelList .rows) used .from))
+      rw (vfree-met aboveLast (kernelOf b) (b .root) a n (kernel-sound h) (omega (arith, used-inside a n windowStart windowEnd k (h .kernelList .rows) used .from))
       (ap (usedSize a) (kernel-listed h) ∙ used))
-      λ i. did (At 0) (record { mem = freePages up (b .mem) (b .root) a (n / 4096); root = b .root; kernel = slots-freed h a i; user = h .userIs i; next = b .next; marked = b .marked })
+      λ i. boardDid (Value 0) (record { mem = freePages aboveLast (b .mem) (b .root) a (n / 4096); root = b .root; kernel = slots-freed h a i; user = h .userIs i; next = b .next; marked = b .marked })
 
-  pub kernel-gave : Gave left b k u (kernels a n) l (vfrees a)
+  pub kernel-gave : Gave left b k u (kernelRegion a n) l (vfreeCall a)
   unfolding play
   kernel-gave = record {
-    met = ap (λ (x : Did). x .answer) kernel-play;
-    leaves = ap (λ (x : Did). x .board) kernel-play;
+    met = ap (λ (x : BoardDid). x .answer) kernel-play;
+    leaves = ap (λ (x : BoardDid). x .board) kernel-play;
     inv = record {
       paged = paged-give a (n / 4096) (h .paged);
-      first = h .first ∙ sym (give-start up (b .mem) (b .root) a (n / 4096));
+      first = h .first ∙ sym (give-start aboveLast (b .mem) (b .root) a (n / 4096));
       kernelIs = refl;
       kernelList = kernel-give a n (h .kernelList) (h .once);
       userIs = refl;
@@ -85,7 +84,7 @@ module _ {b : Board} {k : List VMRegion} {u : List MappedRegion} {l : List Regio
   }
 
 -- of a user's
-module _ {b : Board} {k : List VMRegion} {u : List MappedRegion} {l : List Region} {left : Leftover} (a n size : ℕ) (r : rounded size ≡ Count n) (h : Inv left b k u (users a n ∷ l)) where
+module _ {b : Board} {k : List VMRegion} {u : List MappedRegion} {l : List Region} {left : Leftover} (a n size : ℕ) (r : rounded size ≡ Value n) (h : Inv left b k u (userRegion a n ∷ l)) where
   held : holds a n u ≡ true
   held = h .userList .live a n (List·Memᴰ·head refl)
 
@@ -95,28 +94,28 @@ module _ {b : Board} {k : List VMRegion} {u : List MappedRegion} {l : List Regio
     where
       by : (z : ℕ) → size ≡ z → 0 < size
       by zero e =
-          let q : Count 0 ≡ Count n = subst (λ (x : ℕ). rounded x ≡ Count n) e r in
+          let q : Value 0 ≡ Value n = subst (λ (x : ℕ). rounded x ≡ Value n) e r in
           let w : 0 ≡ n = cc in
           absurd (omega (arith, holds-placed a n 0 u (h .userList .rising) held .some))
       by (suc z) e = omega arith
 
-  user-play : play b (munmaps a size) ≡ did (At 0) (board b (freePages up (b .mem) (b .root) a (n / 4096)) k (remove a u))
+  user-play : play b (munmapCall a size) ≡ boardDid (Value 0) (board b (freePages aboveLast (b .mem) (b .root) a (n / 4096)) k (remove a u))
   unfolding play
   user-play =
-      rw (munmap-met up (userOf b) (b .root) a size n (user-sound h) asked (eq-eqb (a % 4096) 0 (holds-placed a n 0 u (h .userList .rising) held .even)) r
+      rw (munmap-met aboveLast (userOf b) (b .root) a size n (user-sound h) asked (eq-eqb (a % 4096) 0 (holds-placed a n 0 u (h .userList .rising) held .even)) r
       (ap (holds a n) (user-listed h) ∙ held))
-      λ i. did (At 0) (record { mem = freePages up (b .mem) (b .root) a (n / 4096); root = b .root; kernel = h .kernelIs i; user = slots-removed h a i; next = b .next; marked = b .marked })
+      λ i. boardDid (Value 0) (record { mem = freePages aboveLast (b .mem) (b .root) a (n / 4096); root = b .root; kernel = h .kernelIs i; user = slots-removed h a i; next = b .next; marked = b .marked })
 
-  pub user-gave : Gave left b k u (users a n) l (munmaps a size)
+  pub user-gave : Gave left b k u (userRegion a n) l (munmapCall a size)
   unfolding play
   user-gave = record {
-    met = ap (λ (x : Did). x .answer) user-play;
-    leaves = ap (λ (x : Did). x .board) user-play;
+    met = ap (λ (x : BoardDid). x .answer) user-play;
+    leaves = ap (λ (x : BoardDid). x .board) user-play;
     inv =
         let g = user-give a n (h .userList) (h .once) in
         record {
           paged = paged-give a (n / 4096) (h .paged);
-          first = h .first ∙ sym (give-start up (b .mem) (b .root) a (n / 4096));
+          first = h .first ∙ sym (give-start aboveLast (b .mem) (b .root) a (n / 4096));
           kernelIs = refl;
           kernelList = kernel-fewer a n (h .kernelList);
           userIs = refl;

@@ -3,15 +3,15 @@
 use Prim.Native.Nat.{ℕ, _%_}
 use mathlib.Core.Path.{_≡_, refl, sym, _∙_, ap}
 use mathlib.Core.List.{List, [], _∷_, _++_, append-assoc, List·Permᴰ, Permᴰ·symm, Permᴰ·append-right}
-use Rattle.release.specs.Levels.{up}
-use Rattle.paging.specs.Map.{startOf}
+use Rattle.paging.specs.Levels.{aboveLast}
+use Rattle.paging.specs.Map.{startFrame}
 use Rattle.tree.proofs.Books.{Tabled, perm-member}
 use Rattle.slots.proofs.Filled.{filled}
 use Rattle.regions.specs.declared.VMRegion.{VMRegion}
-use Rattle.regions.specs.Regions.{noSlot as noKernelSlot}
+use Rattle.regions.specs.Regions.{noVmRegion}
 use Rattle.regions.proofs.Tiles.{Apart}
-use Rattle.mmap.specs.declared.MappedRegion.{MappedRegion}
-use Rattle.mmap.specs.Regions.{noSlot as noUserSlot}
+use Rattle.mappings.specs.declared.MappedRegion.{MappedRegion}
+use Rattle.mappings.specs.Regions.{noMappedRegion}
 use Rattle.board.specs.Board.{Board}
 use Rattle.release.specs.Demand3.{Region, pagesOf, concat}
 use Rattle.release.proofs.Lists.{Once, perm-once, perm-concat}
@@ -39,11 +39,11 @@ with-is (r ∷ l) s = ap (λ (x : List ℕ). pagesOf r ++ x) (with-is l s) ∙ s
 
 -- the board: its parts, with the live regions l
 pub record Inv (left : Leftover) (b : Board) (k : List VMRegion) (u : List MappedRegion) (l : List Region) : Type 0 where
-  pub paged : Paged up (b .mem) (b .root) (pagesWith l (left .stranded)) (left .lost)
-  pub first : b .root ≡ startOf (b .mem)
-  pub kernelIs : b .kernel ≡ filled noKernelSlot k
+  pub paged : Paged aboveLast (b .mem) (b .root) (pagesWith l (left .stranded)) (left .lost)
+  pub first : b .root ≡ startFrame (b .mem)
+  pub kernelIs : b .kernel ≡ filled noVmRegion k
   pub kernelList : KernelList k l
-  pub userIs : b .user ≡ filled noUserSlot u
+  pub userIs : b .user ≡ filled noMappedRegion u
   pub userList : UserList u l
   pub next : b .next % 4096 ≡ 0
   pub once : Once l
@@ -52,7 +52,7 @@ pub record Inv (left : Leftover) (b : Board) (k : List VMRegion) (u : List Mappe
 -- to pages ever live (a refused run leaves the tables that it made)
 pub record Tidy (b : Board) (k : List VMRegion) (ever : List ℕ) : Type 0 where
   pub apart : Apart k
-  pub tabled : Tabled (b .mem) (b .root) up ever
+  pub tabled : Tabled (b .mem) (b .root) aboveLast ever
 
 -- the order of the live regions makes no difference
 pub inv-perm : {b : Board} {k : List VMRegion} {u : List MappedRegion} {l l′ : List Region} {left : Leftover} → List·Permᴰ l l′ → Inv left b k u l → Inv left b k u l′

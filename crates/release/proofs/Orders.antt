@@ -4,7 +4,7 @@ use mathlib.Core.Path.{_≡_, refl, sym, _∙_, ap, subst}
 use mathlib.Core.Bool.{Bool, true, false}
 use mathlib.Core.List.{List, [], _∷_, foldl, foldl-append, List·Memᴰ·not-nil, List·Permᴰ, List·Permᴰ·trans, Permᴰ·symm}
 use Rattle.bits.specs.Bit.{pick}
-use Rattle.release.specs.Levels.{up}
+use Rattle.paging.specs.Levels.{aboveLast}
 use Rattle.paging.specs.Map.{Memory}
 use Rattle.paging.specs.Pages.{freePage}
 use Rattle.tree.proofs.Orders.{one-end}
@@ -15,12 +15,12 @@ use Rattle.slots.specs.Slots.{every}
 use Rattle.regions.specs.declared.VMRegion.{VMRegion}
 use Rattle.regions.specs.Regions.{merge}
 use Rattle.regions.proofs.Merge.{freedAll, free-then, freed-comm}
-use Rattle.mmap.specs.declared.MappedRegion.{MappedRegion}
-use Rattle.mmap.specs.Regions.{holds}
-use Rattle.mmap.proofs.Rising.{holds-nothing}
+use Rattle.mappings.specs.declared.MappedRegion.{MappedRegion}
+use Rattle.mappings.specs.Regions.{holds}
+use Rattle.mappings.proofs.Rising.{holds-nothing}
 use Rattle.board.specs.Board.{Board}
 use Rattle.release.specs.Calls.{Call, after, events, isMet}
-use Rattle.release.specs.Demand3.{Region, kernels, users, startIs, sizeIs, Releases, by-vfree, by-munmap, EachReleased, done, next, Order, pagesOf, concat}
+use Rattle.release.specs.Demand3.{Region, kernelRegion, userRegion, startIs, sizeIs, Releases, by-vfree, by-munmap, EachReleased, done, next, Order, pagesOf, concat}
 use Rattle.release.proofs.Lists.{perm-concat, reordered}
 use Rattle.release.proofs.Regions.{UserList}
 use Rattle.release.proofs.Paged.{run-is}
@@ -56,41 +56,41 @@ end-of (next {r = r} {c = c} {cs = cs} x xs) {b} {k} {u} {left} h =
 
 -- ---- the memory
 
-memory-end : (root : ℕ) (m : List Region) (x : Memory) → foldl (memoryAfter root) x m ≡ freeAll up root x (concat pagesOf m)
+memory-end : (root : ℕ) (m : List Region) (x : Memory) → foldl (memoryAfter root) x m ≡ freeAll aboveLast root x (concat pagesOf m)
 unfolding concat
 memory-end root [] x = refl
 memory-end root (r ∷ m) x =
     memory-end root m (memoryAfter root x r)
-    ∙ ap (λ (y : Memory). freeAll up root y (concat pagesOf m)) (free-pages up root (sizeIs r / 4096) x (startIs r) ∙ ap (freeAll up root x) (run-is (startIs r) (sizeIs r / 4096)))
-    ∙ sym (foldl-append (λ (y : Memory) (v : ℕ). freePage up y root v) x (pagesOf r) (concat pagesOf m))
+    ∙ ap (λ (y : Memory). freeAll aboveLast root y (concat pagesOf m)) (free-pages aboveLast root (sizeIs r / 4096) x (startIs r) ∙ ap (freeAll aboveLast root x) (run-is (startIs r) (sizeIs r / 4096)))
+    ∙ sym (foldl-append (λ (y : Memory) (v : ℕ). freePage aboveLast y root v) x (pagesOf r) (concat pagesOf m))
 
 -- ---- the kernel's list
 
 -- regions freed one after the other, and merged at the end if there was one
 abbrev freedRegion : Bool × List VMRegion → Region → Bool × List VMRegion
-freedRegion s (kernels a n) = (true, freedAll a (s .1))
-freedRegion s (users a n) = s
+freedRegion s (kernelRegion a n) = (true, freedAll a (s .1))
+freedRegion s (userRegion a n) = s
 
 abbrev mergedIf : Bool × List VMRegion → List VMRegion
 mergedIf s = pick (s .0) (merge (s .1)) (s .1)
 
 kernel-next : (s : Bool × List VMRegion) (r : Region) → kernelAfter (mergedIf s) r ≡ mergedIf (freedRegion s r)
-kernel-next s (kernels a n) = by (s .0)
+kernel-next s (kernelRegion a n) = by (s .0)
   where
     by : (x : Bool) → merge (freedAll a (pick x (merge (s .1)) (s .1))) ≡ merge (freedAll a (s .1))
     by true = free-then a (s .1)
     by false = refl
-kernel-next s (users a n) = refl
+kernel-next s (userRegion a n) = refl
 
 kernel-end : (m : List Region) (s : Bool × List VMRegion) → foldl kernelAfter (mergedIf s) m ≡ mergedIf (foldl freedRegion s m)
 kernel-end [] s = refl
 kernel-end (r ∷ m) s = ap (λ (x : List VMRegion). foldl kernelAfter x m) (kernel-next s r) ∙ kernel-end m (freedRegion s r)
 
 regions-commute : (s : Bool × List VMRegion) (r q : Region) → Unit {0} → freedRegion (freedRegion s r) q ≡ freedRegion (freedRegion s q) r
-regions-commute s (kernels a n) (kernels c m) _ = λ i. (true, freed-comm c a (s .1) i)
-regions-commute s (kernels a n) (users c m) _ = refl
-regions-commute s (users a n) (kernels c m) _ = refl
-regions-commute s (users a n) (users c m) _ = refl
+regions-commute s (kernelRegion a n) (kernelRegion c m) _ = λ i. (true, freed-comm c a (s .1) i)
+regions-commute s (kernelRegion a n) (userRegion c m) _ = refl
+regions-commute s (userRegion a n) (kernelRegion c m) _ = refl
+regions-commute s (userRegion a n) (userRegion c m) _ = refl
 
 -- two free neighbours that a refused vmalloc left are merged by every order with a release of the kernel's, and by none without
 kernels-alike : {m m′ : List Region} → List·Permᴰ m m′ → (k : List VMRegion) → foldl kernelAfter k m ≡ foldl kernelAfter k m′
@@ -126,8 +126,8 @@ module _ {b : Board} {k : List VMRegion} {u : List MappedRegion} {l : List Regio
 
 kernels-apart : (m : List Region) (k : List VMRegion) → Apart k → Apart (foldl kernelAfter k m)
 kernels-apart [] k h = h
-kernels-apart (kernels a n ∷ m) k h = kernels-apart m (merge (freedAll a k)) (apart-merge (freedAll a k))
-kernels-apart (users a n ∷ m) k h = kernels-apart m k h
+kernels-apart (kernelRegion a n ∷ m) k h = kernels-apart m (merge (freedAll a k)) (apart-merge (freedAll a k))
+kernels-apart (userRegion a n ∷ m) k h = kernels-apart m k h
 
 pub ended-tidy : {b : Board} {k : List VMRegion} {u : List MappedRegion} {l : List Region} {ever : List ℕ} {left : Leftover} → Inv left b k u l → Tidy b k ever → (m : List Region)
     → Tidy (ended b k u m) (foldl kernelAfter k m) ever

@@ -7,9 +7,9 @@ use mathlib.Core.List.{List, _∷_, _++_, List·Permᴰ}
 use native.Mathlib.Omega.{arith}
 use Rattle.answer.specs.Numbers.{noFreeFrame, mapPageFailed}
 use Rattle.frame.proofs.Steps.{span-give}
-use Rattle.paging.specs.declared.Walked.{Walked}
-use Rattle.paging.specs.declared.Walked.the-variants.{At, Stop}
-use Rattle.paging.specs.Map.{Memory, startOf}
+use Rattle.answer.specs.declared.Outcome.{Outcome}
+use Rattle.answer.specs.declared.Outcome.the-variants.{Value, Stop}
+use Rattle.paging.specs.Map.{Memory, startFrame}
 use Rattle.paging.specs.Pages.{Ran, mapFresh, mapPages, unmapLeaf, freePage, freePages, freed}
 use Rattle.frame.specs.Frames.{Frames}
 use Rattle.tree.proofs.Ordered.{PlainIn, Ordered}
@@ -37,12 +37,12 @@ unfolding pagesFrom
 run-is v zero = refl
 run-is v (suc n) = ap (λ (l : List ℕ). v ∷ l) (run-is (v + 4096) n)
 
-pub takes-start : {root up : ℕ} {m m′ : Memory} {l : List ℕ} → Takes root up m l m′ → startOf m′ ≡ startOf m
+pub takes-start : {root up : ℕ} {m m′ : Memory} {l : List ℕ} → Takes root up m l m′ → startFrame m′ ≡ startFrame m
 takes-start none = refl
 takes-start (more t r) = takes-start r ∙ t .grew .start
 
 -- n pages from v on are taken
-module _ (w u : Bool) {up : ℕ} {m : Memory} {root : ℕ} {pages lost : List ℕ} (h : Paged up m root pages lost) (v n x : ℕ) (e : mapPages up w u m root v 0 n .walked ≡ At x) where
+module _ (w u : Bool) {up : ℕ} {m : Memory} {root : ℕ} {pages lost : List ℕ} (h : Paged up m root pages lost) (v n x : ℕ) (e : mapPages up w u m root v 0 n .walked ≡ Value x) where
   pub met-takes : Takes root up m (run v n) (mapPages up w u m root v 0 n .mem)
   met-takes = map-pages-met w u n (h .account .order) v 0 x e
 
@@ -57,7 +57,7 @@ module _ (w u : Bool) {up : ℕ} {m : Memory} {root : ℕ} {pages lost : List �
   pub tabled-take : {ever : List ℕ} → Tabled m root up ever → Tabled (mapPages up w u m root v 0 n .mem) root up (pagesFrom v n ++ ever)
   tabled-take {ever} t = subst (λ (l : List ℕ). Tabled (mapPages up w u m root v 0 n .mem) root up (l ++ ever)) (run-is v n) (takes-tabled met-takes t)
 
-  pub take-start : startOf (mapPages up w u m root v 0 n .mem) ≡ startOf m
+  pub take-start : startFrame (mapPages up w u m root v 0 n .mem) ≡ startFrame m
   take-start = takes-start met-takes
 
 named : (e n : ℕ) → e ≡ n → turnedAway (Stop n) ≡ true → turnedAway (Stop e) ≡ true
@@ -69,10 +69,10 @@ unfolding mapPages
 stop-number w u zero o v k e h = let z : _≡_ {A = ℕ} 0 1 = cc in absurd (omega arith)
 stop-number {up} w u (suc n) {m} {root} o v k e h = go (mapFresh up w u m root v .walked) refl (λ g. stop-number w u n g (v + 4096) (suc k) e)
   where
-    go : (y : Walked) → mapFresh up w u m root v .walked ≡ y
+    go : (y : Outcome) → mapFresh up w u m root v .walked ≡ y
         → (Ordered (mapFresh up w u m root v .mem) root (suc up) → mapPages up w u (mapFresh up w u m root v .mem) root (v + 4096) (suc k) n .walked ≡ Stop e → turnedAway (Stop e) ≡ true)
         → turnedAway (Stop e) ≡ true
-    go (At x) f later = later (take-met o w u v x f .1 .grew .order) (ap (λ (q : Ran). q .walked) (sym (map-pages-on up w u m root v k n x f)) ∙ h)
+    go (Value x) f later = later (take-met o w u v x f .1 .grew .order) (ap (λ (q : Ran). q .walked) (sym (map-pages-on up w u m root v k n x f)) ∙ h)
     go (Stop a) f later =
         let q : Stop a ≡ Stop e = ap (λ (q : Ran). q .walked) (sym (map-pages-stop up w u m root v k n a f)) ∙ h in
         let z : a ≡ e = cc in
@@ -83,15 +83,15 @@ pub paged-stop : (w u : Bool) {up : ℕ} {m : Memory} {root : ℕ} {pages lost :
 paged-stop w u h v n e f = stop-number w u n (h .account .order) v 0 e f
 
 -- and freed again
-free-start : (up : ℕ) (m : Memory) (root v : ℕ) → startOf (freePage up m root v) ≡ startOf m
+free-start : (up : ℕ) (m : Memory) (root v : ℕ) → startFrame (freePage up m root v) ≡ startFrame m
 unfolding freePage
 free-start up m root v = by (unmapLeaf up m root v .walked) (m .frames)
   where
-    by : (w : Walked) (fr : Frames) → freed w fr .fa .start ≡ fr .fa .start
-    by (At f) fr = span-give fr f .start
+    by : (w : Outcome) (fr : Frames) → freed w fr .fa .start ≡ fr .fa .start
+    by (Value f) fr = span-give fr f .start
     by (Stop a) fr = refl
 
-pub give-start : (up : ℕ) (m : Memory) (root v n : ℕ) → startOf (freePages up m root v n) ≡ startOf m
+pub give-start : (up : ℕ) (m : Memory) (root v n : ℕ) → startFrame (freePages up m root v n) ≡ startFrame m
 unfolding freePages
 give-start up m root v zero = refl
 give-start up m root v (suc n) = give-start up (freePage up m root v) root (v + 4096) n ∙ free-start up m root v

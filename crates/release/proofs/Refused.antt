@@ -14,24 +14,25 @@ use Rattle.bits.specs.Bit.{pick}
 use Rattle.allocator.specs.Round.{roundUp}
 use Rattle.allocator.proofs.Round.{round-multiple}
 use Rattle.answer.specs.Numbers.{noFreeFrame, mapPageFailed}
-use Rattle.paging.specs.declared.Walked.{Walked}
-use Rattle.paging.specs.declared.Walked.the-variants.{At, Stop}
-use Rattle.paging.specs.Map.{Memory, startOf}
+use Rattle.answer.specs.declared.Outcome.{Outcome}
+use Rattle.answer.specs.declared.Outcome.the-variants.{Value, Stop}
+use Rattle.paging.specs.Map.{Memory, startFrame}
 use Rattle.slots.specs.Slots.{listed}
 use Rattle.slots.proofs.Filled.{filled}
 use Rattle.regions.specs.declared.VMRegion.{VMRegion}
 use Rattle.regions.specs.Regions.{firstFit, taken}
-use Rattle.regions.specs.Regions.{noSlot as noKernelSlot}
+use Rattle.regions.specs.Regions.{noVmRegion}
 use Rattle.vmalloc.specs.Calls.{kernel, kernelPages, vmalloc}
-use Rattle.vmalloc.specs.Calls.{Did as KernelDid}
-use Rattle.mmap.specs.declared.MappedRegion.{MappedRegion}
-use Rattle.mmap.specs.declared.Wish.{Wish}
-use Rattle.mmap.specs.Regions.{writable, region, insert}
+use Rattle.vmalloc.specs.Calls.{KernelDid}
+use Rattle.mappings.specs.declared.MappedRegion.{MappedRegion}
+use Rattle.mmap.specs.declared.OptAddr.{OptAddr}
+use Rattle.mappings.specs.Regions.{mappedRegion, insert}
+use Rattle.mmap.specs.Flags.{writable}
 use Rattle.mmap.specs.Calls.{user, chosen, userPages, leftover, mmap}
-use Rattle.mmap.specs.Calls.{Did as UserDid}
+use Rattle.mmap.specs.Calls.{UserDid}
 use Rattle.board.specs.Board.{Board}
-use Rattle.release.specs.Levels.{up}
-use Rattle.release.specs.Calls.{Call, vmallocs, vfrees, mmaps, munmaps, kernelOf, withKernel, userOf, withUser, play, after, Event, events, turnedAway}
+use Rattle.paging.specs.Levels.{aboveLast}
+use Rattle.release.specs.Calls.{Call, vmallocCall, vfreeCall, mmapCall, munmapCall, kernelOf, withKernel, userOf, withUser, play, after, Event, events, turnedAway}
 use Rattle.release.specs.Demand3.{Region, pagesFrom, pagesOf, concat, liveStep, liveFrom, bookStep}
 use Rattle.release.proofs.Lists.{exchange}
 use Rattle.release.proofs.Regions.{kernel-cut}
@@ -49,39 +50,39 @@ joinLeft x left = record { stranded = x .stranded ++ left .stranded; lost = x .l
 -- a vmalloc of n bytes at a: 'pages before i stay mapped .. 13 leaves one more frame marked'
 abbrev pub kernelLeft : Board → ℕ → ℕ → Leftover
 kernelLeft b a n =
-    let r = kernelPages up (b .mem) (b .root) a n in
-    record { stranded = pagesFrom a (r .done); lost = drop (r .done) (framesTaken up true false (b .mem) (b .root) a (n / 4096)) }
+    let r = kernelPages aboveLast (b .mem) (b .root) a n in
+    record { stranded = pagesFrom a (r .done); lost = drop (r .done) (framesTaken aboveLast true false (b .mem) (b .root) a (n / 4096)) }
 
 -- an mmap of n bytes at a: 11, 'pages before i stay mapped, no region'; 13, 'those entries are cleared, i + 1 frames stay marked'
 abbrev pub userLeft : Board → ℕ → ℕ → ℤ → Bool → Leftover
 userLeft b a n prot failed =
-    pick failed (record { stranded = []; lost = framesTaken up (writable prot) true (b .mem) (b .root) a (n / 4096) })
-    (record { stranded = pagesFrom a (userPages up (b .mem) (b .root) a n prot .done); lost = [] })
+    pick failed (record { stranded = []; lost = framesTaken aboveLast (writable prot) true (b .mem) (b .root) a (n / 4096) })
+    (record { stranded = pagesFrom a (userPages aboveLast (b .mem) (b .root) a n prot .done); lost = [] })
 
-abbrev pub with13 : Walked → Bool
-with13 (At x) = false
+abbrev pub with13 : Outcome → Bool
+with13 (Value x) = false
 with13 (Stop e) = eqb e mapPageFailed
 
 -- where its range lies
-abbrev pub atPlace : Walked → (ℕ → Leftover) → Leftover
-atPlace (At a) then = then a
+abbrev pub atPlace : Outcome → (ℕ → Leftover) → Leftover
+atPlace (Value a) then = then a
 atPlace (Stop e) then = nothingLeft
 
 -- only a vmalloc or an mmap turned away with 11 or 13 leaves anything
-abbrev pub leftBy : Board → Call → Walked → Leftover
-leftBy b (vmallocs size) w = pick (turnedAway w) (atPlace (firstFit (roundUp 12 size) (listed (b .kernel))) (λ a. kernelLeft b a (roundUp 12 size))) nothingLeft
-leftBy b (vfrees a) w = nothingLeft
-leftBy b (mmaps wish size prot flags) w =
-    pick (turnedAway w) (atPlace (chosen (userOf b) wish (roundUp 12 size) flags) (λ a. userLeft b a (roundUp 12 size) prot (with13 w))) nothingLeft
-leftBy b (munmaps a size) w = nothingLeft
+abbrev pub leftBy : Board → Call → Outcome → Leftover
+leftBy b (vmallocCall size) w = pick (turnedAway w) (atPlace (firstFit (roundUp 12 size) (listed (b .kernel))) (λ a. kernelLeft b a (roundUp 12 size))) nothingLeft
+leftBy b (vfreeCall a) w = nothingLeft
+leftBy b (mmapCall hint size prot flags) w =
+    pick (turnedAway w) (atPlace (chosen (userOf b) hint (roundUp 12 size) flags) (λ a. userLeft b a (roundUp 12 size) prot (with13 w))) nothingLeft
+leftBy b (munmapCall a size) w = nothingLeft
 
 -- the kernel's list: as the book, but for a refused vmalloc's region, 'free with its size cut, split and unmerged'
-abbrev pub listStep : List VMRegion → Call → Walked → List VMRegion
-listStep k (vmallocs size) (At a) = bookStep k (vmallocs size) (At a)
-listStep k (vmallocs size) (Stop e) = pick (turnedAway (Stop e)) (taken false (roundUp 12 size) k) k
-listStep k (vfrees a) w = bookStep k (vfrees a) w
-listStep k (mmaps wish size prot flags) w = k
-listStep k (munmaps a size) w = k
+abbrev pub listStep : List VMRegion → Call → Outcome → List VMRegion
+listStep k (vmallocCall size) (Value a) = bookStep k (vmallocCall size) (Value a)
+listStep k (vmallocCall size) (Stop e) = pick (turnedAway (Stop e)) (taken false (roundUp 12 size) k) k
+listStep k (vfreeCall a) w = bookStep k (vfreeCall a) w
+listStep k (mmapCall hint size prot flags) w = k
+listStep k (munmapCall a size) w = k
 
 -- ---- the steps
 
@@ -99,13 +100,13 @@ with-more l p s = rw (with-is l s, with-is l (p ++ s)) (exchange p (concat pages
 
 module _ {b : Board} {k : List VMRegion} {u : List MappedRegion} {l : List Region} {left : Leftover} (h : Inv left b k u l) where
   -- a vmalloc turned away
-  kernel-stopped : (size a e : ℕ) → let n = roundUp 12 size in 0 < n → kernelPages up (b .mem) (b .root) a n .walked ≡ Stop e
-      → Inv (joinLeft (kernelLeft b a n) left) (withKernel b (kernel (kernelPages up (b .mem) (b .root) a n .mem) (filled noKernelSlot (taken false n k)))) (taken false n k) u l
+  kernel-stopped : (size a e : ℕ) → let n = roundUp 12 size in 0 < n → kernelPages aboveLast (b .mem) (b .root) a n .walked ≡ Stop e
+      → Inv (joinLeft (kernelLeft b a n) left) (withKernel b (kernel (kernelPages aboveLast (b .mem) (b .root) a n .mem) (filled noVmRegion (taken false n k)))) (taken false n k) u l
   kernel-stopped size a e pos met =
       let n = roundUp 12 size in
       let s = run-stopped true false (n / 4096) (h .paged .account .order) a e met in
       record {
-        paged = paged-perm (with-more l (pagesFrom a (kernelPages up (b .mem) (b .root) a n .done)) (left .stranded)) (stopped-stranded s (h .paged));
+        paged = paged-perm (with-more l (pagesFrom a (kernelPages aboveLast (b .mem) (b .root) a n .done)) (left .stranded)) (stopped-stranded s (h .paged));
         first = h .first ∙ sym (stopped-start s);
         kernelIs = refl;
         kernelList = kernel-cut n (round-multiple 12 size) pos (h .kernelList);
@@ -116,22 +117,22 @@ module _ {b : Board} {k : List VMRegion} {u : List MappedRegion} {l : List Regio
       }
 
   -- an mmap turned away
-  module _ (n a e : ℕ) (prot : ℤ) (met : userPages up (b .mem) (b .root) a n prot .walked ≡ Stop e) where
+  module _ (n a e : ℕ) (prot : ℤ) (met : userPages aboveLast (b .mem) (b .root) a n prot .walked ≡ Stop e) where
     abbrev leaves : Memory
-    leaves = leftover up (b .root) a e (userPages up (b .mem) (b .root) a n prot .done) (userPages up (b .mem) (b .root) a n prot .mem)
+    leaves = leftover aboveLast (b .root) a e (userPages aboveLast (b .mem) (b .root) a n prot .done) (userPages aboveLast (b .mem) (b .root) a n prot .mem)
 
-    stopped : Stopped up (b .mem) (b .root) a (userPages up (b .mem) (b .root) a n prot .done) e (framesTaken up (writable prot) true (b .mem) (b .root) a (n / 4096))
-        (userPages up (b .mem) (b .root) a n prot .mem)
+    stopped : Stopped aboveLast (b .mem) (b .root) a (userPages aboveLast (b .mem) (b .root) a n prot .done) e (framesTaken aboveLast (writable prot) true (b .mem) (b .root) a (n / 4096))
+        (userPages aboveLast (b .mem) (b .root) a n prot .mem)
     stopped = run-stopped (writable prot) true (n / 4096) (h .paged .account .order) a e met
 
     user-paged : turnedAway (Stop e) ≡ true → (x : Bool) → eqb e mapPageFailed ≡ x
-        → Paged up leaves (b .root) (pagesWith l (joinLeft (userLeft b a n prot x) left .stranded)) (joinLeft (userLeft b a n prot x) left .lost)
+        → Paged aboveLast leaves (b .root) (pagesWith l (joinLeft (userLeft b a n prot x) left .stranded)) (joinLeft (userLeft b a n prot x) left .lost)
     user-paged t true q = rw q (stopped-cleared stopped (eqb-true e mapPageFailed q) (h .paged))
     user-paged t false q =
-        rw q (paged-perm (with-more l (pagesFrom a (userPages up (b .mem) (b .root) a n prot .done)) (left .stranded)) (stopped-full stopped (eleven e t q) (h .paged)))
+        rw q (paged-perm (with-more l (pagesFrom a (userPages aboveLast (b .mem) (b .root) a n prot .done)) (left .stranded)) (stopped-full stopped (eleven e t q) (h .paged)))
 
-    user-start : (x : Bool) → eqb e mapPageFailed ≡ x → startOf leaves ≡ startOf (b .mem)
-    user-start true q = rw q (clear-start up _ (b .root) a _ ∙ stopped-start stopped)
+    user-start : (x : Bool) → eqb e mapPageFailed ≡ x → startFrame leaves ≡ startFrame (b .mem)
+    user-start true q = rw q (clear-start aboveLast _ (b .root) a _ ∙ stopped-start stopped)
     user-start false q = rw q (stopped-start stopped)
 
     user-stopped : turnedAway (Stop e) ≡ true → Inv (joinLeft (userLeft b a n prot (eqb e mapPageFailed)) left) (withUser b (user leaves (b .user) (b .next))) k u l
@@ -147,30 +148,30 @@ module _ {b : Board} {k : List VMRegion} {u : List MappedRegion} {l : List Regio
     }
 
   -- every outcome of the two
-  pub vmalloc-any : (size : ℕ) → let d = vmalloc up (kernelOf b) (b .root) size in
-      Inv (joinLeft (leftBy b (vmallocs size) (d .answer)) left) (withKernel b (d .kernel)) (listStep k (vmallocs size) (d .answer)) u (liveStep l (vmallocs size) (d .answer))
+  pub vmalloc-any : (size : ℕ) → let d = vmalloc aboveLast (kernelOf b) (b .root) size in
+      Inv (joinLeft (leftBy b (vmallocCall size) (d .answer)) left) (withKernel b (d .kernel)) (listStep k (vmallocCall size) (d .answer)) u (liveStep l (vmallocCall size) (d .answer))
   vmalloc-any size =
       vmalloc-outcomes h size
-      (λ (d : KernelDid). Inv (joinLeft (leftBy b (vmallocs size) (d .answer)) left) (withKernel b (d .kernel)) (listStep k (vmallocs size) (d .answer)) u (liveStep l (vmallocs size) (d .answer)))
+      (λ (d : KernelDid). Inv (joinLeft (leftBy b (vmallocCall size) (d .answer)) left) (withKernel b (d .kernel)) (listStep k (vmallocCall size) (d .answer)) u (liveStep l (vmallocCall size) (d .answer)))
       (λ e q. rw q h) (λ a x pos f met. kernel-took h size a x pos f met)
       (λ a e pos f met t. rw (t, kernel-listed h, f) (kernel-stopped size a e pos met))
 
-  pub mmap-any : (wish : Wish) (size : ℕ) (prot flags : ℤ) → let d = mmap up (userOf b) (b .root) wish size prot flags in
-      (u′ : List MappedRegion) × Inv (joinLeft (leftBy b (mmaps wish size prot flags) (d .answer)) left) (withUser b (d .user)) k u′ (liveStep l (mmaps wish size prot flags) (d .answer))
-  mmap-any wish size prot flags =
-      mmap-outcomes h wish size prot flags
-      (λ (d : UserDid). (u′ : List MappedRegion) × Inv (joinLeft (leftBy b (mmaps wish size prot flags) (d .answer)) left) (withUser b (d .user)) k u′ (liveStep l (mmaps wish size prot flags) (d .answer)))
-      (λ e q. rw q (u, h)) (λ a x p f met. (insert (region a (roundUp 12 size) prot flags) u, user-took h (roundUp 12 size) a x prot flags p f met))
+  pub mmap-any : (hint : OptAddr) (size : ℕ) (prot flags : ℤ) → let d = mmap aboveLast (userOf b) (b .root) hint size prot flags in
+      (u′ : List MappedRegion) × Inv (joinLeft (leftBy b (mmapCall hint size prot flags) (d .answer)) left) (withUser b (d .user)) k u′ (liveStep l (mmapCall hint size prot flags) (d .answer))
+  mmap-any hint size prot flags =
+      mmap-outcomes h hint size prot flags
+      (λ (d : UserDid). (u′ : List MappedRegion) × Inv (joinLeft (leftBy b (mmapCall hint size prot flags) (d .answer)) left) (withUser b (d .user)) k u′ (liveStep l (mmapCall hint size prot flags) (d .answer)))
+      (λ e q. rw q (u, h)) (λ a x p f met. (insert (mappedRegion a (roundUp 12 size) prot flags) u, user-took h (roundUp 12 size) a x prot flags p f met))
       (λ a e c met t. rw (t, c) (u, user-stopped (roundUp 12 size) a e prot met t))
 
 -- any call
 pub any-step : {b : Board} {k : List VMRegion} {u : List MappedRegion} {l : List Region} {left : Leftover} → Inv left b k u l → (c : Call)
     → (u′ : List MappedRegion) × Inv (joinLeft (leftBy b c (play b c .answer)) left) (play b c .board) (listStep k c (play b c .answer)) u′ (liveStep l c (play b c .answer))
 unfolding play
-any-step {u = u} h (vmallocs size) = (u, vmalloc-any h size)
-any-step {u = u} h (vfrees a) = (u, vfree-step h a)
-any-step h (mmaps wish size prot flags) = mmap-any h wish size prot flags
-any-step h (munmaps a size) = munmap-step h a size
+any-step {u = u} h (vmallocCall size) = (u, vmalloc-any h size)
+any-step {u = u} h (vfreeCall a) = (u, vfree-step h a)
+any-step h (mmapCall hint size prot flags) = mmap-any h hint size prot flags
+any-step h (munmapCall a size) = munmap-step h a size
 
 -- ---- any list of calls
 

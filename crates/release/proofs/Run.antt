@@ -13,21 +13,22 @@ use Rattle.allocator.specs.Round.{roundUp}
 use Rattle.answer.specs.Numbers.{brokenRecord, noFreeFrame}
 use Rattle.frame.proofs.Steps.{span-with}
 use Rattle.frame.specs.Frames.{withMark}
-use Rattle.release.specs.Levels.{up}
+use Rattle.paging.specs.Levels.{aboveLast}
 use Rattle.paging.specs.Map.{memory, zeroFrame}
-use Rattle.paging.specs.declared.Walked.{Walked}
-use Rattle.paging.specs.declared.Walked.the-variants.{At, Stop}
+use Rattle.answer.specs.declared.Outcome.{Outcome}
+use Rattle.answer.specs.declared.Outcome.the-variants.{Value, Stop}
 use Rattle.tree.proofs.Ordered.{reachIn}
 use Rattle.tree.proofs.Books.{Tabled, bare-live, bare-tabled}
-use Rattle.tree.proofs.Start.{unused, fresh-accounted, fresh-plain, fresh-only}
+use Rattle.tree.proofs.Start.{untaken, fresh-accounted, fresh-plain, fresh-only}
 use Rattle.slots.specs.Slots.{every}
 use Rattle.regions.specs.declared.VMRegion.{VMRegion}
 use Rattle.regions.specs.Regions.{windowStart, windowEnd, window, usedSize}
-use Rattle.mmap.specs.declared.MappedRegion.{MappedRegion}
-use Rattle.mmap.specs.Regions.{holds}
-use Rattle.board.specs.Board.{Board, Did, did, begun, start}
+use Rattle.mappings.specs.declared.MappedRegion.{MappedRegion}
+use Rattle.mappings.specs.Regions.{holds}
+use Rattle.mappings.proofs.Rising.{rising-none}
+use Rattle.board.specs.Board.{Board, BoardDid, boardDid, begun, start}
 use Rattle.board.proofs.Outcomes.{start-cases}
-use Rattle.release.specs.Calls.{Call, vmallocs, vfrees, mmaps, munmaps, play, after, Event, events, turnedAway}
+use Rattle.release.specs.Calls.{Call, vmallocCall, vfreeCall, mmapCall, munmapCall, play, after, Event, events, turnedAway}
 use Rattle.release.specs.Demand3.{noneTurnedAway, Region, liveStep, liveFrom, bookStep, bookFrom}
 use Rattle.release.proofs.Regions.{KernelList, UserList}
 use Rattle.release.proofs.Paged.{Paged}
@@ -37,11 +38,11 @@ use Rattle.release.proofs.User.{mmap-step, munmap-step, mmap-tidy, munm
 use Rattle.release.proofs.Refused.{leftFrom, listFrom, run-any}
 
 -- the pages ever mapped, call by call
-abbrev pub everStep : List ℕ → Call → Walked → List ℕ
-everStep ever (vmallocs size) w = morePages ever w (roundUp 12 size)
-everStep ever (vfrees a) w = ever
-everStep ever (mmaps wish size prot flags) w = morePages ever w (roundUp 12 size)
-everStep ever (munmaps a size) w = ever
+abbrev pub everStep : List ℕ → Call → Outcome → List ℕ
+everStep ever (vmallocCall size) w = morePages ever w (roundUp 12 size)
+everStep ever (vfreeCall a) w = ever
+everStep ever (mmapCall hint size prot flags) w = morePages ever w (roundUp 12 size)
+everStep ever (munmapCall a size) w = ever
 
 abbrev pub everFrom : List ℕ → List Event → List ℕ
 everFrom ever [] = ever
@@ -51,18 +52,18 @@ everFrom ever (e ∷ es) = everFrom (everStep ever (e .call) (e .answer)) es
 pub step : {b : Board} {k : List VMRegion} {u : List MappedRegion} {l : List Region} {left : Leftover} → Inv left b k u l → (c : Call) → turnedAway (play b c .answer) ≡ false
     → (u′ : List MappedRegion) × Inv left (play b c .board) (bookStep k c (play b c .answer)) u′ (liveStep l c (play b c .answer))
 unfolding play
-step {u = u} h (vmallocs size) e = (u, vmalloc-step h size e)
-step {u = u} h (vfrees a) e = (u, vfree-step h a)
-step h (mmaps wish size prot flags) e = mmap-step h wish size prot flags e
-step h (munmaps a size) e = munmap-step h a size
+step {u = u} h (vmallocCall size) e = (u, vmalloc-step h size e)
+step {u = u} h (vfreeCall a) e = (u, vfree-step h a)
+step h (mmapCall hint size prot flags) e = mmap-step h hint size prot flags e
+step h (munmapCall a size) e = munmap-step h a size
 
 pub tidy-step : {b : Board} {k : List VMRegion} {u : List MappedRegion} {l : List Region} {ever : List ℕ} {left : Leftover} → Inv left b k u l → Tidy b k ever
     → (c : Call) → turnedAway (play b c .answer) ≡ false → Tidy (play b c .board) (bookStep k c (play b c .answer)) (everStep ever c (play b c .answer))
 unfolding play
-tidy-step h t (vmallocs size) e = vmalloc-tidy h t size e
-tidy-step h t (vfrees a) e = vfree-tidy h t a
-tidy-step h t (mmaps wish size prot flags) e = mmap-tidy h t wish size prot flags e
-tidy-step h t (munmaps a size) e = munmap-tidy h t a size
+tidy-step h t (vmallocCall size) e = vmalloc-tidy h t size e
+tidy-step h t (vfreeCall a) e = vfree-tidy h t a
+tidy-step h t (mmapCall hint size prot flags) e = mmap-tidy h t hint size prot flags e
+tidy-step h t (munmapCall a size) e = munmap-tidy h t a size
 
 -- a list of calls
 pub run-inv : (cs : List Call) {b : Board} {k : List VMRegion} {u : List MappedRegion} {l : List Region} {left : Leftover} → Inv left b k u l → noneTurnedAway (events b cs) ≡ true
@@ -94,39 +95,39 @@ fresh-kernel = record {
   live = λ a n m. absurd (List·Memᴰ·not-nil m);
 }
   where
-    unused : (x : Bool) (a n : ℕ) → pick (both x false) (At (windowEnd - windowStart)) (usedSize a []) ≡ At n → ⊥
+    unused : (x : Bool) (a n : ℕ) → pick (both x false) (Value (windowEnd - windowStart)) (usedSize a []) ≡ Value n → ⊥
     unused true a n e = let z : _≡_ {A = ℕ} 0 1 = cc in omega arith
     unused false a n e = let z : _≡_ {A = ℕ} 0 1 = cc in omega arith
 
 fresh-user : UserList [] []
 unfolding holds
 fresh-user = record {
-  rising = tt;
+  rising = rising-none 0;
   few = omega arith;
   held = λ a n e. absurd (false≢true e);
   live = λ a n m. absurd (List·Memᴰ·not-nil m);
 }
 
 -- a refused start is not met
-refused : (n : ℕ) (a c : Board) → did (Stop n) a ≡ did (At 0) c → ⊥
-refused n a c e = apart (ap (λ (d : Did). d .answer) e)
+refused : (n : ℕ) (a c : Board) → boardDid (Stop n) a ≡ boardDid (Value 0) c → ⊥
+refused n a c e = apart (ap (λ (d : BoardDid). d .answer) e)
   where
-    apart : Stop n ≡ At 0 → ⊥
+    apart : Stop n ≡ Value 0 → ⊥
     apart q = let z : _≡_ {A = ℕ} 0 1 = cc in omega arith
 
 module _ (old : Board) (s t : ℕ) (some : 0 < t) (few : t ≤ 8192) (enough : t * 512 ≤ length (old .mem .words)) (low : s + t ≤ 2 ^ 40) where
-  from-first : s ≡ withMark (unused s t) 0 .fa .start
-  from-first = sym (span-with (unused s t) 0 .start)
+  from-first : s ≡ withMark (untaken s t) 0 .fa .start
+  from-first = sym (span-with (untaken s t) 0 .start)
 
   -- only the root is reached
-  root-only : (p : List ℕ) (f : ℕ) → reachIn (memory (zeroFrame (old .mem .words) s s) (withMark (unused s t) 0)) s p ≡ At f → p ≡ []
-  root-only p f e = fresh-only (old .mem .words) s t (suc up) some few enough low p f e .0
+  root-only : (p : List ℕ) (f : ℕ) → reachIn (memory (zeroFrame (old .mem .words) s s) (withMark (untaken s t) 0)) s p ≡ Value f → p ≡ []
+  root-only p f e = fresh-only (old .mem .words) s t (suc aboveLast) some few enough low p f e .0
 
-  begun-inv : Inv nothingLeft (begun old s (withMark (unused s t) 0)) (window ∷ []) [] []
+  begun-inv : Inv nothingLeft (begun old s (withMark (untaken s t) 0)) (window ∷ []) [] []
   begun-inv = record {
-    paged = subst (λ (x : ℕ). Paged up (memory (zeroFrame (old .mem .words) x s) (withMark (unused s t) 0)) s [] []) from-first (record {
-      account = fresh-accounted (old .mem .words) s t (suc up) some few enough low;
-      plain = fresh-plain (old .mem .words) s t (suc up) some few enough low;
+    paged = subst (λ (x : ℕ). Paged aboveLast (memory (zeroFrame (old .mem .words) x s) (withMark (untaken s t) 0)) s [] []) from-first (record {
+      account = fresh-accounted (old .mem .words) s t (suc aboveLast) some few enough low;
+      plain = fresh-plain (old .mem .words) s t (suc aboveLast) some few enough low;
       live = bare-live root-only;
     });
     first = from-first;
@@ -138,30 +139,30 @@ module _ (old : Board) (s t : ℕ) (some : 0 < t) (few : t ≤ 8192) (enough : t
     once = tt;
   }
 
-  begun-tidy : Tidy (begun old s (withMark (unused s t) 0)) (window ∷ []) []
+  begun-tidy : Tidy (begun old s (withMark (untaken s t) 0)) (window ∷ []) []
   begun-tidy = record {
     apart = tt;
-    tabled = subst (λ (x : ℕ). Tabled (memory (zeroFrame (old .mem .words) x s) (withMark (unused s t) 0)) s up []) from-first (bare-tabled root-only);
+    tabled = subst (λ (x : ℕ). Tabled (memory (zeroFrame (old .mem .words) x s) (withMark (untaken s t) 0)) s aboveLast []) from-first (bare-tabled root-only);
   }
 
 -- 'what any met start leaves, whatever the lent record held before'
 module _ (old fresh : Board) (from to : ℕ) where
   begun-cases : (P : Board → Type 0)
-      → ((s t : ℕ) → 0 < t → t ≤ 8192 → t * 512 ≤ length (old .mem .words) → s + t ≤ 2 ^ 40 → P (begun old s (withMark (unused s t) 0)))
-      → start old from to ≡ did (At 0) fresh → P fresh
+      → ((s t : ℕ) → 0 < t → t ≤ 8192 → t * 512 ≤ length (old .mem .words) → s + t ≤ 2 ^ 40 → P (begun old s (withMark (untaken s t) 0)))
+      → start old from to ≡ boardDid (Value 0) fresh → P fresh
   begun-cases P holds =
-      start-cases old from to (λ (d : Did). d ≡ did (At 0) fresh → P fresh)
-      (λ le top some enough e. subst P (ap (λ (d : Did). d .board) e) (holds (from / 4096) (min ((to - from) / 4096) 8192) some (omega arith) enough (omega arith)))
+      start-cases old from to (λ (d : BoardDid). d ≡ boardDid (Value 0) fresh → P fresh)
+      (λ le top some enough e. subst P (ap (λ (d : BoardDid). d .board) e) (holds (from / 4096) (min ((to - from) / 4096) 8192) some (omega arith) enough (omega arith)))
       (λ e. absurd (refused brokenRecord old fresh e))
       (λ e. absurd (refused noFreeFrame old fresh e))
 
-  pub fresh-inv : start old from to ≡ did (At 0) fresh → Inv nothingLeft fresh (window ∷ []) [] []
+  pub fresh-inv : start old from to ≡ boardDid (Value 0) fresh → Inv nothingLeft fresh (window ∷ []) [] []
   fresh-inv = begun-cases (λ x. Inv nothingLeft x (window ∷ []) [] []) (begun-inv old)
 
-  pub fresh-tidy : start old from to ≡ did (At 0) fresh → Tidy fresh (window ∷ []) []
+  pub fresh-tidy : start old from to ≡ boardDid (Value 0) fresh → Tidy fresh (window ∷ []) []
   fresh-tidy = begun-cases (λ x. Tidy x (window ∷ []) []) (begun-tidy old)
 
 -- so from a fresh board on the invariant holds along every list of calls, with what those turned away leave behind
-pub fresh-any : (old fresh : Board) (from to : ℕ) → start old from to ≡ did (At 0) fresh → (cs : List Call)
+pub fresh-any : (old fresh : Board) (from to : ℕ) → start old from to ≡ boardDid (Value 0) fresh → (cs : List Call)
     → (u : List MappedRegion) × Inv (leftFrom nothingLeft fresh cs) (after fresh cs) (listFrom (window ∷ []) (events fresh cs)) u (liveFrom [] (events fresh cs))
 fresh-any old fresh from to st cs = run-any cs (fresh-inv old fresh from to st)

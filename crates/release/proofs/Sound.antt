@@ -10,30 +10,29 @@ use Rattle.tree.proofs.Ordered.{ordered-whole}
 use Rattle.slots.proofs.Filled.{filled, listed-filled, drop-filled, every-zero}
 use Rattle.regions.specs.declared.VMRegion.{VMRegion}
 use Rattle.regions.specs.Regions.{windowStart, windowEnd, isNoSlot, soundRegions}
-use Rattle.regions.specs.Regions.{noSlot as noKernelSlot}
+use Rattle.regions.specs.Regions.{noVmRegion}
 use Rattle.vmalloc.specs.Calls.{soundKernel}
 use Rattle.regions.proofs.Rows.{rows-placed}
-use Rattle.mmap.specs.declared.MappedRegion.{MappedRegion}
-use Rattle.mmap.specs.Regions.{soundMappings}
-use Rattle.mmap.specs.Regions.{noSlot as noUserSlot}
+use Rattle.mappings.specs.declared.MappedRegion.{MappedRegion}
+use Rattle.mappings.specs.Regions.{soundMappings}
+use Rattle.mappings.specs.Regions.{noMappedRegion}
 use Rattle.mmap.specs.Calls.{soundUser}
-use Rattle.mmap.proofs.Rising.{rising-test, rising-placed}
 use Rattle.board.specs.Board.{Board}
 use Rattle.release.specs.Calls.{kernelOf, userOf}
 use Rattle.release.specs.Demand3.{Region}
 use Rattle.release.proofs.Regions.{KernelList, UserList}
 use Rattle.release.proofs.Invariant.{Leftover, Inv}
 
-regions-sound : {k : List VMRegion} {l : List Region} → KernelList k l → soundRegions (filled noKernelSlot k) ≡ true
+regions-sound : {k : List VMRegion} {l : List Region} → KernelList k l → soundRegions (filled noVmRegion k) ≡ true
 unfolding soundRegions
 regions-sound {k} h =
-    rw (le-leb _ _ (h .few), listed-filled noKernelSlot k, rows-placed windowStart windowEnd k (omega arith) (h .rows), drop-filled noKernelSlot k)
-    (every-zero noKernelSlot isNoSlot refl (256 - length k))
+    rw (le-leb _ _ (h .few), listed-filled noVmRegion k, rows-placed windowStart windowEnd k (omega arith) (h .rows), drop-filled noVmRegion k)
+    (every-zero noVmRegion isNoSlot refl (256 - length k))
 
-mappings-sound : {u : List MappedRegion} {l : List Region} (next : ℕ) → UserList u l → next % 4096 ≡ 0 → soundMappings (filled noUserSlot u) next ≡ true
+mappings-sound : {u : List MappedRegion} {l : List Region} (next : ℕ) → UserList u l → next % 4096 ≡ 0 → soundMappings (filled noMappedRegion u) next ≡ true
 unfolding soundMappings
 mappings-sound {u} next h e =
-    rw (le-leb _ _ (h .few), listed-filled noUserSlot u, rising-test 0 u (h .rising), rising-placed 0 u (h .rising), eq-eqb (next % 4096) 0 e)
+    rw (le-leb _ _ (h .few), listed-filled noMappedRegion u, h .rising .0, h .rising .1, eq-eqb (next % 4096) 0 e)
 
 module _ {b : Board} {k : List VMRegion} {u : List MappedRegion} {l : List Region} {left : Leftover} (h : Inv left b k u l) where
   pub kernel-sound : soundKernel (kernelOf b) (b .root) ≡ true

@@ -12,11 +12,11 @@ use Rattle.answer.specs.Numbers.{noFreeFrame, mapPageFailed}
 use Rattle.address.specs.declared.FrameAnswer.{FrameAnswer}
 use Rattle.bitmap.specs.Bitmap.{marked}
 use Rattle.entry.specs.Entry.{entryOf}
-use Rattle.frame.specs.Frames.{Did}
+use Rattle.frame.specs.Frames.{FramesDid}
 use Rattle.frame.proofs.Laws.{take-cases}
-use Rattle.paging.specs.declared.Walked.{Walked}
-use Rattle.paging.specs.declared.Walked.the-variants.{At, Stop}
-use Rattle.paging.specs.Map.{Memory, startOf, totalOf, Out, out, goOn}
+use Rattle.answer.specs.declared.Outcome.{Outcome}
+use Rattle.answer.specs.declared.Outcome.the-variants.{Value, Stop}
+use Rattle.paging.specs.Map.{Memory, startFrame, totalOf, Out, out, goOn}
 use Rattle.paging.specs.Calls.{mapAt}
 use Rattle.paging.specs.Pages.{zeroed, freshFrame, orFailed, mapFresh, Ran, mapPages, clearPage, clearPages}
 use Rattle.tree.proofs.Paths.{leads-length, path, length-path, length-upper}
@@ -34,13 +34,13 @@ use Rattle.release.proofs.Paged.{Paged, run-is, takes-start}
 -- ---- the frames that a run takes
 
 -- the frame that a step came to
-abbrev pub frameAt : Walked → List ℕ
-frameAt (At f) = f ∷ []
+abbrev pub frameAt : Outcome → List ℕ
+frameAt (Value f) = f ∷ []
 frameAt (Stop e) = []
 
 -- what follows a page that was had
-abbrev pub onceMet : Walked → List ℕ → List ℕ
-onceMet (At x) l = l
+abbrev pub onceMet : Outcome → List ℕ → List ℕ
+onceMet (Value x) l = l
 onceMet (Stop e) l = []
 
 -- the frames that a run of n pages from v on takes for its pages, in their order, that of the page it stops at included
@@ -54,24 +54,24 @@ framesTaken up w u m root v (suc n) =
 module _ {m : Memory} {root up : ℕ} (o : Ordered m root (suc up)) (w u : Bool) (v : ℕ) where
   pub page-cases : (P : Out → List ℕ → Type 0) → P (out (Stop noFreeFrame) m) []
       → ((f : ℕ) (m′ : Memory) → Lost m root up v f m′ → P (out (Stop mapPageFailed) m′) (f ∷ []))
-      → ((f x : ℕ) (m′ : Memory) → Took m root up v f m′ → P (out (At x) m′) (f ∷ [])) → P (mapFresh up w u m root v) (frameAt (freshFrame m .walked))
+      → ((f x : ℕ) (m′ : Memory) → Took m root up v f m′ → P (out (Value x) m′) (f ∷ [])) → P (mapFresh up w u m root v) (frameAt (freshFrame m .walked))
   unfolding mapFresh freshFrame
   page-cases P full fails met =
       take-cases (m .frames)
-      (λ (d : Did FrameAnswer). P (goOn (zeroed m (d .answer) (d .frames)) (λ f m′.
+      (λ (d : FramesDid FrameAnswer). P (goOn (zeroed m (d .answer) (d .frames)) (λ f m′.
       let r = mapAt up up u m′ root v (entryOf (f * 2 ^ 12) w u) in out (orFailed (r .walked)) (r .mem))) (frameAt (zeroed m (d .answer) (d .frames) .walked)))
       (λ j lt free _. by j lt free (mapFrame up w u m root v j .walked) refl)
       (λ _. full)
     where
-      by : (j : ℕ) (lt : j < totalOf m) (free : marked (m .frames .bits) j ≡ 0) (x : Walked) → mapFrame up w u m root v j .walked ≡ x
-          → P (out (orFailed (mapFrame up w u m root v j .walked)) (mapFrame up w u m root v j .mem)) ((startOf m + j) ∷ [])
-      by j lt free (At x) h = rw h (met (startOf m + j) x _ (frame-took o w u v j lt free x h))
-      by j lt free (Stop a) h = rw h (fails (startOf m + j) _ (frame-lost o w u v j lt free a h))
+      by : (j : ℕ) (lt : j < totalOf m) (free : marked (m .frames .bits) j ≡ 0) (x : Outcome) → mapFrame up w u m root v j .walked ≡ x
+          → P (out (orFailed (mapFrame up w u m root v j .walked)) (mapFrame up w u m root v j .mem)) ((startFrame m + j) ∷ [])
+      by j lt free (Value x) h = rw h (met (startFrame m + j) x _ (frame-took o w u v j lt free x h))
+      by j lt free (Stop a) h = rw h (fails (startFrame m + j) _ (frame-lost o w u v j lt free a h))
 
   -- .. by what it came to
-  pub page-met : (x : ℕ) → mapFresh up w u m root v .walked ≡ At x → (f : ℕ) × Took m root up v f (mapFresh up w u m root v .mem) × (frameAt (freshFrame m .walked) ≡ f ∷ [])
+  pub page-met : (x : ℕ) → mapFresh up w u m root v .walked ≡ Value x → (f : ℕ) × Took m root up v f (mapFresh up w u m root v .mem) × (frameAt (freshFrame m .walked) ≡ f ∷ [])
   page-met x =
-      page-cases (λ (r : Out) (fs : List ℕ). r .walked ≡ At x → (f : ℕ) × Took m root up v f (r .mem) × (fs ≡ f ∷ []))
+      page-cases (λ (r : Out) (fs : List ℕ). r .walked ≡ Value x → (f : ℕ) × Took m root up v f (r .mem) × (fs ≡ f ∷ []))
       (λ h. absurd (nowhere h)) (λ f m′ l h. absurd (nowhere h)) (λ f y m′ t h. (f, t, refl))
 
   pub page-stops : (e : ℕ) → mapFresh up w u m root v .walked ≡ Stop e
@@ -83,7 +83,7 @@ module _ {m : Memory} {root up : ℕ} (o : Ordered m root (suc up)) (w u : Bool)
       (λ h. inl (cc, refl, refl)) (λ f m′ l h. inr (cc, (f, l, refl))) (λ f y m′ t h. absurd (nowhere (sym h)))
 
 module _ (up : ℕ) (w u : Bool) (m : Memory) (root v n : ℕ) where
-  taken-on : (x : ℕ) → mapFresh up w u m root v .walked ≡ At x
+  taken-on : (x : ℕ) → mapFresh up w u m root v .walked ≡ Value x
       → framesTaken up w u m root v (suc n) ≡ frameAt (freshFrame m .walked) ++ framesTaken up w u (mapFresh up w u m root v .mem) root (v + 4096) n
   unfolding framesTaken
   taken-on x h = rw h
@@ -97,7 +97,7 @@ module _ (up : ℕ) (w u : Bool) (m : Memory) (root v n : ℕ) where
 -- each page of a list is mapped to its frame in another
 pub data Homes (m : Memory) (root up : ℕ) : List ℕ → List ℕ → Type 0 where
   nowhere-yet : Homes m root up [] []
-  home : {v f : ℕ} {l fs : List ℕ} → reachIn m root (path up v) ≡ At f → Homes m root up l fs → Homes m root up (v ∷ l) (f ∷ fs)
+  home : {v f : ℕ} {l fs : List ℕ} → reachIn m root (path up v) ≡ Value f → Homes m root up l fs → Homes m root up (v ∷ l) (f ∷ fs)
 
 -- i pages were had, for the frames of `homes`, which led to `kept`; then 11 and no more, or 13 and a frame that nothing reaches
 pub record Stopped (up : ℕ) (m : Memory) (root v i e : ℕ) (taken : List ℕ) (m′ : Memory) : Type 0 where
@@ -108,11 +108,11 @@ pub record Stopped (up : ℕ) (m : Memory) (root v i e : ℕ) (taken : List ℕ)
   pub ends : ((e ≡ noFreeFrame) × (m′ ≡ kept) × (taken ≡ frames)) ⊎ ((e ≡ mapPageFailed) × ((x f : ℕ) × Lost kept root up x f m′ × (taken ≡ frames ++ (f ∷ []))))
 
 -- what was reached stays so
-takes-stay : {root up : ℕ} {m m′ : Memory} {l : List ℕ} → Takes root up m l m′ → (v f : ℕ) → reachIn m root (path up v) ≡ At f → reachIn m′ root (path up v) ≡ At f
+takes-stay : {root up : ℕ} {m m′ : Memory} {l : List ℕ} → Takes root up m l m′ → (v f : ℕ) → reachIn m root (path up v) ≡ Value f → reachIn m′ root (path up v) ≡ Value f
 takes-stay none v f h = h
 takes-stay {up = up} (more t r) v f h = takes-stay r v f (t .grew .stay (path up v) f (omega (arith, length-path up v)) h)
 
-homes-same : {m m′ : Memory} {root up : ℕ} {l fs : List ℕ} → ((v f : ℕ) → List·Memᴰ v l → reachIn m root (path up v) ≡ At f → reachIn m′ root (path up v) ≡ At f)
+homes-same : {m m′ : Memory} {root up : ℕ} {l fs : List ℕ} → ((v f : ℕ) → List·Memᴰ v l → reachIn m root (path up v) ≡ Value f → reachIn m′ root (path up v) ≡ Value f)
     → Homes m root up l fs → Homes m′ root up l fs
 homes-same stay nowhere-yet = nowhere-yet
 homes-same stay (home {v = v} {f = f} h r) = home (stay v f (List·Memᴰ·head refl) h) (homes-same (λ x g i. stay x g (List·Memᴰ·tail i)) r)
@@ -145,11 +145,11 @@ unfolding mapPages
 run-stops w u zero o v k e h = let z : _≡_ {A = ℕ} 0 1 = cc in absurd (omega arith)
 run-stops {up} w u (suc n) {m} {root} o v k e h = go (mapFresh up w u m root v .walked) refl (λ g. run-stops w u n g (v + 4096) (suc k) e)
   where
-    go : (y : Walked) → mapFresh up w u m root v .walked ≡ y
+    go : (y : Outcome) → mapFresh up w u m root v .walked ≡ y
         → (Ordered (mapFresh up w u m root v .mem) root (suc up) → mapPages up w u (mapFresh up w u m root v .mem) root (v + 4096) (suc k) n .walked ≡ Stop e
         → StopsAs up w u (mapFresh up w u m root v .mem) root (v + 4096) (suc k) n e)
         → StopsAs up w u m root v k (suc n) e
-    go (At x) q later =
+    go (Value x) q later =
         let p = page-met o w u v x q in
         let on = map-pages-on up w u m root v k n x q in
         let r = later (p .1 .grew .order) (ap (λ (q : Ran). q .walked) (sym on) ∙ h) in
@@ -259,7 +259,7 @@ clear-lost {up} {root} v (suc n) {m} {pages = pages} {lost = lost} (home {f = f}
     other : (x : ℕ) → List·Memᴰ x (run (v + 4096) n) → path up x ≡ path up v → ⊥
     other x i e = rel-of-pairwise-cons (h .live .apart) ∣ Memᴰ·append-left pages i ∣₁ (sym e)
 
-pub clear-start : (up : ℕ) (m : Memory) (root v n : ℕ) → startOf (clearPages up m root v n) ≡ startOf m
+pub clear-start : (up : ℕ) (m : Memory) (root v n : ℕ) → startFrame (clearPages up m root v n) ≡ startFrame m
 unfolding clearPages clearPage
 clear-start up m root v zero = refl
 clear-start up m root v (suc n) = clear-start up (clearPage up m root v) root (v + 4096) n
@@ -277,5 +277,5 @@ stopped-cleared {up} {m} {m′} {root} {v} {i} {e} {taken} {pages} {lost} s n h 
         rw all (clear-lost v i (homes-same (λ x g _ k. t .grew .stay (path up x) g (omega (arith, length-path up x)) k) (s .homes)) (lost-one (had h v i (s .takes)) t))
 
 -- the frames start where they did
-pub stopped-start : {up : ℕ} {m m′ : Memory} {root v i e : ℕ} {taken : List ℕ} → Stopped up m root v i e taken m′ → startOf m′ ≡ startOf m
-stopped-start s = ⊎-elim (λ q. ap startOf (q .1) ∙ takes-start (s .takes)) (λ q. q .1 .2 .grew .start ∙ takes-start (s .takes)) (s .ends)
+pub stopped-start : {up : ℕ} {m m′ : Memory} {root v i e : ℕ} {taken : List ℕ} → Stopped up m root v i e taken m′ → startFrame m′ ≡ startFrame m
+stopped-start s = ⊎-elim (λ q. ap startFrame (q .1) ∙ takes-start (s .takes)) (λ q. q .1 .2 .grew .start ∙ takes-start (s .takes)) (s .ends)

@@ -15,11 +15,11 @@ use Rattle.entry.proofs.Entry.{length-indices}
 use Rattle.frame.proofs.Laws.{inside-yes, inside-from, inside-under}
 use Rattle.bitmap.specs.Bitmap.{marked}
 use Rattle.allocator.specs.Round.{roundUp}
-use Rattle.release.specs.Levels.{up}
-use Rattle.paging.specs.declared.Walked.{Walked}
-use Rattle.paging.specs.declared.Walked.the-variants.{At, Stop}
+use Rattle.paging.specs.Levels.{aboveLast}
+use Rattle.answer.specs.declared.Outcome.{Outcome}
+use Rattle.answer.specs.declared.Outcome.the-variants.{Value, Stop}
 use Rattle.paging.specs.Walk.{reach}
-use Rattle.paging.specs.Map.{startOf, totalOf}
+use Rattle.paging.specs.Map.{startFrame, totalOf}
 use Rattle.paging.proofs.Walk.{reach-end}
 use Rattle.tree.proofs.Paths.{Leads, leads-take, leads-length, take-leads, path, upper, length-upper}
 use Rattle.tree.proofs.Ordered.{reachIn, markIn, Ordered, root-marked}
@@ -28,11 +28,11 @@ use Rattle.tree.proofs.Counts.{counter-paths}
 use Rattle.slots.proofs.Filled.{filled, listed-filled}
 use Rattle.slots.specs.Slots.{listed}
 use Rattle.regions.specs.declared.VMRegion.{VMRegion}
-use Rattle.regions.specs.Regions.{windowStart, windowEnd, window, noSlot as noKernelSlot}
+use Rattle.regions.specs.Regions.{windowStart, windowEnd, window, noVmRegion}
 use Rattle.regions.proofs.Rows.{Rows, rows-earlier}
-use Rattle.mmap.specs.declared.MappedRegion.{MappedRegion}
+use Rattle.mappings.specs.declared.MappedRegion.{MappedRegion}
 use Rattle.board.specs.Board.{Board}
-use Rattle.release.specs.Calls.{Call, vmallocs, vfrees, mmaps, munmaps, after, Event, events}
+use Rattle.release.specs.Calls.{Call, vmallocCall, vfreeCall, mmapCall, munmapCall, after, Event, events}
 use Rattle.release.specs.Demand3.{bornBy, everLive, pagesFrom, pagesOf, runsTo, runsOf, concat, leadingRuns, different, PageTable, book, neverCut, Ended, partsRise, BookHolds, BookRises, Demand3}
 use Rattle.release.proofs.Lists.{Once, concat-append, concat-member, member-concat}
 use Rattle.release.proofs.Different.{among-member, member-among, different-from, different-all, different-once}
@@ -43,27 +43,27 @@ use Rattle.release.proofs.Window.{whole-run, whole-window, whole-end, o
 
 -- ---- the pages ever mapped are those of the regions ever live
 
-born-pages : (ever : List ℕ) (c : Call) (w : Walked) (v : ℕ) → List·Memᴰ v (everStep ever c w) → List·Memᴰ v ever ⊎ List·Memᴰ v (concat pagesOf (bornBy c w))
+born-pages : (ever : List ℕ) (c : Call) (w : Outcome) (v : ℕ) → List·Memᴰ v (everStep ever c w) → List·Memᴰ v ever ⊎ List·Memᴰ v (concat pagesOf (bornBy c w))
 unfolding concat
-born-pages ever (vmallocs size) (At a) v m = ⊎-elim (λ q. inr (Memᴰ·append-left [] q)) (λ q. inl q) (List·Memᴰ·append-cases (pagesFrom a (roundUp 12 size / 4096)) m)
-born-pages ever (vmallocs size) (Stop e) v m = inl m
-born-pages ever (vfrees a) w v m = inl m
-born-pages ever (mmaps wish size prot flags) (At a) v m = ⊎-elim (λ q. inr (Memᴰ·append-left [] q)) (λ q. inl q) (List·Memᴰ·append-cases (pagesFrom a (roundUp 12 size / 4096)) m)
-born-pages ever (mmaps wish size prot flags) (Stop e) v m = inl m
-born-pages ever (munmaps a size) w v m = inl m
+born-pages ever (vmallocCall size) (Value a) v m = ⊎-elim (λ q. inr (Memᴰ·append-left [] q)) (λ q. inl q) (List·Memᴰ·append-cases (pagesFrom a (roundUp 12 size / 4096)) m)
+born-pages ever (vmallocCall size) (Stop e) v m = inl m
+born-pages ever (vfreeCall a) w v m = inl m
+born-pages ever (mmapCall hint size prot flags) (Value a) v m = ⊎-elim (λ q. inr (Memᴰ·append-left [] q)) (λ q. inl q) (List·Memᴰ·append-cases (pagesFrom a (roundUp 12 size / 4096)) m)
+born-pages ever (mmapCall hint size prot flags) (Stop e) v m = inl m
+born-pages ever (munmapCall a size) w v m = inl m
 
-pages-born : (ever : List ℕ) (c : Call) (w : Walked) (v : ℕ) → List·Memᴰ v ever ⊎ List·Memᴰ v (concat pagesOf (bornBy c w)) → List·Memᴰ v (everStep ever c w)
+pages-born : (ever : List ℕ) (c : Call) (w : Outcome) (v : ℕ) → List·Memᴰ v ever ⊎ List·Memᴰ v (concat pagesOf (bornBy c w)) → List·Memᴰ v (everStep ever c w)
 unfolding concat
-pages-born ever (vmallocs size) (At a) v m =
+pages-born ever (vmallocCall size) (Value a) v m =
     ⊎-elim (λ q. Memᴰ·append-right (pagesFrom a (roundUp 12 size / 4096)) q)
     (λ q. Memᴰ·append-left ever (⊎-elim (λ x. x) (λ x. absurd (List·Memᴰ·not-nil x)) (List·Memᴰ·append-cases (pagesFrom a (roundUp 12 size / 4096)) q))) m
-pages-born ever (vmallocs size) (Stop e) v m = ⊎-elim (λ q. q) (λ q. absurd (List·Memᴰ·not-nil q)) m
-pages-born ever (vfrees a) w v m = ⊎-elim (λ q. q) (λ q. absurd (List·Memᴰ·not-nil q)) m
-pages-born ever (mmaps wish size prot flags) (At a) v m =
+pages-born ever (vmallocCall size) (Stop e) v m = ⊎-elim (λ q. q) (λ q. absurd (List·Memᴰ·not-nil q)) m
+pages-born ever (vfreeCall a) w v m = ⊎-elim (λ q. q) (λ q. absurd (List·Memᴰ·not-nil q)) m
+pages-born ever (mmapCall hint size prot flags) (Value a) v m =
     ⊎-elim (λ q. Memᴰ·append-right (pagesFrom a (roundUp 12 size / 4096)) q)
     (λ q. Memᴰ·append-left ever (⊎-elim (λ x. x) (λ x. absurd (List·Memᴰ·not-nil x)) (List·Memᴰ·append-cases (pagesFrom a (roundUp 12 size / 4096)) q))) m
-pages-born ever (mmaps wish size prot flags) (Stop e) v m = ⊎-elim (λ q. q) (λ q. absurd (List·Memᴰ·not-nil q)) m
-pages-born ever (munmaps a size) w v m = ⊎-elim (λ q. q) (λ q. absurd (List·Memᴰ·not-nil q)) m
+pages-born ever (mmapCall hint size prot flags) (Stop e) v m = ⊎-elim (λ q. q) (λ q. absurd (List·Memᴰ·not-nil q)) m
+pages-born ever (munmapCall a size) w v m = ⊎-elim (λ q. q) (λ q. absurd (List·Memᴰ·not-nil q)) m
 
 ever-pages : (es : List Event) (ever : List ℕ) (v : ℕ) → List·Memᴰ v (everFrom ever es) → List·Memᴰ v ever ⊎ List·Memᴰ v (concat pagesOf (everLive es))
 unfolding everLive
@@ -102,56 +102,56 @@ to-runs (suc n) q j ge le = by (ℕ-discrete j (suc n)) (to-runs n q j ge)
     by (no d) more = Memᴰ·append-left (take (suc n) q ∷ []) (more (omega arith))
 
 -- those of a page are the leading runs of the indices above its last, but the empty one
-run-lead : (v : ℕ) (p : List ℕ) → List·Memᴰ p (runsOf v) → Leads p (upper up v) × (1 ≤ length p)
+run-lead : (v : ℕ) (p : List ℕ) → List·Memᴰ p (runsOf v) → Leads p (upper aboveLast v) × (1 ≤ length p)
 run-lead v p m =
-    let r = runs-to up (indices (suc up) v) p m in
+    let r = runs-to aboveLast (indices (suc aboveLast) v) p m in
     let j = r .0 in (
-      subst (λ (x : List ℕ). Leads x (upper up v)) (sym (r .3 ∙ sym (take-take j up (indices (suc up) v) (r .2)))) (take-leads j (upper up v)),
-      omega (arith, r .1, r .2, ap length (r .3), length-take j (indices (suc up) v), length-indices (suc up) v),
+      subst (λ (x : List ℕ). Leads x (upper aboveLast v)) (sym (r .3 ∙ sym (take-take j aboveLast (indices (suc aboveLast) v) (r .2)))) (take-leads j (upper aboveLast v)),
+      omega (arith, r .1, r .2, ap length (r .3), length-take j (indices (suc aboveLast) v), length-indices (suc aboveLast) v),
     )
 
-lead-run : (v : ℕ) (p : List ℕ) → Leads p (upper up v) → 1 ≤ length p → List·Memᴰ p (runsOf v)
+lead-run : (v : ℕ) (p : List ℕ) → Leads p (upper aboveLast v) → 1 ≤ length p → List·Memᴰ p (runsOf v)
 lead-run v p d ge =
-    let le : length p ≤ up = omega (arith, leads-length d, length-upper up v) in
-    subst (λ (x : List ℕ). List·Memᴰ x (runsOf v)) (sym (leads-take d ∙ take-take (length p) up (indices (suc up) v) le)) (to-runs up (indices (suc up) v) (length p) ge le)
+    let le : length p ≤ aboveLast = omega (arith, leads-length d, length-upper aboveLast v) in
+    subst (λ (x : List ℕ). List·Memᴰ x (runsOf v)) (sym (leads-take d ∙ take-take (length p) aboveLast (indices (suc aboveLast) v) le)) (to-runs aboveLast (indices (suc aboveLast) v) (length p) ge le)
 
 -- ---- a board with no live region
 
 module _ {x : Board} {k : List VMRegion} {u : List MappedRegion} (es : List Event) (h : Inv nothingLeft x k u []) (t : Tidy x k (everFrom [] es)) where
-  none-live : Live (x .mem) (x .root) up []
+  none-live : Live (x .mem) (x .root) aboveLast []
   none-live = h .paged .live
 
-  ordered : Ordered (x .mem) (x .root) (suc up)
+  ordered : Ordered (x .mem) (x .root) (suc aboveLast)
   ordered = h .paged .account .order
 
   -- its page tables are the leading runs
-  table-run : (p : List ℕ) (f : ℕ) → 1 ≤ length p → length p ≤ up → reachIn (x .mem) (x .root) p ≡ At f → List·Memᴰ p (leadingRuns es)
+  table-run : (p : List ℕ) (f : ℕ) → 1 ≤ length p → length p ≤ aboveLast → reachIn (x .mem) (x .root) p ≡ Value f → List·Memᴰ p (leadingRuns es)
   table-run p f ge le r =
       let w = t .tabled .tables p f ge le r in
       let v : List·Memᴰ (w .0) (concat pagesOf (everLive es)) = ⊎-elim (λ q. absurd (List·Memᴰ·not-nil q)) (λ q. q) (ever-pages es [] (w .0) (w .1)) in
       member-concat runsOf p (w .0) (concat pagesOf (everLive es)) v (lead-run (w .0) p (w .2) ge)
 
-  run-table : (p : List ℕ) → List·Memᴰ p (leadingRuns es) → (f : ℕ) × (reachIn (x .mem) (x .root) p ≡ At f) × (1 ≤ length p) × (length p ≤ up)
+  run-table : (p : List ℕ) → List·Memᴰ p (leadingRuns es) → (f : ℕ) × (reachIn (x .mem) (x .root) p ≡ Value f) × (1 ≤ length p) × (length p ≤ aboveLast)
   run-table p m =
       let c = concat-member runsOf p (concat pagesOf (everLive es)) m in
       let d = run-lead (c .0) p (c .2) in
       let w = t .tabled .runs (c .0) (pages-ever es [] (c .0) (inr (c .1))) p (d .0) in
-      (w .0, w .1, d .1, omega (arith, leads-length (d .0), length-upper up (c .0)))
+      (w .0, w .1, d .1, omega (arith, leads-length (d .0), length-upper aboveLast (c .0)))
 
   -- no whole path is reached
-  no-page : (p : List ℕ) (f : ℕ) → length p ≡ suc up → reachIn (x .mem) (x .root) p ≡ At f → ⊥
+  no-page : (p : List ℕ) (f : ℕ) → length p ≡ suc aboveLast → reachIn (x .mem) (x .root) p ≡ Value f → ⊥
   no-page p f e r = List·Memᴰ·not-nil (none-live .only p f e r .1)
 
   -- the root and the tables are all that is reached
-  all-reached : (p : List ℕ) (f : ℕ) → length p ≤ suc up → reachIn (x .mem) (x .root) p ≡ At f → List·Memᴰ p ([] ∷ different (leadingRuns es))
+  all-reached : (p : List ℕ) (f : ℕ) → length p ≤ suc aboveLast → reachIn (x .mem) (x .root) p ≡ Value f → List·Memᴰ p ([] ∷ different (leadingRuns es))
   all-reached [] f le r = List·Memᴰ·head refl
-  all-reached (i ∷ p) f le r = List·Memᴰ·tail (different-all (i ∷ p) (leadingRuns es) (by (ℕ-discrete (length (i ∷ p)) (suc up))))
+  all-reached (i ∷ p) f le r = List·Memᴰ·tail (different-all (i ∷ p) (leadingRuns es) (by (ℕ-discrete (length (i ∷ p)) (suc aboveLast))))
     where
-      by : Dec (length (i ∷ p) ≡ suc up) → List·Memᴰ (i ∷ p) (leadingRuns es)
+      by : Dec (length (i ∷ p) ≡ suc aboveLast) → List·Memᴰ (i ∷ p) (leadingRuns es)
       by (yes e) = absurd (no-page (i ∷ p) f e r)
       by (no d) = table-run (i ∷ p) f (omega arith) (omega arith) r
 
-  each-reached : (p : List ℕ) → List·Memᴰ p ([] ∷ different (leadingRuns es)) → (f : ℕ) × (length p ≤ suc up) × (reachIn (x .mem) (x .root) p ≡ At f)
+  each-reached : (p : List ℕ) → List·Memᴰ p ([] ∷ different (leadingRuns es)) → (f : ℕ) × (length p ≤ suc aboveLast) × (reachIn (x .mem) (x .root) p ≡ Value f)
   unfolding reach
   each-reached p m =
       ⊎-elim (λ e. (x .root, omega (arith, ap length e), ap (reachIn (x .mem) (x .root)) e))
@@ -172,16 +172,16 @@ module _ {x : Board} {k : List VMRegion} {u : List MappedRegion} (es : List Even
   pub root-kept : markIn (x .mem) (x .root) ≡ 1
   root-kept = root-marked ordered
 
-  pub other-marked : (f : ℕ) → f < totalOf (x .mem) → marked (x .mem .frames .bits) f ≡ 1 → (f ≡ 0) ⊎ PageTable x (startOf (x .mem) + f)
+  pub other-marked : (f : ℕ) → f < totalOf (x .mem) → marked (x .mem .frames .bits) f ≡ 1 → (f ≡ 0) ⊎ PageTable x (startFrame (x .mem) + f)
   unfolding reach
   other-marked f lt mark =
-      let back : startOf (x .mem) + f - startOf (x .mem) ≡ f = omega arith in
-      let r = tables-only none-live (h .paged .account) (startOf (x .mem) + f)
-      (inside-yes (startOf (x .mem)) (totalOf (x .mem)) (startOf (x .mem) + f) (omega arith) (omega arith)) (ap (marked (x .mem .frames .bits)) back ∙ mark) in
+      let back : startFrame (x .mem) + f - startFrame (x .mem) ≡ f = omega arith in
+      let r = tables-only none-live (h .paged .account) (startFrame (x .mem) + f)
+      (inside-yes (startFrame (x .mem)) (totalOf (x .mem)) (startFrame (x .mem) + f) (omega arith) (omega arith)) (ap (marked (x .mem .frames .bits)) back ∙ mark) in
       by (r .path) (r .short) (r .comes)
     where
-      by : (p : List ℕ) → length p ≤ up → reachIn (x .mem) (x .root) p ≡ At (startOf (x .mem) + f) → (f ≡ 0) ⊎ PageTable x (startOf (x .mem) + f)
-      by [] le e = let q : x .root ≡ startOf (x .mem) + f = cc in inl (omega (arith, h .first))
+      by : (p : List ℕ) → length p ≤ aboveLast → reachIn (x .mem) (x .root) p ≡ Value (startFrame (x .mem) + f) → (f ≡ 0) ⊎ PageTable x (startFrame (x .mem) + f)
+      by [] le e = let q : x .root ≡ startFrame (x .mem) + f = cc in inl (omega (arith, h .first))
       by (i ∷ p) le e = inr (record { path = i ∷ p; proper = omega arith; above = le; reached = e })
 
 nothing : (r s : ℕ) → r ≡ s → 0 ≡ r - s
@@ -200,17 +200,17 @@ ended {x} es g d whole =
       root-marked = ap (marked (x .mem .frames .bits)) (nothing _ _ (g .first)) ∙ root-kept es g d;
       tables-marked = λ f t.
           let ins = tree .into (t .path) f (omega (arith, t .above)) (t .reached) in
-          let from = inside-from (startOf (x .mem)) (totalOf (x .mem)) f ins in
-          (from, omega (arith, from, inside-under (startOf (x .mem)) (totalOf (x .mem)) f ins), tree .kept (t .path) f (omega (arith, t .above)) (t .reached));
+          let from = inside-from (startFrame (x .mem)) (totalOf (x .mem)) f ins in
+          (from, omega (arith, from, inside-under (startFrame (x .mem)) (totalOf (x .mem)) f ins), tree .kept (t .path) f (omega (arith, t .above)) (t .reached));
       no-other-marked = other-marked es g d;
       counter = counter-is es g d;
       run-has-table = λ p m. let t = run-table es g d p (among-member p (leadingRuns es) m) in (t .0, t .1);
       table-has-run = λ f t. member-among (t .path) (leadingRuns es) (table-run es g d (t .path) f (t .proper) (t .above) (t .reached));
       one-run-each = λ f t t′. tree .once (t .path) (t′ .path) f (omega (arith, t .above)) (omega (arith, t′ .above)) (t .reached) (t′ .reached);
       root-no-table = λ t.
-          let q = tree .once (t .path) [] (x .root) (omega (arith, t .above)) (omega arith) (t .reached) (reach-end (x .mem .words) (startOf (x .mem)) (totalOf (x .mem)) (x .root) refl) in
+          let q = tree .once (t .path) [] (x .root) (omega (arith, t .above)) (omega arith) (t .reached) (reach-end (x .mem .words) (startFrame (x .mem)) (totalOf (x .mem)) (x .root) refl) in
           omega (arith, ap length q, t .proper);
-      one-window = λ q. g .kernelIs ∙ ap (filled noKernelSlot) (whole q);
+      one-window = λ q. g .kernelIs ∙ ap (filled noVmRegion) (whole q);
     }
 
 pub demand3 : Demand3
@@ -229,7 +229,7 @@ demand3 old fresh from to st cs ne lr rs rs′ o o′ =
 
 pub book-holds : BookHolds
 book-holds old fresh from to st cs ne =
-    ap listed (run-inv cs (fresh-inv old fresh from to st) ne .1 .kernelIs) ∙ listed-filled noKernelSlot (book (events fresh cs))
+    ap listed (run-inv cs (fresh-inv old fresh from to st) ne .1 .kernelIs) ∙ listed-filled noVmRegion (book (events fresh cs))
 
 rows-rise : (lo hi : ℕ) (l : List VMRegion) → Rows lo hi l → partsRise lo l ≡ true
 unfolding partsRise

@@ -11,21 +11,21 @@ use Rattle.bits.specs.Bit.{pick, both}
 use Rattle.bits.proofs.Choice.{both-true}
 use Rattle.allocator.specs.Round.{roundUp}
 use Rattle.answer.specs.Numbers.{regionNotFound}
-use Rattle.release.specs.Levels.{up}
-use Rattle.paging.specs.declared.Walked.the-variants.{At, Stop}
+use Rattle.paging.specs.Levels.{aboveLast}
+use Rattle.answer.specs.declared.Outcome.the-variants.{Value, Stop}
 use Rattle.slots.specs.Slots.{every}
 use Rattle.regions.specs.declared.VMRegion.{VMRegion}
 use Rattle.regions.specs.Regions.{windowStart, windowEnd, window, firstFit, takeFirst, usedSize, freeFirst, merge}
-use Rattle.vmalloc.specs.Calls.{Did, vmalloc}
+use Rattle.vmalloc.specs.Calls.{KernelDid, vmalloc}
 use Rattle.regions.proofs.Merge.{freedAll}
 use Rattle.regions.proofs.Rows.{freed-first}
 use Rattle.regions.proofs.Used.{all-free}
 use Rattle.regions.proofs.Tiles.{Apart, apart-merged, Tiled, tiled-freed, tiled-merge, tiled-taken, taken-exact, one-region}
-use Rattle.vmalloc.proofs.Calls.{walked-cases}
-use Rattle.mmap.specs.declared.MappedRegion.{MappedRegion}
+use Rattle.paging.proofs.Calls.{walked-cases}
+use Rattle.mappings.specs.declared.MappedRegion.{MappedRegion}
 use Rattle.board.specs.Board.{Board}
-use Rattle.release.specs.Calls.{Call, vmallocs, vfrees, mmaps, munmaps, kernelOf, play, events, turnedAway}
-use Rattle.release.specs.Demand3.{noneTurnedAway, Region, kernels, users, takePart, freePart, joinParts, exceeds, bookStep, bookFrom, cuts, uncutFrom}
+use Rattle.release.specs.Calls.{Call, vmallocCall, vfreeCall, mmapCall, munmapCall, kernelOf, play, events, turnedAway}
+use Rattle.release.specs.Demand3.{noneTurnedAway, Region, kernelRegion, userRegion, takePart, freePart, joinParts, exceeds, bookStep, bookFrom, cuts, uncutFrom}
 use Rattle.release.proofs.Book.{take-cut, exceeds-larger, free-part, join-parts}
 use Rattle.release.proofs.Regions.{KernelList, not-both}
 use Rattle.release.proofs.Invariant.{Leftover, Inv}
@@ -39,14 +39,14 @@ Whole k = Tiled windowStart windowEnd k
 
 -- a vmalloc that is met answers the first region large enough
 fit-of : {b : Board} {k : List VMRegion} {u : List MappedRegion} {l : List Region} {left : Leftover} → Inv left b k u l → (size a : ℕ)
-    → vmalloc up (kernelOf b) (b .root) size .answer ≡ At a → firstFit (roundUp 12 size) k ≡ At a
+    → vmalloc aboveLast (kernelOf b) (b .root) size .answer ≡ Value a → firstFit (roundUp 12 size) k ≡ Value a
 fit-of {b} {k} h size a =
-    vmalloc-outcomes h size (λ (d : Did). d .answer ≡ At a → firstFit (roundUp 12 size) k ≡ At a)
+    vmalloc-outcomes h size (λ (d : KernelDid). d .answer ≡ Value a → firstFit (roundUp 12 size) k ≡ Value a)
     (λ e _ q. absurd (not-both q refl)) (λ c x pos f met q. f ∙ q) (λ c e pos f met t q. absurd (not-both q refl))
 
 -- one call
 module _ {b : Board} {k : List VMRegion} {u : List MappedRegion} {l : List Region} {left : Leftover} (h : Inv left b k u l) (t : Whole k) where
-  whole-take : (n a : ℕ) → firstFit n k ≡ At a → both (leb 256 (length k)) (exceeds a n k) ≡ false → Whole (takePart a n (ltb (length k) 256) k)
+  whole-take : (n a : ℕ) → firstFit n k ≡ Value a → both (leb 256 (length k)) (exceeds a n k) ≡ false → Whole (takePart a n (ltb (length k) 256) k)
   whole-take n a f q = rw (take-cut n a windowStart windowEnd (ltb (length k) 256) k (h .kernelList .rows) f) (by (ltb (length k) 256) refl)
     where
       by : (room : Bool) → ltb (length k) 256 ≡ room → Whole (takeFirst true n room k)
@@ -62,13 +62,13 @@ module _ {b : Board} {k : List VMRegion} {u : List MappedRegion} {l : List Regio
 
   whole-step : (c : Call) → cuts k c (play b c .answer) ≡ false → Whole (bookStep k c (play b c .answer))
   unfolding play
-  whole-step (vmallocs size) =
-      walked-cases (λ w. (vmalloc up (kernelOf b) (b .root) size .answer ≡ w) → cuts k (vmallocs size) w ≡ false → Whole (bookStep k (vmallocs size) w))
-      (vmalloc up (kernelOf b) (b .root) size .answer)
+  whole-step (vmallocCall size) =
+      walked-cases (λ w. (vmalloc aboveLast (kernelOf b) (b .root) size .answer ≡ w) → cuts k (vmallocCall size) w ≡ false → Whole (bookStep k (vmallocCall size) w))
+      (vmalloc aboveLast (kernelOf b) (b .root) size .answer)
       (λ a _ e q. whole-take (roundUp 12 size) a (fit-of h size a e) q) (λ n _ e q. t) refl
-  whole-step (vfrees a) = walked-cases (λ w. cuts k (vfrees a) w ≡ false → Whole (bookStep k (vfrees a) w)) (play b (vfrees a) .answer) (λ x _ q. whole-give a) (λ n _ q. t)
-  whole-step (mmaps wish size prot flags) = λ q. t
-  whole-step (munmaps a size) = λ q. t
+  whole-step (vfreeCall a) = walked-cases (λ w. cuts k (vfreeCall a) w ≡ false → Whole (bookStep k (vfreeCall a) w)) (play b (vfreeCall a) .answer) (λ x _ q. whole-give a) (λ n _ q. t)
+  whole-step (mmapCall hint size prot flags) = λ q. t
+  whole-step (munmapCall a size) = λ q. t
 
 -- a list of calls
 pub whole-run : (cs : List Call) {b : Board} {k : List VMRegion} {u : List MappedRegion} {l : List Region} {left : Leftover} → Inv left b k u l → noneTurnedAway (events b cs) ≡ true
@@ -86,8 +86,8 @@ whole-window = (refl, refl)
 -- the releases
 pub whole-end : (m : List Region) (k : List VMRegion) → Whole k → Whole (foldl kernelAfter k m)
 whole-end [] k t = t
-whole-end (kernels a n ∷ m) k t = whole-end m (merge (freedAll a k)) (tiled-merge windowStart windowEnd (freedAll a k) (tiled-freed a windowStart windowEnd k t))
-whole-end (users a n ∷ m) k t = whole-end m k t
+whole-end (kernelRegion a n ∷ m) k t = whole-end m (merge (freedAll a k)) (tiled-merge windowStart windowEnd (freedAll a k) (tiled-freed a windowStart windowEnd k t))
+whole-end (userRegion a n ∷ m) k t = whole-end m k t
 
 -- a whole list with nothing used is the window
 used-number : (a e : ℕ) (k : List VMRegion) → usedSize a k ≡ Stop e → e ≡ regionNotFound
@@ -95,7 +95,7 @@ unfolding usedSize
 used-number a e [] h = cc
 used-number a e (r ∷ k) h = by (both (eqb (r .start) a) (r .used)) h (used-number a e k)
   where
-    by : (x : Bool) → pick x (At (r .size)) (usedSize a k) ≡ Stop e → (usedSize a k ≡ Stop e → e ≡ regionNotFound) → e ≡ regionNotFound
+    by : (x : Bool) → pick x (Value (r .size)) (usedSize a k) ≡ Stop e → (usedSize a k ≡ Stop e → e ≡ regionNotFound) → e ≡ regionNotFound
     by true g more = absurd (not-both refl g)
     by false g more = more g
 

@@ -6,22 +6,22 @@ use lib.IntN.{ℤ}
 use lib.Dec.{eqb}
 use Rattle.bits.specs.Bit.{pick}
 use Rattle.answer.specs.Numbers.{noFreeFrame, mapPageFailed}
-use Rattle.release.specs.Levels.{up}
-use Rattle.paging.specs.declared.Walked.{Walked}
-use Rattle.paging.specs.declared.Walked.the-variants.{At, Stop}
+use Rattle.paging.specs.Levels.{aboveLast}
+use Rattle.answer.specs.declared.Outcome.{Outcome}
+use Rattle.answer.specs.declared.Outcome.the-variants.{Value, Stop}
 use Rattle.vmalloc.specs.Calls.{Kernel, kernel, vmalloc, vfree}
-use Rattle.vmalloc.specs.Calls.{Did as KernelDid}
-use Rattle.mmap.specs.declared.Wish.{Wish}
+use Rattle.vmalloc.specs.Calls.{KernelDid}
+use Rattle.mmap.specs.declared.OptAddr.{OptAddr}
 use Rattle.mmap.specs.Calls.{User, user, mmap, munmap}
-use Rattle.mmap.specs.Calls.{Did as UserDid}
-use Rattle.board.specs.Board.{Board, Did, did}
+use Rattle.mmap.specs.Calls.{UserDid}
+use Rattle.board.specs.Board.{Board, BoardDid, boardDid}
 
 -- the four calls with any arguments
 pub data Call : Type 0 where
-  vmallocs : ℕ → Call
-  vfrees : ℕ → Call
-  mmaps : Wish → ℕ → ℤ → ℤ → Call
-  munmaps : ℕ → ℕ → Call
+  vmallocCall : ℕ → Call
+  vfreeCall : ℕ → Call
+  mmapCall : OptAddr → ℕ → ℤ → ℤ → Call
+  munmapCall : ℕ → ℕ → Call
 
 -- what the kernel's calls and the user's are lent of a board, and the board with what they leave
 abbrev pub kernelOf : Board → Kernel
@@ -36,18 +36,18 @@ userOf b = user (b .mem) (b .user) (b .next)
 abbrev pub withUser : Board → User → Board
 withUser b u = record { mem = u .mem; root = b .root; kernel = b .kernel; user = u .regions; next = u .next; marked = b .marked }
 
-abbrev pub byKernel : Board → KernelDid → Did
-byKernel b d = did (d .answer) (withKernel b (d .kernel))
+abbrev pub byKernel : Board → KernelDid → BoardDid
+byKernel b d = boardDid (d .answer) (withKernel b (d .kernel))
 
-abbrev pub byUser : Board → UserDid → Did
-byUser b d = did (d .answer) (withUser b (d .user))
+abbrev pub byUser : Board → UserDid → BoardDid
+byUser b d = boardDid (d .answer) (withUser b (d .user))
 
 -- a call on a board of `up` levels above the last: its answer, and the board that it leaves
-unfoldable pub play : Board → Call → Did
-play b (vmallocs size) = byKernel b (vmalloc up (kernelOf b) (b .root) size)
-play b (vfrees a) = byKernel b (vfree up (kernelOf b) (b .root) a)
-play b (mmaps wish size prot flags) = byUser b (mmap up (userOf b) (b .root) wish size prot flags)
-play b (munmaps a size) = byUser b (munmap up (userOf b) (b .root) a size)
+unfoldable pub play : Board → Call → BoardDid
+play b (vmallocCall size) = byKernel b (vmalloc aboveLast (kernelOf b) (b .root) size)
+play b (vfreeCall a) = byKernel b (vfree aboveLast (kernelOf b) (b .root) a)
+play b (mmapCall hint size prot flags) = byUser b (mmap aboveLast (userOf b) (b .root) hint size prot flags)
+play b (munmapCall a size) = byUser b (munmap aboveLast (userOf b) (b .root) a size)
 
 -- the board after a list of calls, 'each call on the state the last one left'
 unfoldable pub after : Board → List Call → Board
@@ -57,18 +57,18 @@ after b (c ∷ cs) = after (play b c .board) cs
 -- a call with its answer
 pub record Event : Type 0 where
   pub call : Call
-  pub answer : Walked
+  pub answer : Outcome
 
 -- the calls of a list with their answers
 unfoldable pub events : Board → List Call → List Event
 events b [] = []
 events b (c ∷ cs) = record { call = c; answer = play b c .answer } ∷ events (play b c .board) cs
 
-abbrev pub isMet : Walked → Bool
-isMet (At x) = true
+abbrev pub isMet : Outcome → Bool
+isMet (Value x) = true
 isMet (Stop n) = false
 
 -- turned away with 11 or 13
-abbrev pub turnedAway : Walked → Bool
-turnedAway (At x) = false
+abbrev pub turnedAway : Outcome → Bool
+turnedAway (Value x) = false
 turnedAway (Stop n) = pick (eqb n noFreeFrame) true (eqb n mapPageFailed)

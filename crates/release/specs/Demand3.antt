@@ -10,23 +10,22 @@ use lib.ListN.{length, take, replicate}
 use Rattle.bits.specs.Bit.{pick, both}
 use Rattle.allocator.specs.Round.{rounded, roundUp}
 use Rattle.answer.specs.Numbers.{notMapped}
-use Rattle.answer.specs.declared.CountAnswer.the-variants.{Count}
+use Rattle.answer.specs.declared.Outcome.the-variants.{Value, Stop}
 use Rattle.entry.specs.Entry.{indices}
 use Rattle.bitmap.specs.Bitmap.{marked as markOf}
-use Rattle.release.specs.Levels.{up}
-use Rattle.paging.specs.declared.Walked.{Walked}
-use Rattle.paging.specs.declared.Walked.the-variants.{At, Stop}
+use Rattle.paging.specs.Levels.{aboveLast}
+use Rattle.answer.specs.declared.Outcome.{Outcome}
 use Rattle.paging.specs.Walk.{reach}
-use Rattle.paging.specs.Map.{startOf, totalOf}
+use Rattle.paging.specs.Map.{startFrame, totalOf}
 use Rattle.paging.specs.Calls.{translate}
 use Rattle.slots.specs.Slots.{listed, every}
 use Rattle.regions.specs.declared.VMRegion.{VMRegion}
-use Rattle.regions.specs.Regions.{window, noSlot, region, joins}
-use Rattle.mmap.specs.Regions.{fixed}
-use Rattle.mmap.specs.declared.Wish.the-variants.{Anywhere, Wished}
+use Rattle.regions.specs.Regions.{window, noVmRegion, vmRegion, joins}
+use Rattle.mmap.specs.Flags.{fixed}
+use Rattle.mmap.specs.declared.OptAddr.the-variants.{NoAddr, SomeAddr}
 use Rattle.mmap.specs.Calls.{onPage}
-use Rattle.board.specs.Board.{Board, did, start}
-use Rattle.release.specs.Calls.{Call, vmallocs, vfrees, mmaps, munmaps, after, Event, events, isMet, turnedAway}
+use Rattle.board.specs.Board.{Board, boardDid, start}
+use Rattle.release.specs.Calls.{Call, vmallocCall, vfreeCall, mmapCall, munmapCall, after, Event, events, isMet, turnedAway}
 
 -- ---- the two conditions
 
@@ -37,13 +36,13 @@ noneTurnedAway es = every (λ e. not (turnedAway (e .answer))) es
 -- 'every fixed or page-aligned hinted range ends at or below 2^47': it 'runs from the given address over the rounded size; it counts where its mmap is met or turned away
 -- with 11 or 13'
 abbrev pub lowRange : Call → Bool
-lowRange (vmallocs size) = true
-lowRange (vfrees a) = true
-lowRange (mmaps Anywhere size prot flags) = true
-lowRange (mmaps (Wished a) size prot flags) = pick (pick (fixed flags) true (onPage a)) (leb (a + roundUp 12 size) (2 ^ 47)) true
-lowRange (munmaps a size) = true
+lowRange (vmallocCall size) = true
+lowRange (vfreeCall a) = true
+lowRange (mmapCall NoAddr size prot flags) = true
+lowRange (mmapCall (SomeAddr a) size prot flags) = pick (pick (fixed flags) true (onPage a)) (leb (a + roundUp 12 size) (2 ^ 47)) true
+lowRange (munmapCall a size) = true
 
-abbrev pub counts : Walked → Bool
+abbrev pub counts : Outcome → Bool
 counts w = pick (isMet w) true (turnedAway w)
 
 abbrev pub lowRanges : List Event → Bool
@@ -53,38 +52,38 @@ lowRanges es = every (λ e. pick (counts (e .answer)) (lowRange (e .call)) true)
 
 -- a region of the kernel's (vmalloc) or the user's (mmap): its start and its rounded size
 pub data Region : Type 0 where
-  kernels : ℕ → ℕ → Region
-  users : ℕ → ℕ → Region
+  kernelRegion : ℕ → ℕ → Region
+  userRegion : ℕ → ℕ → Region
 
 abbrev pub startIs : Region → ℕ
-startIs (kernels a n) = a
-startIs (users a n) = a
+startIs (kernelRegion a n) = a
+startIs (userRegion a n) = a
 
 abbrev pub sizeIs : Region → ℕ
-sizeIs (kernels a n) = n
-sizeIs (users a n) = n
+sizeIs (kernelRegion a n) = n
+sizeIs (userRegion a n) = n
 
 -- the live regions without the kernel's, or the user's, at a
 unfoldable pub dropKernel : ℕ → List Region → List Region
 dropKernel a [] = []
-dropKernel a (kernels s n ∷ l) = pick (eqb s a) l (kernels s n ∷ dropKernel a l)
-dropKernel a (users s n ∷ l) = users s n ∷ dropKernel a l
+dropKernel a (kernelRegion s n ∷ l) = pick (eqb s a) l (kernelRegion s n ∷ dropKernel a l)
+dropKernel a (userRegion s n ∷ l) = userRegion s n ∷ dropKernel a l
 
 unfoldable pub dropUser : ℕ → List Region → List Region
 dropUser a [] = []
-dropUser a (users s n ∷ l) = pick (eqb s a) l (users s n ∷ dropUser a l)
-dropUser a (kernels s n ∷ l) = kernels s n ∷ dropUser a l
+dropUser a (userRegion s n ∷ l) = pick (eqb s a) l (userRegion s n ∷ dropUser a l)
+dropUser a (kernelRegion s n ∷ l) = kernelRegion s n ∷ dropUser a l
 
 -- 'A region is live from the met vmalloc or mmap that answers its start to the met vfree or munmap of that start'
-abbrev pub liveStep : List Region → Call → Walked → List Region
-liveStep l (vmallocs size) (At a) = kernels a (roundUp 12 size) ∷ l
-liveStep l (vmallocs size) (Stop n) = l
-liveStep l (vfrees a) (At x) = dropKernel a l
-liveStep l (vfrees a) (Stop n) = l
-liveStep l (mmaps wish size prot flags) (At a) = users a (roundUp 12 size) ∷ l
-liveStep l (mmaps wish size prot flags) (Stop n) = l
-liveStep l (munmaps a size) (At x) = dropUser a l
-liveStep l (munmaps a size) (Stop n) = l
+abbrev pub liveStep : List Region → Call → Outcome → List Region
+liveStep l (vmallocCall size) (Value a) = kernelRegion a (roundUp 12 size) ∷ l
+liveStep l (vmallocCall size) (Stop n) = l
+liveStep l (vfreeCall a) (Value x) = dropKernel a l
+liveStep l (vfreeCall a) (Stop n) = l
+liveStep l (mmapCall hint size prot flags) (Value a) = userRegion a (roundUp 12 size) ∷ l
+liveStep l (mmapCall hint size prot flags) (Stop n) = l
+liveStep l (munmapCall a size) (Value x) = dropUser a l
+liveStep l (munmapCall a size) (Stop n) = l
 
 unfoldable pub liveFrom : List Region → List Event → List Region
 liveFrom l [] = l
@@ -94,13 +93,13 @@ abbrev pub live : List Event → List Region
 live es = liveFrom [] es
 
 -- all regions ever live
-abbrev pub bornBy : Call → Walked → List Region
-bornBy (vmallocs size) (At a) = kernels a (roundUp 12 size) ∷ []
-bornBy (vmallocs size) (Stop n) = []
-bornBy (vfrees a) w = []
-bornBy (mmaps wish size prot flags) (At a) = users a (roundUp 12 size) ∷ []
-bornBy (mmaps wish size prot flags) (Stop n) = []
-bornBy (munmaps a size) w = []
+abbrev pub bornBy : Call → Outcome → List Region
+bornBy (vmallocCall size) (Value a) = kernelRegion a (roundUp 12 size) ∷ []
+bornBy (vmallocCall size) (Stop n) = []
+bornBy (vfreeCall a) w = []
+bornBy (mmapCall hint size prot flags) (Value a) = userRegion a (roundUp 12 size) ∷ []
+bornBy (mmapCall hint size prot flags) (Stop n) = []
+bornBy (munmapCall a size) w = []
 
 unfoldable pub everLive : List Event → List Region
 everLive [] = []
@@ -110,8 +109,8 @@ everLive (e ∷ es) = bornBy (e .call) (e .answer) ++ everLive es
 
 -- one call that releases a region: 'munmap with any size that rounds to the region's'
 pub data Releases : Region → Call → Type 0 where
-  by-vfree : {a n : ℕ} → Releases (kernels a n) (vfrees a)
-  by-munmap : {a n size : ℕ} → rounded size ≡ Count n → Releases (users a n) (munmaps a size)
+  by-vfree : {a n : ℕ} → Releases (kernelRegion a n) (vfreeCall a)
+  by-munmap : {a n size : ℕ} → rounded size ≡ Value n → Releases (userRegion a n) (munmapCall a size)
 
 -- the same regions in another order
 pub data Reordered : List Region → List Region → Type 0 where
@@ -135,8 +134,8 @@ Order l cs = (m : List Region) × Reordered l m × EachReleased m cs
 pub record PageTable (b : Board) (f : ℕ) : Type 0 where
   pub path : List ℕ
   pub proper : 1 ≤ length path
-  pub above : length path ≤ up
-  pub reached : reach (b .mem .words) (startOf (b .mem)) (totalOf (b .mem)) (b .root) path ≡ At f
+  pub above : length path ≤ aboveLast
+  pub reached : reach (b .mem .words) (startFrame (b .mem)) (totalOf (b .mem)) (b .root) path ≡ Value f
 
 -- the pages of a region: n of them from v on
 unfoldable pub pagesFrom : ℕ → ℕ → List ℕ
@@ -153,7 +152,7 @@ runsTo (suc n) p = runsTo n p ++ (take (suc n) p ∷ [])
 
 -- 'run of leading indices, neither empty nor whole', of a page
 abbrev pub runsOf : ℕ → List (List ℕ)
-runsOf v = runsTo up (indices (suc up) v)
+runsOf v = runsTo aboveLast (indices (suc aboveLast) v)
 
 unfoldable pub concat : {A B : Type 0} → (A → List B) → List A → List B
 concat f [] = []
@@ -184,34 +183,34 @@ different (p ∷ l) = pick (among p l) (different l) (p ∷ different l)
 -- 'A met vmalloc takes the free part at its answer. If it exceeds the rounded size, the tail becomes a free part while the book has fewer than 256; at 256 the part is
 -- cut, the tail struck out'
 abbrev pub tailPart : ℕ → Bool → VMRegion → List VMRegion → List VMRegion
-tailPart n room r l = pick (ltb n (r .size)) (pick room (region (r .start + n) (r .size - n) false ∷ l) l) l
+tailPart n room r l = pick (ltb n (r .size)) (pick room (vmRegion (r .start + n) (r .size - n) false ∷ l) l) l
 
 unfoldable pub takePart : ℕ → ℕ → Bool → List VMRegion → List VMRegion
 takePart a n room [] = []
 takePart a n room (r ∷ l) =
-    pick (both (not (r .used)) (eqb (r .start) a)) (region a n true ∷ tailPart n room r l) (r ∷ takePart a n room l)
+    pick (both (not (r .used)) (eqb (r .start) a)) (vmRegion a n true ∷ tailPart n room r l) (r ∷ takePart a n room l)
 
 -- 'A met vfree frees its part and joins all adjoining free parts'
 unfoldable pub freePart : ℕ → List VMRegion → List VMRegion
 freePart a [] = []
-freePart a (r ∷ l) = pick (both (r .used) (eqb (r .start) a)) (region a (r .size) false ∷ l) (r ∷ freePart a l)
+freePart a (r ∷ l) = pick (both (r .used) (eqb (r .start) a)) (vmRegion a (r .size) false ∷ l) (r ∷ freePart a l)
 
 abbrev pub joinOnto : VMRegion → List VMRegion → List VMRegion
 joinOnto r [] = r ∷ []
-joinOnto r (s ∷ l) = pick (joins r s) (region (r .start) (r .size + s .size) false ∷ l) (r ∷ s ∷ l)
+joinOnto r (s ∷ l) = pick (joins r s) (vmRegion (r .start) (r .size + s .size) false ∷ l) (r ∷ s ∷ l)
 
 unfoldable pub joinParts : List VMRegion → List VMRegion
 joinParts [] = []
 joinParts (r ∷ l) = joinOnto r (joinParts l)
 
 -- 'Nothing else changes it'
-abbrev pub bookStep : List VMRegion → Call → Walked → List VMRegion
-bookStep k (vmallocs size) (At a) = takePart a (roundUp 12 size) (ltb (length k) 256) k
-bookStep k (vmallocs size) (Stop n) = k
-bookStep k (vfrees a) (At x) = joinParts (freePart a k)
-bookStep k (vfrees a) (Stop n) = k
-bookStep k (mmaps wish size prot flags) w = k
-bookStep k (munmaps a size) w = k
+abbrev pub bookStep : List VMRegion → Call → Outcome → List VMRegion
+bookStep k (vmallocCall size) (Value a) = takePart a (roundUp 12 size) (ltb (length k) 256) k
+bookStep k (vmallocCall size) (Stop n) = k
+bookStep k (vfreeCall a) (Value x) = joinParts (freePart a k)
+bookStep k (vfreeCall a) (Stop n) = k
+bookStep k (mmapCall hint size prot flags) w = k
+bookStep k (munmapCall a size) w = k
 
 unfoldable pub bookFrom : List VMRegion → List Event → List VMRegion
 bookFrom k [] = k
@@ -227,12 +226,12 @@ exceeds a n [] = false
 exceeds a n (r ∷ l) = pick (both (not (r .used)) (eqb (r .start) a)) (ltb n (r .size)) (exceeds a n l)
 
 -- a vmalloc that 'cut a larger region while the vmalloc list held 256'
-abbrev pub cuts : List VMRegion → Call → Walked → Bool
-cuts k (vmallocs size) (At a) = both (leb 256 (length k)) (exceeds a (roundUp 12 size) k)
-cuts k (vmallocs size) (Stop n) = false
-cuts k (vfrees a) w = false
-cuts k (mmaps wish size prot flags) w = false
-cuts k (munmaps a size) w = false
+abbrev pub cuts : List VMRegion → Call → Outcome → Bool
+cuts k (vmallocCall size) (Value a) = both (leb 256 (length k)) (exceeds a (roundUp 12 size) k)
+cuts k (vmallocCall size) (Stop n) = false
+cuts k (vfreeCall a) w = false
+cuts k (mmapCall hint size prot flags) w = false
+cuts k (munmapCall a size) w = false
 
 unfoldable pub uncutFrom : List VMRegion → List Event → Bool
 uncutFrom k [] = true
@@ -246,22 +245,22 @@ neverCut es = uncutFrom (window ∷ []) es
 -- what holds of the board e that is left when all regions are released which the events es left live
 pub record Ended (es : List Event) (e : Board) : Type 0 where
   -- 'There no address translates'
-  pub no-address : (v : ℕ) → translate up (e .mem .words) (startOf (e .mem)) (totalOf (e .mem)) (e .root) v ≡ Stop notMapped
+  pub no-address : (v : ℕ) → translate aboveLast (e .mem .words) (startFrame (e .mem)) (totalOf (e .mem)) (e .root) v ≡ Stop notMapped
   -- 'exactly the root and the page tables are still marked': the root is the first of the lent frames
-  pub root-first : e .root ≡ startOf (e .mem)
+  pub root-first : e .root ≡ startFrame (e .mem)
   pub root-marked : markOf (e .mem .frames .bits) 0 ≡ 1
   pub tables-marked : (f : ℕ) → PageTable e f
-      → (startOf (e .mem) ≤ f) × (f < startOf (e .mem) + totalOf (e .mem)) × (markOf (e .mem .frames .bits) (f - startOf (e .mem)) ≡ 1)
-  pub no-other-marked : (f : ℕ) → f < totalOf (e .mem) → markOf (e .mem .frames .bits) f ≡ 1 → (f ≡ 0) ⊎ PageTable e (startOf (e .mem) + f)
+      → (startFrame (e .mem) ≤ f) × (f < startFrame (e .mem) + totalOf (e .mem)) × (markOf (e .mem .frames .bits) (f - startFrame (e .mem)) ≡ 1)
+  pub no-other-marked : (f : ℕ) → f < totalOf (e .mem) → markOf (e .mem .frames .bits) f ≡ 1 → (f ≡ 0) ⊎ PageTable e (startFrame (e .mem) + f)
   -- 'counter = 1 + page tables', where there is 'one for each different run of leading indices .. of pages of all regions ever live': each of these runs comes to a page
   -- table, each page table lies at such a run, and at one alone, so that there are as many page tables as different runs; and the root is none of them
   pub counter : e .mem .frames .fa .allocated ≡ 1 + length (different (leadingRuns es))
-  pub run-has-table : (p : List ℕ) → among p (leadingRuns es) ≡ true → (f : ℕ) × (reach (e .mem .words) (startOf (e .mem)) (totalOf (e .mem)) (e .root) p ≡ At f)
+  pub run-has-table : (p : List ℕ) → among p (leadingRuns es) ≡ true → (f : ℕ) × (reach (e .mem .words) (startFrame (e .mem)) (totalOf (e .mem)) (e .root) p ≡ Value f)
   pub table-has-run : (f : ℕ) (t : PageTable e f) → among (t .path) (leadingRuns es) ≡ true
   pub one-run-each : (f : ℕ) (t t′ : PageTable e f) → t .path ≡ t′ .path
   pub root-no-table : PageTable e (e .root) → ⊥
   -- 'if no vmalloc cut a larger region while the vmalloc list held 256, the kernel window is one free region again'
-  pub one-window : neverCut es ≡ true → e .kernel ≡ record { slots = window ∷ replicate 255 noSlot; count = 1 }
+  pub one-window : neverCut es ≡ true → e .kernel ≡ record { slots = window ∷ replicate 255 noVmRegion; count = 1 }
 
 -- what holds of the board b that the events es led to, for two orders rs and rs′ of releasing; each may stand in the other's place
 pub record Released (b : Board) (es : List Event) (rs rs′ : List Call) : Type 0 where
@@ -274,7 +273,7 @@ pub record Released (b : Board) (es : List Event) (rs rs′ : List Call) : Type 
 -- 'For every list of vmalloc, vfree, mmap and munmap calls, refused ones included, from a fresh board': 'what any met start leaves', whatever the lent parts held before
 abbrev pub Demand3 : Type 0
 Demand3 =
-    (old fresh : Board) (from to : ℕ) → start old from to ≡ did (At 0) fresh
+    (old fresh : Board) (from to : ℕ) → start old from to ≡ boardDid (Value 0) fresh
     → (cs : List Call) → noneTurnedAway (events fresh cs) ≡ true → lowRanges (events fresh cs) ≡ true
     → (rs rs′ : List Call) → Order (live (events fresh cs)) rs → Order (live (events fresh cs)) rs′
     → Released (after fresh cs) (events fresh cs) rs rs′
@@ -282,7 +281,7 @@ Demand3 =
 -- 'While no call was turned away with 11 or 13, the vmalloc list holds exactly the book's parts, free and used alike' (in the order of their addresses)
 abbrev pub BookHolds : Type 0
 BookHolds =
-    (old fresh : Board) (from to : ℕ) → start old from to ≡ did (At 0) fresh
+    (old fresh : Board) (from to : ℕ) → start old from to ≡ boardDid (Value 0) fresh
     → (cs : List Call) → noneTurnedAway (events fresh cs) ≡ true
     → listed (after fresh cs .kernel) ≡ book (events fresh cs)
 
@@ -294,6 +293,6 @@ partsRise from (r ∷ l) = both (leb from (r .start)) (partsRise (r .start + r .
 -- the order in which the book's parts are written is that of their addresses
 abbrev pub BookRises : Type 0
 BookRises =
-    (old fresh : Board) (from to : ℕ) → start old from to ≡ did (At 0) fresh
+    (old fresh : Board) (from to : ℕ) → start old from to ≡ boardDid (Value 0) fresh
     → (cs : List Call) → noneTurnedAway (events fresh cs) ≡ true
     → partsRise 0 (book (events fresh cs)) ≡ true

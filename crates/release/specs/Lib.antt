@@ -1,3 +1,2 @@
-pub mod Levels
 pub mod Calls
 pub mod Demand3

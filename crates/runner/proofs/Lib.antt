@@ -1,3 +1,2 @@
-pub mod Buffers
 pub mod Steps
 pub mod Whole

@@ -1,8 +1,8 @@
 -- Turn after turn: what the loop holds is the run of all that it read, with all that it wrote in front of its text.
-use Prim.Native.Nat.{ℕ, zero, suc, _+_, _≤_, _<_}
+use Prim.Native.Nat.{ℕ, suc, _+_, _≤_, _<_}
 use mathlib.Core.Path.{_≡_, refl, sym, _∙_, ap, subst}
 use mathlib.Core.Bool.{Bool, true, false}
-use mathlib.Core.List.{List, [], _∷_, _++_, append-assoc, append-nil}
+use mathlib.Core.List.{List, [], _++_, append-assoc, append-nil}
 use native.Mathlib.Omega.{arith}
 use lib.Dec.{leb}
 use lib.ListN.{length, drop}
@@ -15,13 +15,14 @@ use Rattle.tape.specs.Tape.{next, callSize}
 use Rattle.tape.specs.Text.{lineText, countText}
 use Rattle.tape.proofs.Sizes.{size-of-call, call-there, next-more}
 use Rattle.player.specs.Play.{Turn, play}
-use Rattle.runner.specs.declared.Source.{Source}
-use Rattle.runner.specs.declared.Source.the-variants.{Open, Closed, Failed}
-use Rattle.runner.specs.declared.Stage.{Stage}
-use Rattle.runner.specs.declared.Stage.the-variants.{Going, Ended, Unread, Unwritten, TooLong}
-use Rattle.runner.specs.Run.{Run, run, tapeWord, played, stepBy, step, goes, turn, begun, turns}
-use Rattle.runner.specs.Loop.{kept, gone, readable, stageOf, Turned, told, Ran}
-use Rattle.runner.proofs.Buffers.{shut, broken}
+use Rattle.streams.specs.declared.Source.{Source}
+use Rattle.streams.specs.declared.Source.the-variants.{Open, Closed, Failed}
+use Rattle.turn.specs.declared.Stage.{Stage}
+use Rattle.turn.specs.declared.Stage.the-variants.{Going, Ended, Unread, Unwritten, TooLong}
+use Rattle.turn.specs.Run.{Run, run, tapeWord, played, stepBy, step, goes, turn, begun, turns}
+use Rattle.streams.specs.Streams.{kept, gone, readable}
+use Rattle.runner.specs.Loop.{stageOf, Turned, told, Ran}
+use Rattle.streams.proofs.Buffers.{shut, broken}
 use Rattle.runner.proofs.Steps.{turn-stays, turn-steps, short, no}
 
 -- ---- more of the tape behind, and more text in front, change nothing of a step

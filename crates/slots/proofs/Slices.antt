@@ -24,7 +24,7 @@ module _ {A : Type 0} (d : A) (l : List A) (n : ℕ) (enough : n ≤ length l) w
   pub next : (i : ℕ) → i < n → slice i n l ≡ getD l i d ∷ slice (i + 1) n l
   next i h = rw (add-one i) (slice-cons i n l d h enough)
 
-  none : (i : ℕ) → n ≤ i → slice i n l ≡ []
+  pub none : (i : ℕ) → n ≤ i → slice i n l ≡ []
   none i h = drop-of-length-le (take n l) {i = i} (omega (arith, length-take n l))
 
   module _ (test : A → Bool) (i : ℕ) where

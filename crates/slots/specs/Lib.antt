@@ -1,2 +1,3 @@
 pub mod Slots
 pub mod Shifts
+pub mod Sorted

@@ -15,7 +15,7 @@ use Rattle.answer.specs.Numbers.{outside}
 use Rattle.entry.specs.Entry.{indices, frameOf}
 use Rattle.entry.proofs.Entry.{length-indices}
 use Rattle.frame.specs.Frames.{inside}
-use Rattle.paging.specs.declared.Walked.the-variants.{At, Stop}
+use Rattle.answer.specs.declared.Outcome.the-variants.{Value, Stop}
 use Rattle.paging.specs.Walk.{entryAt, reach}
 use Rattle.paging.proofs.Walk.{entry-out}
 use Rattle.tree.proofs.Walks.{reach-step, reach-stuck}
@@ -34,7 +34,7 @@ shared n l d v j w h =
 module _ (ws : List ℕ) (start total root v : ℕ) {is : List ℕ} (g : is ≡ indices 4 v) where
   module _ (l : ℕ) (low : l < 3) {k : ℕ} (w : k ≡ toEnd (3 - l) v) where
     -- below an absent entry, or an entry of a table outside
-    pub gap-absent : (t a : ℕ) → reach ws start total root (take l is) ≡ At t → entryAt ws start total t (getD is l 0) ≡ Stop a → IsGap ws start total root v k
+    pub gap-absent : (t a : ℕ) → reach ws start total root (take l is) ≡ Value t → entryAt ws start total t (getD is l 0) ≡ Stop a → IsGap ws start total root v k
     gap-absent t a h e = record {
       some = rw w (to-end-some (3 - l) v);
       off = λ j lt.
@@ -49,7 +49,7 @@ module _ (ws : List ℕ) (start total root v : ℕ) {is : List ℕ} (g : is ≡ 
     }
 
     -- below an entry that leads outside
-    pub gap-outside : (f : ℕ) → reach ws start total root (take (l + 1) is) ≡ At f → inside start total f ≡ false → IsGap ws start total root v k
+    pub gap-outside : (f : ℕ) → reach ws start total root (take (l + 1) is) ≡ Value f → inside start total f ≡ false → IsGap ws start total root v k
     gap-outside f h o = record {
       some = rw w (to-end-some (3 - l) v);
       off = λ j lt.
@@ -64,26 +64,26 @@ module _ (ws : List ℕ) (start total root v : ℕ) {is : List ℕ} (g : is ≡ 
     }
 
   -- a last table
-  pub leaves-found : (above : List ℕ) (t k : ℕ) → reach ws start total root (take 3 is) ≡ At t → inside start total t ≡ true
-      → ((l : ℕ) → l < 3 → reach ws start total root (take l is) ≡ At (getD above l 0)) → 0 < k → getD is 3 0 + k ≤ 512
+  pub leaves-found : (above : List ℕ) (t k : ℕ) → reach ws start total root (take 3 is) ≡ Value t → inside start total t ≡ true
+      → ((l : ℕ) → l < 3 → reach ws start total root (take l is) ≡ Value (getD above l 0)) → 0 < k → getD is 3 0 + k ≤ 512
       → ((l : ℕ) → l < 3 → getD above l 0 ≡ t → Off (getD is l 0) (getD is 3 0) k) → IsLeaves ws start total root v t k
   leaves-found above t k way ins ways some fit apart =
-      subst (λ (p : List ℕ). getD p 3 0 + k ≤ 512 → reach ws start total root (take 3 p) ≡ At t
-      → ((l : ℕ) → l < 3 → reach ws start total root (take l p) ≡ At t → Off (getD p l 0) (getD p 3 0) k) → IsLeaves ws start total root v t k) (sym g)
+      subst (λ (p : List ℕ). getD p 3 0 + k ≤ 512 → reach ws start total root (take 3 p) ≡ Value t
+      → ((l : ℕ) → l < 3 → reach ws start total root (take l p) ≡ Value t → Off (getD p l 0) (getD p 3 0) k) → IsLeaves ws start total root v t k) (sym g)
       (λ a b c. record { some = some; fit = a; lent = ins; way = b; apart = c }) fit way
       (λ l lt h. apart l lt (let e = ways l lt in cc))
 
 -- the tables on the way, one more of them written down
 pub above-more : (ws : List ℕ) (start total root : ℕ) (is above : List ℕ) (l t : ℕ) → l < length above
-    → ((k : ℕ) → k < l → reach ws start total root (take k is) ≡ At (getD above k 0)) → reach ws start total root (take l is) ≡ At t
-    → (k : ℕ) → k < l + 1 → reach ws start total root (take k is) ≡ At (getD (set above l t) k 0)
+    → ((k : ℕ) → k < l → reach ws start total root (take k is) ≡ Value (getD above k 0)) → reach ws start total root (take l is) ≡ Value t
+    → (k : ℕ) → k < l + 1 → reach ws start total root (take k is) ≡ Value (getD (set above l t) k 0)
 above-more ws start total root is above l t lt ways way =
-    below-more (λ k. reach ws start total root (take k is) ≡ At (getD (set above l t) k 0)) l
-    (λ k b. ways k b ∙ ap At (sym (getD-set-other above l k t 0 (λ e. omega arith)))) (way ∙ ap At (sym (getD-set-same above l t 0 lt)))
+    below-more (λ k. reach ws start total root (take k is) ≡ Value (getD (set above l t) k 0)) l
+    (λ k b. ways k b ∙ ap Value (sym (getD-set-other above l k t 0 (λ e. omega arith)))) (way ∙ ap Value (sym (getD-set-same above l t 0 lt)))
 
 -- one table further down
-pub further : (ws : List ℕ) (start total root : ℕ) (is : List ℕ) (l t e : ℕ) → l < length is → reach ws start total root (take l is) ≡ At t
-    → entryAt ws start total t (getD is l 0) ≡ At e → reach ws start total root (take (l + 1) is) ≡ At (frameOf e)
+pub further : (ws : List ℕ) (start total root : ℕ) (is : List ℕ) (l t e : ℕ) → l < length is → reach ws start total root (take l is) ≡ Value t
+    → entryAt ws start total t (getD is l 0) ≡ Value e → reach ws start total root (take (l + 1) is) ≡ Value (frameOf e)
 further ws start total root is l t e k h x =
     rw (add-one l, take-suc is l 0 k) (reach-step ws start total (take l is) root t (getD is l 0) e h x)
 

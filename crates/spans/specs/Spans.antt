@@ -7,8 +7,9 @@ use mathlib.Core.Logic.{_⊎_}
 use lib.ListN.{getD, take}
 use Rattle.entry.specs.Entry.{indices}
 use Rattle.frame.specs.Frames.{inside}
-use Rattle.paging.specs.declared.Walked.the-variants.{At, Stop}
+use Rattle.answer.specs.declared.Outcome.the-variants.{Value, Stop}
 use Rattle.paging.specs.Walk.{reach}
+use Rattle.paging.specs.Levels.{aboveLast, levels}
 use Rattle.spans.specs.declared.Span.{Span}
 use Rattle.spans.specs.declared.Span.the-variants.{Leaves, Gap}
 
@@ -23,15 +24,15 @@ Off x i k = (x < i) ⊎ (i + k ≤ suc x)
 -- k pages from v on, none of them mapped
 pub record IsGap (ws : List ℕ) (start total root v k : ℕ) : Type 0 where
   pub some : 0 < k
-  pub off : (j : ℕ) → j < k → (a : ℕ) × (reach ws start total root (indices 4 (v + j * 4096)) ≡ Stop a)
+  pub off : (j : ℕ) → j < k → (a : ℕ) × (reach ws start total root (indices levels (v + j * 4096)) ≡ Stop a)
 
 -- k pages from v on, all with table t as their last. No leaf of theirs but the last is an entry on the way to t
 pub record IsLeaves (ws : List ℕ) (start total root v t k : ℕ) : Type 0 where
   pub some : 0 < k
-  pub fit : getD (indices 4 v) 3 0 + k ≤ 512
+  pub fit : getD (indices levels v) aboveLast 0 + k ≤ 512
   pub lent : inside start total t ≡ true
-  pub way : reach ws start total root (take 3 (indices 4 v)) ≡ At t
-  pub apart : (l : ℕ) → l < 3 → reach ws start total root (take l (indices 4 v)) ≡ At t → Off (getD (indices 4 v) l 0) (getD (indices 4 v) 3 0) k
+  pub way : reach ws start total root (take aboveLast (indices levels v)) ≡ Value t
+  pub apart : (l : ℕ) → l < aboveLast → reach ws start total root (take l (indices levels v)) ≡ Value t → Off (getD (indices levels v) l 0) (getD (indices levels v) aboveLast 0) k
 
 abbrev pub IsSpan : List ℕ → ℕ → ℕ → ℕ → ℕ → Span → Type 0
 IsSpan ws start total root v (Leaves t k) = IsLeaves ws start total root v t k

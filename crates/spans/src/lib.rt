@@ -1,13 +1,14 @@
 // What a look at a page finds of the pages from it on: leaves of one table, or pages below an entry that is absent or leads outside.
 use address::Frame;
 use address::VirtAddr;
+use answer::Outcome;
 use entry::paging::PageTableEntry;
-use paging::Walked;
 ghost use mathlib.Core.Path.{_≡_};
 ghost use mathlib.Core.Logic.{_⊎_};
 ghost use Prim.Native.Nat.{ℕ, _+_, _≤_, _<_};
 ghost use lib.ListN.{getD};
-ghost use Rattle.paging.specs.Walk.{Lent};
+ghost use Rattle.paging.specs.Walk.{WordsLent};
+ghost use Rattle.paging.specs.Levels.{aboveLast, levels};
 ghost use Rattle.spans.specs.Spans.{toEnd, Off, IsSpan};
 
 // What there is at a page: so many leaves of its last table, or so many pages that are not mapped.
@@ -45,8 +46,8 @@ fn stop_past(from: usize, end: usize, i: usize) -> usize
 fn leaves_apart(above: [u64; 3], indices: [usize; 4], t: u64) -> u64
     requires { ⌜ ((k : ℕ) → getD indices k 0 < 512) ⌝ }
     ensures { λ r. ⌜ 0 < r ⌝ }
-    ensures { λ r. ⌜ getD indices 3 0 + r ≤ 512 ⌝ }
-    ensures { λ r. ⌜ ((l : ℕ) → l < 3 → getD above l 0 ≡ t → Off (getD indices l 0) (getD indices 3 0) r) ⌝ }
+    ensures { λ r. ⌜ getD indices aboveLast 0 + r ≤ 512 ⌝ }
+    ensures { λ r. ⌜ ((l : ℕ) → l < aboveLast → getD above l 0 ≡ t → Off (getD indices l 0) (getD indices aboveLast 0) r) ⌝ }
 {
     let from = indices[3];
     let mut end = 512;
@@ -60,7 +61,7 @@ fn leaves_apart(above: [u64; 3], indices: [usize; 4], t: u64) -> u64
 
 // What there is at page `virt`.
 pub fn find_span(words: &[u64], start: u64, total: u64, root: Frame, virt: VirtAddr) -> Span
-    requires { ⌜ Lent (now words) start total ⌝ }
+    requires { ⌜ WordsLent (now words) start total ⌝ }
     ensures { λ r. ⌜ IsSpan (now (words .entry)) start total (root .0) (virt .0) r ⌝ }
 {
     let indices = entry::page_indices(virt);
@@ -69,8 +70,8 @@ pub fn find_span(words: &[u64], start: u64, total: u64, root: Frame, virt: VirtA
     for level in 0..3 {
         above[level] = t;
         match walk::entry_at(words, start, total, t, indices[level]) {
-            Walked::Stop(_) => return Span::Gap(to_end(virt, 3 - level as u64)),
-            Walked::At(e) => {
+            Outcome::Stop(_) => return Span::Gap(to_end(virt, 3 - level as u64)),
+            Outcome::Value(e) => {
                 t = PageTableEntry(e).addr().0 >> 12;
             }
         }

@@ -15,26 +15,26 @@ use Rattle.allocator.specs.Round.{roundUp}
 use Rattle.entry.specs.Entry.{entryOf, hugeEntryOf}
 use Rattle.entry.proofs.Entry.{indices-lt}
 use Rattle.frame.specs.Frames.{withMark}
-use Rattle.paging.specs.declared.Walked.{Walked}
-use Rattle.paging.specs.declared.Walked.the-variants.{At, Stop}
+use Rattle.answer.specs.declared.Outcome.{Outcome}
+use Rattle.answer.specs.declared.Outcome.the-variants.{Value, Stop}
 use Rattle.paging.specs.declared.HugePageSize.{HugePageSize}
-use Rattle.paging.specs.Walk.{lent}
-use Rattle.paging.specs.Map.{Memory, totalOf, startOf, Out, Left}
+use Rattle.paging.specs.Walk.{mayWalk}
+use Rattle.paging.specs.Map.{Memory, totalOf, startFrame, Out, Left}
 use Rattle.paging.specs.Calls.{whole, sizeOf, tablesAbove, mapPage, mapHuge, unmapPage}
 use Rattle.paging.proofs.Past.{Past, past-same, past-clear, past-unmap, Stays, stays-same, stays-then, stays-words, stays-map-at, stays-map-pages, stays-clear-pages, stays-free-pages}
 use Rattle.vmalloc.specs.Calls.{Kernel, kernelPages, vmalloc, vfree}
-use Rattle.vmalloc.specs.Calls.{Did as KernelDid, mapped as mappedKernel}
+use Rattle.vmalloc.specs.Calls.{KernelDid, kernelMapped}
 use Rattle.vmalloc.proofs.Calls.{vmalloc-cases, vfree-cases}
-use Rattle.mmap.specs.declared.Wish.{Wish}
-use Rattle.mmap.specs.Regions.{writable}
+use Rattle.mmap.specs.declared.OptAddr.{OptAddr}
+use Rattle.mmap.specs.Flags.{writable}
 use Rattle.mmap.specs.Calls.{User, userPages, mmap, munmap}
-use Rattle.mmap.specs.Calls.{Did as UserDid, mapped as mappedUser}
+use Rattle.mmap.specs.Calls.{UserDid, userMapped}
 use Rattle.mmap.proofs.Calls.{mmap-cases, munmap-cases}
-use Rattle.board.specs.Board.{Board, Did, start}
+use Rattle.board.specs.Board.{Board, BoardDid, start}
 use Rattle.board.proofs.Outcomes.{start-cases}
-use Rattle.release.specs.Calls.{Call, vmallocs, vfrees, mmaps, munmaps}
+use Rattle.release.specs.Calls.{Call, vmallocCall, vfreeCall, mmapCall, munmapCall}
 use Rattle.release.specs.Calls.{play as playRegions}
-use Rattle.trace.specs.Trace.{play, regions, protects, faults, secondFaults, marksCow, unmarksCow, asksCow, mapsPage, mapsHuge, unmapsPage, translates, asksUser, allocates, deallocates, marksFrame, asksFrame, countsFree, countsAllocated, countsTotal, inits, starts}
+use Rattle.trace.specs.Trace.{play, regionCall, mprotectCall, faultCall, secondFaultCall, markCowCall, unmarkCowCall, isCowCall, mapPageCall, mapHugeCall, unmapPageCall, translateCall, userMayCall, allocateCall, deallocateCall, markAllocatedCall, isAllocatedCall, freeFramesCall, allocatedFramesCall, totalFramesCall, initCall, startCall}
 use Rattle.trace.specs.Untouched.{Untouched, NoneTouched}
 use Rattle.trace.proofs.Faults.{stays-fault, stays-second}
 
@@ -55,7 +55,7 @@ stays-map-huge up m root v p s w u =
 past-unmap-page : (up : ℕ) (ws : List ℕ) (start total root v : ℕ) → Past (total * 512) ws (unmapPage up ws start total root v .words)
 unfolding unmapPage
 past-unmap-page up ws start total root v =
-    pick-cases (λ (l : Left). Past (total * 512) ws (l .words)) (lent (length ws) start total root) _ _
+    pick-cases (λ (l : Left). Past (total * 512) ws (l .words)) (mayWalk (length ws) start total root) _ _
     (λ _. past-unmap ws start total root _ _ (indices-lt (suc up) v up)) (λ _. past-same _ ws)
 
 -- ---- vmalloc, vfree, mmap and munmap
@@ -66,8 +66,8 @@ stays-vmalloc up k root size =
     (λ _. stays-same (k .mem)) (stays-same (k .mem)) (stays-same (k .mem)) (λ _ _. stays-same (k .mem))
     (λ _ _ _ a _. by a (kernelPages up (k .mem) root a (roundUp 12 size) .walked))
   where
-    by : (a : ℕ) (w : Walked) → Stays (k .mem) (mappedKernel a (roundUp 12 size) (k .regions) w (kernelPages up (k .mem) root a (roundUp 12 size) .mem) .kernel .mem)
-    by a (At x) = stays-map-pages up true false root (roundUp 12 size / 4096) (k .mem) a 0
+    by : (a : ℕ) (w : Outcome) → Stays (k .mem) (kernelMapped a (roundUp 12 size) (k .regions) w (kernelPages up (k .mem) root a (roundUp 12 size) .mem) .kernel .mem)
+    by a (Value x) = stays-map-pages up true false root (roundUp 12 size / 4096) (k .mem) a 0
     by a (Stop e) = stays-map-pages up true false root (roundUp 12 size / 4096) (k .mem) a 0
 
 stays-vfree : (up : ℕ) (k : Kernel) (root a : ℕ) → Stays (k .mem) (vfree up k root a .kernel .mem)
@@ -75,9 +75,9 @@ stays-vfree up k root a =
     vfree-cases up k root a (λ (d : KernelDid). Stays (k .mem) (d .kernel .mem))
     (λ _. stays-same (k .mem)) (λ _ _. stays-same (k .mem)) (λ _ _ n _. stays-free-pages up root (n / 4096) (k .mem) a)
 
-stays-mmap : (up : ℕ) (s : User) (root : ℕ) (wish : Wish) (size : ℕ) (prot flags : ℤ) → Stays (s .mem) (mmap up s root wish size prot flags .user .mem)
-stays-mmap up s root wish size prot flags =
-    mmap-cases up s root wish size prot flags (λ (d : UserDid). Stays (s .mem) (d .user .mem))
+stays-mmap : (up : ℕ) (s : User) (root : ℕ) (hint : OptAddr) (size : ℕ) (prot flags : ℤ) → Stays (s .mem) (mmap up s root hint size prot flags .user .mem)
+stays-mmap up s root hint size prot flags =
+    mmap-cases up s root hint size prot flags (λ (d : UserDid). Stays (s .mem) (d .user .mem))
     (λ _. stays-same (s .mem)) (stays-same (s .mem)) (stays-same (s .mem)) (λ _ _. stays-same (s .mem)) (stays-same (s .mem))
     (λ _ _ _ a _ _. by a (userPages up (s .mem) root a (roundUp 12 size) prot .walked))
   where
@@ -87,9 +87,9 @@ stays-mmap up s root wish size prot flags =
     run : (a : ℕ) → Stays (s .mem) (userPages up (s .mem) root a (roundUp 12 size) prot .mem)
     run a = stays-map-pages up (writable prot) true root (roundUp 12 size / 4096) (s .mem) a 0
 
-    by : (a : ℕ) (w : Walked)
-        → Stays (s .mem) (mappedUser up s root a (roundUp 12 size) prot flags w (done a) (userPages up (s .mem) root a (roundUp 12 size) prot .mem) .user .mem)
-    by a (At x) = run a
+    by : (a : ℕ) (w : Outcome)
+        → Stays (s .mem) (userMapped up s root a (roundUp 12 size) prot flags w (done a) (userPages up (s .mem) root a (roundUp 12 size) prot .mem) .user .mem)
+    by a (Value x) = run a
     by a (Stop e) =
         pick-cases (λ (m : Memory). Stays (s .mem) m) (eqb e mapPageFailed) _ _
         (λ _. stays-then (run a) (stays-clear-pages up root (done a) (userPages up (s .mem) root a (roundUp 12 size) prot .mem) a)) (λ _. run a)
@@ -101,10 +101,10 @@ stays-munmap up s root a size =
 
 stays-regions : (b : Board) (c : Call) → Stays (b .mem) (playRegions b c .board .mem)
 unfolding playRegions
-stays-regions b (vmallocs size) = stays-vmalloc 3 _ (b .root) size
-stays-regions b (vfrees a) = stays-vfree 3 _ (b .root) a
-stays-regions b (mmaps wish size prot flags) = stays-mmap 3 _ (b .root) wish size prot flags
-stays-regions b (munmaps a size) = stays-munmap 3 _ (b .root) a size
+stays-regions b (vmallocCall size) = stays-vmalloc 3 _ (b .root) size
+stays-regions b (vfreeCall a) = stays-vfree 3 _ (b .root) a
+stays-regions b (mmapCall hint size prot flags) = stays-mmap 3 _ (b .root) hint size prot flags
+stays-regions b (munmapCall a size) = stays-munmap 3 _ (b .root) a size
 
 -- ---- the theorem
 
@@ -122,32 +122,32 @@ words-untouched b left e = rw e (record { number = refl; past = λ i l. refl })
 start-untouched : (b : Board) (from to : ℕ) → Untouched b (start b from to .board)
 unfolding withMark
 start-untouched b from to =
-    start-cases b from to (λ (d : Did). Untouched b (d .board))
+    start-cases b from to (λ (d : BoardDid). Untouched b (d .board))
     (λ _ _ some _. let p = past-clear _ (b .mem .words) _ _ (omega arith) in record { number = p .number; past = p .past })
     (words-untouched b b refl) (words-untouched b b refl)
 
 pub none-touched : NoneTouched
-none-touched b (regions c) = stays-untouched b _ (stays-regions b c)
-none-touched b (protects a size prot) = words-untouched b _ refl
-none-touched b (faults a code) = stays-untouched b _ (stays-fault 3 _ (b .root) a code)
-none-touched b (secondFaults a code) = stays-untouched b _ (stays-second 3 (b .mem) (b .root) a code)
-none-touched b (marksCow a) = words-untouched b _ refl
-none-touched b (unmarksCow a) = words-untouched b _ refl
-none-touched b (asksCow a) = words-untouched b _ refl
-none-touched b (mapsPage v p w u) = stays-untouched b _ (stays-map-page 3 (b .mem) (b .root) v p w u)
-none-touched b (mapsHuge v p size w u) = stays-untouched b _ (stays-map-huge 3 (b .mem) (b .root) v p size w u)
-none-touched b (unmapsPage v) =
-    let left = play b (unmapsPage v) .board in
-    let p : Past (totalOf (b .mem) * 512) (b .mem .words) (left .mem .words) = past-unmap-page 3 (b .mem .words) (startOf (b .mem)) _ (b .root) v in
+none-touched b (regionCall c) = stays-untouched b _ (stays-regions b c)
+none-touched b (mprotectCall a size prot) = words-untouched b _ refl
+none-touched b (faultCall a code) = stays-untouched b _ (stays-fault 3 _ (b .root) a code)
+none-touched b (secondFaultCall a code) = stays-untouched b _ (stays-second 3 (b .mem) (b .root) a code)
+none-touched b (markCowCall a) = words-untouched b _ refl
+none-touched b (unmarkCowCall a) = words-untouched b _ refl
+none-touched b (isCowCall a) = words-untouched b _ refl
+none-touched b (mapPageCall v p w u) = stays-untouched b _ (stays-map-page 3 (b .mem) (b .root) v p w u)
+none-touched b (mapHugeCall v p size w u) = stays-untouched b _ (stays-map-huge 3 (b .mem) (b .root) v p size w u)
+none-touched b (unmapPageCall v) =
+    let left = play b (unmapPageCall v) .board in
+    let p : Past (totalOf (b .mem) * 512) (b .mem .words) (left .mem .words) = past-unmap-page 3 (b .mem .words) (startFrame (b .mem)) _ (b .root) v in
     stays-untouched b left (stays-words (b .mem) _ p)
-none-touched b (translates v) = words-untouched b _ refl
-none-touched b (asksUser v write) = words-untouched b _ refl
-none-touched b allocates = words-untouched b _ refl
-none-touched b (deallocates n) = words-untouched b _ refl
-none-touched b (marksFrame n) = words-untouched b _ refl
-none-touched b (asksFrame n) = words-untouched b _ refl
-none-touched b countsFree = words-untouched b _ refl
-none-touched b countsAllocated = words-untouched b _ refl
-none-touched b countsTotal = words-untouched b _ refl
-none-touched b (inits from to) = words-untouched b _ refl
-none-touched b (starts from to) = start-untouched b from to
+none-touched b (translateCall v) = words-untouched b _ refl
+none-touched b (userMayCall v write) = words-untouched b _ refl
+none-touched b allocateCall = words-untouched b _ refl
+none-touched b (deallocateCall n) = words-untouched b _ refl
+none-touched b (markAllocatedCall n) = words-untouched b _ refl
+none-touched b (isAllocatedCall n) = words-untouched b _ refl
+none-touched b freeFramesCall = words-untouched b _ refl
+none-touched b allocatedFramesCall = words-untouched b _ refl
+none-touched b totalFramesCall = words-untouched b _ refl
+none-touched b (initCall from to) = words-untouched b _ refl
+none-touched b (startCall from to) = start-untouched b from to

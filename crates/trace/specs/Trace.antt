@@ -6,46 +6,47 @@ use lib.IntN.{ℤ}
 use Rattle.answer.specs.declared.Line.{Line}
 use Rattle.answer.specs.declared.Answer.{Answer}
 use Rattle.answer.specs.Numbers.{answerLine, countLine, flagLine}
-use Rattle.address.specs.Address.{virtLine, physLine, frameLine}
+use Rattle.answer.specs.Outcomes.{asAnswer}
+use Rattle.address.specs.Address.{virtLine, physLine, frameLine, asFrame, asPhys, asVirt}
 use Rattle.frame.specs.Frames.{Frames, init, allocate, deallocate, markAllocated, isAllocated, freeFrames, allocatedFrames, totalFrames}
-use Rattle.frame.specs.Frames.{Did as FramesDid}
-use Rattle.paging.specs.declared.Walked.{Walked}
+use Rattle.frame.specs.Frames.{FramesDid}
+use Rattle.answer.specs.declared.Outcome.{Outcome}
 use Rattle.paging.specs.declared.HugePageSize.{HugePageSize}
-use Rattle.paging.specs.Map.{Memory, memory, startOf, totalOf, Out, Left}
-use Rattle.paging.specs.Calls.{asAnswer, asPhys, asFrame, translate, userMay, mapPage, mapHuge, unmapPage}
+use Rattle.paging.specs.Map.{Memory, memory, startFrame, totalOf, Out, Left}
+use Rattle.paging.specs.Calls.{translate, userMay, mapPage, mapHuge, unmapPage}
+use Rattle.paging.specs.Levels.{aboveLast, levels}
 use Rattle.slots.specs.Slots.{Slots}
-use Rattle.vmalloc.specs.Results.{asVirt}
 use Rattle.mmap.specs.Calls.{mprotect}
-use Rattle.cow.specs.Marked.{DidMark, markCow, unmarkCow, isCow}
+use Rattle.cow.specs.Marked.{MarkedDid, markCow, unmarkCow, isCow}
 use Rattle.fault.specs.Faults.{Faulting, faulting, handleFault}
-use Rattle.fault.specs.Faults.{Did as FaultDid}
+use Rattle.fault.specs.Faults.{FaultDid}
 use Rattle.handler.specs.Handler.{handleFaultSecond}
-use Rattle.board.specs.Board.{Board, Did, start}
-use Rattle.release.specs.Calls.{Call, vmallocs, vfrees, mmaps, munmaps}
+use Rattle.board.specs.Board.{Board, BoardDid, start}
+use Rattle.release.specs.Calls.{Call, vmallocCall, vfreeCall, mmapCall, munmapCall}
 use Rattle.release.specs.Calls.{play as playRegions}
 
 pub data AnyCall : Type 0 where
   -- vmalloc, vfree, mmap and munmap
-  regions : Call → AnyCall
+  regionCall : Call → AnyCall
   -- mprotect: address, size, prot
-  protects : ℕ → ℕ → ℤ → AnyCall
+  mprotectCall : ℕ → ℕ → ℤ → AnyCall
   -- both fault paths: address, error code
-  faults secondFaults : ℕ → ℕ → AnyCall
+  faultCall secondFaultCall : ℕ → ℕ → AnyCall
   -- mark, unmark, is copy-on-write: address
-  marksCow unmarksCow asksCow : ℕ → AnyCall
+  markCowCall unmarkCowCall isCowCall : ℕ → AnyCall
   -- map_page and map_huge_page: virtual and physical address, (size,) writable, user
-  mapsPage : ℕ → ℕ → Bool → Bool → AnyCall
-  mapsHuge : ℕ → ℕ → HugePageSize → Bool → Bool → AnyCall
+  mapPageCall : ℕ → ℕ → Bool → Bool → AnyCall
+  mapHugeCall : ℕ → ℕ → HugePageSize → Bool → Bool → AnyCall
   -- unmap_page and translate: address
-  unmapsPage translates : ℕ → AnyCall
+  unmapPageCall translateCall : ℕ → AnyCall
   -- may user code read an address, or write it?
-  asksUser : ℕ → Bool → AnyCall
+  userMayCall : ℕ → Bool → AnyCall
   -- the frame allocator's: a frame's number, or none
-  allocates : AnyCall
-  deallocates marksFrame asksFrame : ℕ → AnyCall
-  countsFree countsAllocated countsTotal : AnyCall
+  allocateCall : AnyCall
+  deallocateCall markAllocatedCall isAllocatedCall : ℕ → AnyCall
+  freeFramesCall allocatedFramesCall totalFramesCall : AnyCall
   -- `FrameAllocator::init` and the board's start: first and last address
-  inits starts : ℕ → ℕ → AnyCall
+  initCall startCall : ℕ → ℕ → AnyCall
 
 -- what a call prints, and the board that it leaves
 pub record Played : Type 0 where
@@ -69,14 +70,14 @@ abbrev pub withFaulting : Board → Faulting → Board
 withFaulting b f = record { mem = f .mem; root = b .root; kernel = b .kernel; user = b .user; next = b .next; marked = f .marked }
 
 -- vmalloc and mmap answer an address, vfree and munmap none
-abbrev pub regionsLine : Call → Walked → Line
-regionsLine (vmallocs size) w = virtLine (asVirt w)
-regionsLine (vfrees a) w = answerLine (asAnswer w)
-regionsLine (mmaps wish size prot flags) w = virtLine (asVirt w)
-regionsLine (munmaps a size) w = answerLine (asAnswer w)
+abbrev pub regionsLine : Call → Outcome → Line
+regionsLine (vmallocCall size) w = virtLine (asVirt w)
+regionsLine (vfreeCall a) w = answerLine (asAnswer w)
+regionsLine (mmapCall hint size prot flags) w = virtLine (asVirt w)
+regionsLine (munmapCall a size) w = answerLine (asAnswer w)
 
 -- what the result of each kind of call comes to
-abbrev pub byRegions : Call → Did → Played
+abbrev pub byRegions : Call → BoardDid → Played
 byRegions c d = played (regionsLine c (d .answer)) (d .board)
 
 abbrev pub byFault : Board → FaultDid → Played
@@ -88,35 +89,35 @@ byStep b o = played (answerLine (asAnswer (o .walked))) (withMemory b (o .mem))
 abbrev pub byUnmap : Board → Left → Played
 byUnmap b l = played (frameLine (asFrame (l .walked))) (withMemory b (memory (l .words) (b .mem .frames)))
 
-abbrev pub byMark : Board → DidMark → Played
+abbrev pub byMark : Board → MarkedDid → Played
 byMark b d = played (answerLine (d .answer)) (withMarked b (d .marked))
 
 abbrev pub byFrames : Board → FramesDid Answer → Played
 byFrames b d = played (answerLine (d .answer)) (withFrames b (d .frames))
 
-abbrev pub byStart : Did → Played
+abbrev pub byStart : BoardDid → Played
 byStart d = played (answerLine (asAnswer (d .answer))) (d .board)
 
 -- a call on a board of four levels
 abbrev pub play : Board → AnyCall → Played
-play b (regions c) = byRegions c (playRegions b c)
-play b (protects a size prot) = played (answerLine (asAnswer mprotect)) b
-play b (faults a code) = byFault b (handleFault 3 (faulting (b .mem) (b .marked)) (b .root) a code)
-play b (secondFaults a code) = byStep b (handleFaultSecond 3 (b .mem) (b .root) a code)
-play b (marksCow a) = byMark b (markCow (b .marked) a)
-play b (unmarksCow a) = byMark b (unmarkCow (b .marked) a)
-play b (asksCow a) = played (flagLine (isCow (b .marked) a)) b
-play b (mapsPage v p w u) = byStep b (mapPage 3 (b .mem) (b .root) v p w u)
-play b (mapsHuge v p size w u) = byStep b (mapHuge 3 (b .mem) (b .root) v p size w u)
-play b (unmapsPage v) = byUnmap b (unmapPage 3 (b .mem .words) (startOf (b .mem)) (totalOf (b .mem)) (b .root) v)
-play b (translates v) = played (physLine (asPhys (translate 3 (b .mem .words) (startOf (b .mem)) (totalOf (b .mem)) (b .root) v))) b
-play b (asksUser v write) = played (flagLine (userMay 3 (b .mem .words) (startOf (b .mem)) (totalOf (b .mem)) (b .root) v write)) b
-play b allocates = let d = allocate (b .mem .frames) in played (frameLine (d .answer)) (withFrames b (d .frames))
-play b (deallocates n) = byFrames b (deallocate (b .mem .frames) n)
-play b (marksFrame n) = byFrames b (markAllocated (b .mem .frames) n)
-play b (asksFrame n) = played (flagLine (isAllocated (b .mem .frames) n)) b
-play b countsFree = played (countLine (freeFrames (b .mem .frames))) b
-play b countsAllocated = played (countLine (allocatedFrames (b .mem .frames))) b
-play b countsTotal = played (countLine (totalFrames (b .mem .frames))) b
-play b (inits from to) = byFrames b (init (b .mem .frames) from to)
-play b (starts from to) = byStart (start b from to)
+play b (regionCall c) = byRegions c (playRegions b c)
+play b (mprotectCall a size prot) = played (answerLine (asAnswer mprotect)) b
+play b (faultCall a code) = byFault b (handleFault aboveLast (faulting (b .mem) (b .marked)) (b .root) a code)
+play b (secondFaultCall a code) = byStep b (handleFaultSecond aboveLast (b .mem) (b .root) a code)
+play b (markCowCall a) = byMark b (markCow (b .marked) a)
+play b (unmarkCowCall a) = byMark b (unmarkCow (b .marked) a)
+play b (isCowCall a) = played (flagLine (isCow (b .marked) a)) b
+play b (mapPageCall v p w u) = byStep b (mapPage aboveLast (b .mem) (b .root) v p w u)
+play b (mapHugeCall v p size w u) = byStep b (mapHuge aboveLast (b .mem) (b .root) v p size w u)
+play b (unmapPageCall v) = byUnmap b (unmapPage aboveLast (b .mem .words) (startFrame (b .mem)) (totalOf (b .mem)) (b .root) v)
+play b (translateCall v) = played (physLine (asPhys (translate aboveLast (b .mem .words) (startFrame (b .mem)) (totalOf (b .mem)) (b .root) v))) b
+play b (userMayCall v write) = played (flagLine (userMay aboveLast (b .mem .words) (startFrame (b .mem)) (totalOf (b .mem)) (b .root) v write)) b
+play b allocateCall = let d = allocate (b .mem .frames) in played (frameLine (d .answer)) (withFrames b (d .frames))
+play b (deallocateCall n) = byFrames b (deallocate (b .mem .frames) n)
+play b (markAllocatedCall n) = byFrames b (markAllocated (b .mem .frames) n)
+play b (isAllocatedCall n) = played (flagLine (isAllocated (b .mem .frames) n)) b
+play b freeFramesCall = played (countLine (freeFrames (b .mem .frames))) b
+play b allocatedFramesCall = played (countLine (allocatedFrames (b .mem .frames))) b
+play b totalFramesCall = played (countLine (totalFrames (b .mem .frames))) b
+play b (initCall from to) = byFrames b (init (b .mem .frames) from to)
+play b (startCall from to) = byStart (start b from to)

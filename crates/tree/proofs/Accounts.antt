@@ -9,8 +9,8 @@ use native.Mathlib.Omega.{arith}
 use native.Mathlib.Decide.{ℕ-discrete}
 use lib.ListN.{length}
 use Rattle.bitmap.proofs.Marks.{marked-cases}
-use Rattle.paging.specs.declared.Walked.the-variants.{At}
-use Rattle.paging.specs.Map.{Memory, startOf}
+use Rattle.answer.specs.declared.Outcome.the-variants.{Value}
+use Rattle.paging.specs.Map.{Memory, startFrame}
 use Rattle.tree.proofs.Paths.{leads-length, same-path, length-path, length-upper}
 use Rattle.tree.proofs.Walks.{nowhere}
 use Rattle.tree.proofs.Ordered.{reachIn, insideIn, markIn, Ordered}
@@ -22,7 +22,7 @@ use Rattle.tree.proofs.Taken.{Took, Lost}
 pub record Reached (m : Memory) (root n f : ℕ) : Type 0 where
   pub path : List ℕ
   pub short : length path ≤ n
-  pub comes : reachIn m root path ≡ At f
+  pub comes : reachIn m root path ≡ Value f
 
 -- every marked frame is reached, is lost, or is one of Held; the lost are marked, reached by nothing, and listed once
 pub record Account (m : Memory) (root n : ℕ) (lost : List ℕ) (Held : ℕ → Type 0) : Type 0 where
@@ -30,7 +30,7 @@ pub record Account (m : Memory) (root n : ℕ) (lost : List ℕ) (Held : ℕ →
   pub found : (f : ℕ) → insideIn m f ≡ true → markIn m f ≡ 1 → Reached m root n f ⊎ List·Memᴰ f lost ⊎ Held f
   pub lent : (f : ℕ) → List·Memᴰ f lost → insideIn m f ≡ true
   pub mine : (f : ℕ) → List·Memᴰ f lost → markIn m f ≡ 1
-  pub away : (f : ℕ) → List·Memᴰ f lost → (p : List ℕ) → length p ≤ n → reachIn m root p ≡ At f → ⊥
+  pub away : (f : ℕ) → List·Memᴰ f lost → (p : List ℕ) → length p ≤ n → reachIn m root p ≡ Value f → ⊥
   pub once : List·Nodup lost
 
 -- the account between steps: no frame is in hand
@@ -53,14 +53,14 @@ module _ {m : Memory} {root n : ℕ} {lost : List ℕ} {f : ℕ} (c : Account m 
   }
 
   -- it is lost
-  pub hand-lost : insideIn m f ≡ true → markIn m f ≡ 1 → ((p : List ℕ) → length p ≤ n → reachIn m root p ≡ At f → ⊥) → (List·Memᴰ f lost → ⊥)
+  pub hand-lost : insideIn m f ≡ true → markIn m f ≡ 1 → ((p : List ℕ) → length p ≤ n → reachIn m root p ≡ Value f → ⊥) → (List·Memᴰ f lost → ⊥)
       → Accounted m root n (f ∷ lost)
   hand-lost ins mark off new = record {
     order = c .order;
     found = λ g a b. ⊎-elim (λ x. inl x) (⊎-elim (λ x. inr (inl (List·Memᴰ·tail x))) (λ e. inr (inl (List·Memᴰ·head e)))) (c .found g a b);
     lent = λ g x. ⊎-elim (λ e. rw e ins) (c .lent g) (List·Memᴰ·cases-cons x);
     mine = λ g x. ⊎-elim (λ e. rw e mark) (c .mine g) (List·Memᴰ·cases-cons x);
-    away = λ g x p lp h. ⊎-elim (λ e. off p lp (h ∙ ap At e)) (λ y. c .away g y p lp h) (List·Memᴰ·cases-cons x);
+    away = λ g x p lp h. ⊎-elim (λ e. off p lp (h ∙ ap Value e)) (λ y. c .away g y p lp h) (List·Memᴰ·cases-cons x);
     once = nodup-cons .1 (λ x. ∥∥₁-elim x ⊥-prop new, c .once);
   }
 
@@ -78,7 +78,7 @@ module _ {m : Memory} {root n : ℕ} {lost : List ℕ} (c : Accounted m root n l
   pub grew-account : {m′ : Memory} {w : List ℕ} {Held : ℕ → Type 0} → length w ≤ n → Grew m m′ root n w (Free m) Held → Account m′ root n lost Held
   grew-account {m′} {w} {Held} lw g = record {
     order = g .order;
-    found = λ f ins mark. by f (rw (g .start, g .total) at ins) mark (marked-cases (m .frames .bits) (f - startOf m));
+    found = λ f ins mark. by f (rw (g .start, g .total) at ins) mark (marked-cases (m .frames .bits) (f - startFrame m));
     lent = λ f x. rw (g .start, g .total) (c .lent f x);
     mine = λ f x. g .more f (c .mine f x);
     away = λ f x p lp h. ⊎-elim (λ a. c .away f x p lp a) (λ a. omega (arith, a .1, c .mine f x)) (g .grew p f lp h);
@@ -103,13 +103,13 @@ module _ {m : Memory} {root n : ℕ} {lost : List ℕ} (c : Accounted m root n l
     once = c .once;
   }
     where
-      off : (g : ℕ) → List·Memᴰ g lost → (p : List ℕ) → length p ≤ n → reachIn m′ root p ≡ At g → Dec (p ≡ w) → ⊥
+      off : (g : ℕ) → List·Memᴰ g lost → (p : List ℕ) → length p ≤ n → reachIn m′ root p ≡ Value g → Dec (p ≡ w) → ⊥
       off g x p lp h (yes e) = nowhere (sym (d .gone) ∙ ap (reachIn m′ root) (sym e) ∙ h)
       off g x p lp h (no e) = c .away g x p lp (sym (d .rest p lp e) ∙ h)
 
       other : (g : ℕ) → (g ≡ f → ⊥) → (b : Reached m root n g) → b .path ≡ w → ⊥
       other g e b k =
-          let z : reachIn m root w ≡ At g = subst (λ (p : List ℕ). reachIn m root p ≡ At g) k (b .comes) in
+          let z : reachIn m root w ≡ Value g = subst (λ (p : List ℕ). reachIn m root p ≡ Value g) k (b .comes) in
           let y = d .was in
           e (cc)
 

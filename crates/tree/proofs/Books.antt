@@ -13,7 +13,7 @@ use native.Mathlib.Omega.{arith}
 use native.Mathlib.Decide.{ℕ-discrete}
 use lib.ListN.{length}
 use Rattle.answer.specs.Numbers.{notMapped}
-use Rattle.paging.specs.declared.Walked.the-variants.{At, Stop}
+use Rattle.answer.specs.declared.Outcome.the-variants.{Value, Stop}
 use Rattle.paging.specs.Map.{Memory}
 use Rattle.tree.proofs.Paths.{Leads, leads-trans, leads-length, take-leads, path, upper, length-path, length-upper}
 use Rattle.tree.proofs.Walks.{nowhere}
@@ -55,8 +55,8 @@ perm-member (List·Permᴰ·trans d d′) i = perm-member d′ (perm-member d i)
 
 -- the pages that are reached are those at the addresses of l, each once
 pub record Live (m : Memory) (root up : ℕ) (l : List ℕ) : Type 0 where
-  pub here : (v : ℕ) → List·Memᴰ v l → (f : ℕ) × (reachIn m root (path up v) ≡ At f)
-  pub only : (p : List ℕ) (f : ℕ) → length p ≡ suc up → reachIn m root p ≡ At f → (v : ℕ) × List·Memᴰ v l × (p ≡ path up v)
+  pub here : (v : ℕ) → List·Memᴰ v l → (f : ℕ) × (reachIn m root (path up v) ≡ Value f)
+  pub only : (p : List ℕ) (f : ℕ) → length p ≡ suc up → reachIn m root p ≡ Value f → (v : ℕ) × List·Memᴰ v l × (p ≡ path up v)
   pub apart : Pairwise (λ (v v′ : ℕ). path up v ≡ path up v′ → ⊥) l
 
 -- the list in another order
@@ -99,8 +99,8 @@ cut-live {m} {m′} {root} {up} {v} {f} {l} c a = record {
 
 -- the tables below the root are those on the ways to the pages at the addresses of l
 pub record Tabled (m : Memory) (root up : ℕ) (l : List ℕ) : Type 0 where
-  pub runs : (v : ℕ) → List·Memᴰ v l → (p : List ℕ) → Leads p (upper up v) → (t : ℕ) × (reachIn m root p ≡ At t)
-  pub tables : (p : List ℕ) (t : ℕ) → 1 ≤ length p → length p ≤ up → reachIn m root p ≡ At t → (v : ℕ) × List·Memᴰ v l × Leads p (upper up v)
+  pub runs : (v : ℕ) → List·Memᴰ v l → (p : List ℕ) → Leads p (upper up v) → (t : ℕ) × (reachIn m root p ≡ Value t)
+  pub tables : (p : List ℕ) (t : ℕ) → 1 ≤ length p → length p ≤ up → reachIn m root p ≡ Value t → (v : ℕ) × List·Memᴰ v l × Leads p (upper up v)
 
 pub tabled-perm : {m : Memory} {root up : ℕ} {l k : List ℕ} → List·Permᴰ l k → Tabled m root up l → Tabled m root up k
 tabled-perm r a = record {
@@ -135,7 +135,7 @@ cut-tabled {m} {m′} {root} {up} lw c a = record {
 -- ---- at the start, and once every page is cut
 
 -- where only the root is reached there are no pages and no tables
-module _ {m : Memory} {root up : ℕ} (only : (p : List ℕ) (f : ℕ) → reachIn m root p ≡ At f → p ≡ []) where
+module _ {m : Memory} {root up : ℕ} (only : (p : List ℕ) (f : ℕ) → reachIn m root p ≡ Value f → p ≡ []) where
   pub bare-live : Live m root up []
   bare-live = record {
     here = λ v i. absurd (List·Memᴰ·not-nil i);
@@ -150,7 +150,7 @@ module _ {m : Memory} {root up : ℕ} (only : (p : List ℕ) (f : ℕ) → reach
   }
 
 module _ {m : Memory} {root up : ℕ} (a : Live m root up []) where
-  no-page : (p : List ℕ) (f : ℕ) → length p ≡ suc up → reachIn m root p ≡ At f → ⊥
+  no-page : (p : List ℕ) (f : ℕ) → length p ≡ suc up → reachIn m root p ≡ Value f → ⊥
   no-page p f lp h = List·Memᴰ·not-nil (a .only p f lp h .1)
 
   -- no address translates

@@ -8,8 +8,8 @@ use lib.ListN.{length}
 use Rattle.bitmap.specs.Bitmap.{marked, unmark, count}
 use Rattle.bitmap.proofs.Marks.{not-marked, unmark-own, unmark-other, count-none, count-unmark}
 use Rattle.frame.proofs.Laws.{inside-yes, inside-from, inside-under}
-use Rattle.paging.specs.declared.Walked.the-variants.{At}
-use Rattle.paging.specs.Map.{Memory, startOf, totalOf}
+use Rattle.answer.specs.declared.Outcome.the-variants.{Value}
+use Rattle.paging.specs.Map.{Memory, startFrame, totalOf}
 use Rattle.tree.proofs.Ordered.{reachIn}
 use Rattle.tree.proofs.Accounts.{Accounted}
 
@@ -34,30 +34,30 @@ module _ {A : Type 0} (Has : A → ℕ → Type 0) (one : (x : A) (j k : ℕ) �
 
 -- a list of paths, each once, that are just those reached
 pub counter-paths : {m : Memory} {root n : ℕ} → Accounted m root n [] → (l : List (List ℕ)) → List·Nodup l
-    → ((p : List ℕ) → List·Memᴰ p l → (f : ℕ) × (length p ≤ n) × (reachIn m root p ≡ At f))
-    → ((p : List ℕ) (f : ℕ) → length p ≤ n → reachIn m root p ≡ At f → List·Memᴰ p l) → m .frames .fa .allocated ≡ length l
+    → ((p : List ℕ) → List·Memᴰ p l → (f : ℕ) × (length p ≤ n) × (reachIn m root p ≡ Value f))
+    → ((p : List ℕ) (f : ℕ) → length p ≤ n → reachIn m root p ≡ Value f → List·Memᴰ p l) → m .frames .fa .allocated ≡ length l
 counter-paths {m} {root} {n} c l d each all =
     c .order .counted
-    ∙ count-each Has (λ p j k a b. let x = a .1 in let y = b .1 in at-one p j k x y) (λ p q j a b. c .order .tree .once p q (startOf m + j) (a .0) (b .0) (a .1) (b .1))
+    ∙ count-each Has (λ p j k a b. let x = a .1 in let y = b .1 in at-one p j k x y) (λ p q j a b. c .order .tree .once p q (startFrame m + j) (a .0) (b .0) (a .1) (b .1))
     (totalOf m) l (m .frames .bits) d there found
   where
     Has : List ℕ → ℕ → Type 0
-    Has p j = (length p ≤ n) × (reachIn m root p ≡ At (startOf m + j))
+    Has p j = (length p ≤ n) × (reachIn m root p ≡ Value (startFrame m + j))
 
-    at-one : (p : List ℕ) (j k : ℕ) → reachIn m root p ≡ At (startOf m + j) → reachIn m root p ≡ At (startOf m + k) → j ≡ k
-    at-one p j k x y = let e : startOf m + j ≡ startOf m + k = cc in omega arith
+    at-one : (p : List ℕ) (j k : ℕ) → reachIn m root p ≡ Value (startFrame m + j) → reachIn m root p ≡ Value (startFrame m + k) → j ≡ k
+    at-one p j k x y = let e : startFrame m + j ≡ startFrame m + k = cc in omega arith
 
     there : (p : List ℕ) → List·Memᴰ p l → (j : ℕ) × Has p j × (j < totalOf m) × (marked (m .frames .bits) j ≡ 1)
     there p i =
         let b = each p i in
         let f = b .0 in
         let ins = c .order .tree .into p f (b .1) (b .2) in
-        let e : f ≡ startOf m + (f - startOf m) = omega (arith, inside-from (startOf m) (totalOf m) f ins) in
-        (f - startOf m, (b .1, b .2 ∙ ap At e), inside-under (startOf m) (totalOf m) f ins, c .order .tree .kept p f (b .1) (b .2))
+        let e : f ≡ startFrame m + (f - startFrame m) = omega (arith, inside-from (startFrame m) (totalOf m) f ins) in
+        (f - startFrame m, (b .1, b .2 ∙ ap Value e), inside-under (startFrame m) (totalOf m) f ins, c .order .tree .kept p f (b .1) (b .2))
 
     found : (j : ℕ) → j < totalOf m → marked (m .frames .bits) j ≡ 1 → (p : List ℕ) × List·Memᴰ p l × Has p j
     found j lt mark =
-        let back : startOf m + j - startOf m ≡ j = omega arith in
-        ⊎-elim (λ r. (r .path, all (r .path) (startOf m + j) (r .short) (r .comes), (r .short, r .comes)))
+        let back : startFrame m + j - startFrame m ≡ j = omega arith in
+        ⊎-elim (λ r. (r .path, all (r .path) (startFrame m + j) (r .short) (r .comes), (r .short, r .comes)))
         (⊎-elim (λ i. absurd (List·Memᴰ·not-nil i)) (λ z. absurd z))
-        (c .found (startOf m + j) (inside-yes (startOf m) (totalOf m) (startOf m + j) (omega arith) (omega arith)) (ap (marked (m .frames .bits)) back ∙ mark))
+        (c .found (startFrame m + j) (inside-yes (startFrame m) (totalOf m) (startFrame m + j) (omega arith) (omega arith)) (ap (marked (m .frames .bits)) back ∙ mark))

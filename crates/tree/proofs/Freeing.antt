@@ -8,12 +8,12 @@ use lib.Seq.{set-comm}
 use Rattle.answer.specs.Numbers.{notMapped}
 use Rattle.bitmap.proofs.Marks.{is-marked, unmark-comm}
 use Rattle.frame.specs.declared.Found.the-variants.{Freed}
-use Rattle.frame.specs.Frames.{Did, withoutMark, giveFrame}
+use Rattle.frame.specs.Frames.{FramesDid, withoutMark, giveFrame, withCounter}
 use Rattle.frame.proofs.Laws.{inside-from, give-marked}
-use Rattle.paging.specs.declared.Walked.{Walked}
-use Rattle.paging.specs.declared.Walked.the-variants.{At, Stop}
+use Rattle.answer.specs.declared.Outcome.{Outcome}
+use Rattle.answer.specs.declared.Outcome.the-variants.{Value, Stop}
 use Rattle.paging.specs.Walk.{place}
-use Rattle.paging.specs.Map.{Memory, memory, startOf, totalOf, Left, left, unmapEntry}
+use Rattle.paging.specs.Map.{Memory, memory, startFrame, totalOf, Left, left, unmapEntry}
 use Rattle.paging.specs.Pages.{unmapLeaf, clearPage, freePage}
 use Rattle.paging.specs.Pages.{freed as freedOf}
 use Rattle.tree.proofs.Paths.{path, upper, last, length-path, length-upper, last-small, path-split, take-leads, same-path}
@@ -30,7 +30,7 @@ use Rattle.tree.proofs.Books.{Live, Tabled, cut-live, cut-tabled}
 module _ (up : ℕ) (m : Memory) (root v a : ℕ) (h : reachIn m root (path up v) ≡ Stop a) where
   no-leaf : (b : ℕ) × (unmapLeaf up m root v ≡ left (Stop b) (m .words))
   no-leaf =
-      unmap-none (m .words) (startOf m) (totalOf m) root (upper up v) (last up v) a (last-small up v)
+      unmap-none (m .words) (startFrame m) (totalOf m) root (upper up v) (last up v) a (last-small up v)
       (ap (reachIn m root) (path-split up v) ∙ h)
 
   -- nothing is done
@@ -45,27 +45,27 @@ module _ (up : ℕ) (m : Memory) (root v a : ℕ) (h : reachIn m root (path up v
 -- ---- a page that is reached
 
 -- the last table on the way to it
-pub way-to : (up : ℕ) (m : Memory) (root v f : ℕ) → reachIn m root (path up v) ≡ At f → (t : ℕ) × (reachIn m root (upper up v) ≡ At t)
-way-to up m root v f h = reach-lead (m .words) (startOf m) (totalOf m) root f (take-leads up (path up v)) h
+pub way-to : (up : ℕ) (m : Memory) (root v f : ℕ) → reachIn m root (path up v) ≡ Value f → (t : ℕ) × (reachIn m root (upper up v) ≡ Value t)
+way-to up m root v f h = reach-lead (m .words) (startFrame m) (totalOf m) root f (take-leads up (path up v)) h
 
-module _ {m : Memory} {root up : ℕ} (o : Ordered m root (suc up)) (v t f : ℕ) (ht : reachIn m root (upper up v) ≡ At t) (hf : reachIn m root (path up v) ≡ At f) where
-  split : reachIn m root (upper up v ++ (last up v ∷ [])) ≡ At f
+module _ {m : Memory} {root up : ℕ} (o : Ordered m root (suc up)) (v t f : ℕ) (ht : reachIn m root (upper up v) ≡ Value t) (hf : reachIn m root (path up v) ≡ Value f) where
+  split : reachIn m root (upper up v ++ (last up v ∷ [])) ≡ Value f
   split = ap (reachIn m root) (path-split up v) ∙ hf
 
-  its-leaf : unmapLeaf up m root v ≡ left (At f) (stored (m .words) (startOf m) t (last up v) 0)
-  its-leaf = unmap-met (m .words) (startOf m) (totalOf m) root (upper up v) (last up v) t f ht split
+  its-leaf : unmapLeaf up m root v ≡ left (Value f) (stored (m .words) (startFrame m) t (last up v) 0)
+  its-leaf = unmap-met (m .words) (startFrame m) (totalOf m) root (upper up v) (last up v) t f ht split
 
-  gives : giveFrame (m .frames) f ≡ record { answer = Freed; frames = withoutMark (m .frames) (f - startOf m) }
+  gives : giveFrame (m .frames) f ≡ record { answer = Freed; frames = withoutMark (m .frames) (f - startFrame m) }
   gives =
       give-marked (m .frames) f (o .tree .into (path up v) f (omega (arith, length-path up v)) hf)
-      (is-marked (m .frames .bits) (f - startOf m) (o .tree .kept (path up v) f (omega (arith, length-path up v)) hf))
+      (is-marked (m .frames .bits) (f - startFrame m) (o .tree .kept (path up v) f (omega (arith, length-path up v)) hf))
 
   -- its leaf is cleared and its frame freed
   pub free-met : freePage up m root v ≡ freed m t (last up v) f
   unfolding freePage
   free-met =
       ap (λ (l : Left). memory (l .words) (freedOf (l .walked) (m .frames))) its-leaf
-      ∙ ap (λ (d : Did _). memory (stored (m .words) (startOf m) t (last up v) 0) (d .frames)) gives
+      ∙ ap (λ (d : FramesDid _). memory (stored (m .words) (startFrame m) t (last up v) 0) (d .frames)) gives
 
   pub clear-met : clearPage up m root v ≡ cleared m t (last up v)
   unfolding clearPage
@@ -97,12 +97,12 @@ module _ {m : Memory} {root up : ℕ} (o : Ordered m root (suc up)) (v t f : ℕ
 -- ---- any page
 
 module _ {m : Memory} {root up : ℕ} (o : Ordered m root (suc up)) (v : ℕ) where
-  pub free-cases : (P : Memory → Type 0) → ((t f : ℕ) → reachIn m root (upper up v) ≡ At t → reachIn m root (path up v) ≡ At f → P (freePage up m root v))
+  pub free-cases : (P : Memory → Type 0) → ((t f : ℕ) → reachIn m root (upper up v) ≡ Value t → reachIn m root (path up v) ≡ Value f → P (freePage up m root v))
       → ((a : ℕ) → reachIn m root (path up v) ≡ Stop a → P m) → P (freePage up m root v)
   free-cases P yes-it no-it = go (reachIn m root (path up v)) refl
     where
-      go : (x : Walked) → reachIn m root (path up v) ≡ x → P (freePage up m root v)
-      go (At f) h = let t = way-to up m root v f h in yes-it (t .0) f (t .1) h
+      go : (x : Outcome) → reachIn m root (path up v) ≡ x → P (freePage up m root v)
+      go (Value f) h = let t = way-to up m root v f h in yes-it (t .0) f (t .1) h
       go (Stop a) h = rw (free-none up m root v a h) (no-it a h)
 
   -- the memory stays in order
@@ -129,8 +129,8 @@ free-accounted {root = root} {up = up} {lost = lost} c v =
     (λ t f ht hf. freed-accounted c (omega (arith, length-path up v)) (free-cut (c .order) v t f ht hf) (free-free (c .order) v t f ht hf)) (λ a h. c)
 
 -- a page that is cleared and not freed: its frame is lost
-pub clear-accounted : {m : Memory} {root up : ℕ} {lost : List ℕ} → Accounted m root (suc up) lost → (v t f : ℕ) → reachIn m root (upper up v) ≡ At t
-    → reachIn m root (path up v) ≡ At f → Accounted (clearPage up m root v) root (suc up) (f ∷ lost)
+pub clear-accounted : {m : Memory} {root up : ℕ} {lost : List ℕ} → Accounted m root (suc up) lost → (v t f : ℕ) → reachIn m root (upper up v) ≡ Value t
+    → reachIn m root (path up v) ≡ Value f → Accounted (clearPage up m root v) root (suc up) (f ∷ lost)
 clear-accounted {up = up} c v t f ht hf = cleared-accounted c (omega (arith, length-path up v)) (clear-cut (c .order) v t f ht hf) (clear-kept (c .order) v t f ht hf)
 
 -- the other pages and the tables stay
@@ -149,22 +149,22 @@ pub free-same : (up : ℕ) (m : Memory) (root v v′ : ℕ) → path up v ≡ pa
 unfolding freePage
 free-same up m root v v′ e =
     ap (λ (p : List ℕ).
-    let l = unmapEntry (m .words) (startOf m) (totalOf m) root (take up p) (getD p up 0) in memory (l .words) (freedOf (l .walked) (m .frames))) e
+    let l = unmapEntry (m .words) (startFrame m) (totalOf m) root (take up p) (getD p up 0) in memory (l .words) (freedOf (l .walked) (m .frames))) e
 
 -- ---- two pages
 
 module _ {m : Memory} {root up : ℕ} (o : Ordered m root (suc up)) (v v′ t t′ f f′ : ℕ)
-    (ht : reachIn m root (upper up v) ≡ At t) (hf : reachIn m root (path up v) ≡ At f)
-    (ht′ : reachIn m root (upper up v′) ≡ At t′) (hf′ : reachIn m root (path up v′) ≡ At f′) (d : path up v ≡ path up v′ → ⊥) where
+    (ht : reachIn m root (upper up v) ≡ Value t) (hf : reachIn m root (path up v) ≡ Value f)
+    (ht′ : reachIn m root (upper up v′) ≡ Value t′) (hf′ : reachIn m root (path up v′) ≡ Value f′) (d : path up v ≡ path up v′ → ⊥) where
   -- their leaves lie apart
-  leaves-apart : place (startOf m) t (last up v) ≡ place (startOf m) t′ (last up v′) → ⊥
+  leaves-apart : place (startFrame m) t (last up v) ≡ place (startFrame m) t′ (last up v′) → ⊥
   leaves-apart e =
-      let a : startOf m ≤ t = inside-from (startOf m) (totalOf m) t (o .tree .into (upper up v) t (omega (arith, length-upper up v)) ht) in
-      let a′ : startOf m ≤ t′ = inside-from (startOf m) (totalOf m) t′ (o .tree .into (upper up v′) t′ (omega (arith, length-upper up v′)) ht′) in
-      let tt′ : t ≡ t′ = place-table (startOf m) t′ (last up v′) t (last up v) a′ a (last-small up v′) (last-small up v) e in
-      let jj′ : last up v ≡ last up v′ = place-index (startOf m) t′ (last up v′) t (last up v) a′ a (last-small up v′) (last-small up v) e in
+      let a : startFrame m ≤ t = inside-from (startFrame m) (totalOf m) t (o .tree .into (upper up v) t (omega (arith, length-upper up v)) ht) in
+      let a′ : startFrame m ≤ t′ = inside-from (startFrame m) (totalOf m) t′ (o .tree .into (upper up v′) t′ (omega (arith, length-upper up v′)) ht′) in
+      let tt′ : t ≡ t′ = place-table (startFrame m) t′ (last up v′) t (last up v) a′ a (last-small up v′) (last-small up v) e in
+      let jj′ : last up v ≡ last up v′ = place-index (startFrame m) t′ (last up v′) t (last up v) a′ a (last-small up v′) (last-small up v) e in
       let qq′ : upper up v ≡ upper up v′ =
-      o .tree .once (upper up v) (upper up v′) t′ (omega (arith, length-upper up v)) (omega (arith, length-upper up v′)) (ht ∙ ap At tt′) ht′ in
+      o .tree .once (upper up v) (upper up v′) t′ (omega (arith, length-upper up v)) (omega (arith, length-upper up v′)) (ht ∙ ap Value tt′) ht′ in
       d (sym (path-split up v) ∙ ap₂ (λ (p : List ℕ) (i : ℕ). p ++ (i ∷ [])) qq′ jj′ ∙ path-split up v′)
 
   -- the second page once the first is freed
@@ -178,9 +178,9 @@ module _ {m : Memory} {root up : ℕ} (o : Ordered m root (suc up)) (v v′ t t�
   freed-comm : freed (freed m t (last up v) f) t′ (last up v′) f′ ≡ freed (freed m t′ (last up v′) f′) t (last up v) f
   unfolding withoutMark
   freed-comm =
-      let w = set-comm (m .words) (place (startOf m) t (last up v)) (place (startOf m) t′ (last up v′)) 0 0 leaves-apart in
-      let b = unmark-comm (m .frames .bits) (f - startOf m) (f′ - startOf m) in
-      λ k. memory (w k) (record { bits = b k; fa = record { start = startOf m; total = totalOf m; allocated = m .frames .fa .allocated - 1 - 1 } })
+      let w = set-comm (m .words) (place (startFrame m) t (last up v)) (place (startFrame m) t′ (last up v′)) 0 0 leaves-apart in
+      let b = unmark-comm (m .frames .bits) (f - startFrame m) (f′ - startFrame m) in
+      λ k. memory (w k) (record { bits = b k; fa = withCounter (m .frames .fa) (m .frames .fa .allocated - 1 - 1) })
 
 -- mapped or not, the same or not: freed in either order they leave the same memory
 module _ {m : Memory} {root up : ℕ} (o : Ordered m root (suc up)) (v v′ : ℕ) where
@@ -190,7 +190,7 @@ module _ {m : Memory} {root up : ℕ} (o : Ordered m root (suc up)) (v v′ : �
       still : (w z a : ℕ) → reachIn m root (path up z) ≡ Stop a → freePage up (freePage up m root w) root z ≡ freePage up m root w
       still w z a h = let b = free-off o w (path up z) a (omega (arith, length-path up z)) h in free-none up (freePage up m root w) root z (b .0) (b .1)
 
-      both : (f f′ : ℕ) → reachIn m root (path up v) ≡ At f → reachIn m root (path up v′) ≡ At f′ → Dec (path up v ≡ path up v′)
+      both : (f f′ : ℕ) → reachIn m root (path up v) ≡ Value f → reachIn m root (path up v′) ≡ Value f′ → Dec (path up v ≡ path up v′)
           → freePage up (freePage up m root v) root v′ ≡ freePage up (freePage up m root v′) root v
       both f f′ h h′ (yes e) =
           free-same up (freePage up m root v) root v′ v (sym e) ∙ ap (λ (x : Memory). freePage up x root v) (free-same up m root v v′ e)
@@ -200,11 +200,11 @@ module _ {m : Memory} {root up : ℕ} (o : Ordered m root (suc up)) (v v′ : �
           free-two o v v′ (t .0) (t′ .0) f f′ (t .1) h (t′ .1) h′ d ∙ freed-comm o v v′ (t .0) (t′ .0) f f′ (t .1) h (t′ .1) h′ d
           ∙ sym (free-two o v′ v (t′ .0) (t .0) f′ f (t′ .1) h′ (t .1) h (λ e. d (sym e)))
 
-      go : (x : Walked) → reachIn m root (path up v) ≡ x → (y : Walked) → reachIn m root (path up v′) ≡ y
+      go : (x : Outcome) → reachIn m root (path up v) ≡ x → (y : Outcome) → reachIn m root (path up v′) ≡ y
           → freePage up (freePage up m root v) root v′ ≡ freePage up (freePage up m root v′) root v
       go (Stop a) h y h′ = ap (λ (x : Memory). freePage up x root v′) (free-none up m root v a h) ∙ sym (still v′ v a h)
-      go (At f) h (Stop a) h′ = still v v′ a h′ ∙ ap (λ (x : Memory). freePage up x root v) (sym (free-none up m root v′ a h′))
-      go (At f) h (At f′) h′ = both f f′ h h′ (same-path (path up v) (path up v′))
+      go (Value f) h (Stop a) h′ = still v v′ a h′ ∙ ap (λ (x : Memory). freePage up x root v) (sym (free-none up m root v′ a h′))
+      go (Value f) h (Value f′) h′ = both f f′ h h′ (same-path (path up v) (path up v′))
 
 -- ---- any number of pages
 

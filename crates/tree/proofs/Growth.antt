@@ -7,8 +7,8 @@ use mathlib.Core.Logic.{_⊎_, inl, inr, ⊎-elim}
 use native.Mathlib.Omega.{arith}
 use lib.ListN.{length}
 use Rattle.bitmap.proofs.Marks.{marked-cases, not-marked}
-use Rattle.paging.specs.declared.Walked.the-variants.{At}
-use Rattle.paging.specs.Map.{Memory, startOf, totalOf}
+use Rattle.answer.specs.declared.Outcome.the-variants.{Value}
+use Rattle.paging.specs.Map.{Memory, startFrame, totalOf}
 use Rattle.tree.proofs.Paths.{Leads, leads-length, leads-trans}
 use Rattle.tree.proofs.Ordered.{reachIn, insideIn, markIn, PlainIn, Ordered}
 
@@ -16,16 +16,16 @@ use Rattle.tree.proofs.Ordered.{reachIn, insideIn, markIn, PlainIn, Ord
 pub record Along (m : Memory) (root : ℕ) (w : List ℕ) (f : ℕ) : Type 0 where
   pub path : List ℕ
   pub lead : Leads path w
-  pub comes : reachIn m root path ≡ At f
+  pub comes : reachIn m root path ≡ Value f
 
 -- m′ grew from m along w: what is newly reached is so along leading runs of w, by frames of New; what is newly marked is so reached, or is one of Held
 pub record Grew (m m′ : Memory) (root n : ℕ) (w : List ℕ) (New Held : ℕ → Type 0) : Type 0 where
   pub order : Ordered m′ root n
   pub plain : PlainIn m root n → PlainIn m′ root n
-  pub start : startOf m′ ≡ startOf m
+  pub start : startFrame m′ ≡ startFrame m
   pub total : totalOf m′ ≡ totalOf m
-  pub stay : (p : List ℕ) (x : ℕ) → length p ≤ n → reachIn m root p ≡ At x → reachIn m′ root p ≡ At x
-  pub grew : (p : List ℕ) (x : ℕ) → length p ≤ n → reachIn m′ root p ≡ At x → (reachIn m root p ≡ At x) ⊎ (Leads p w × New x)
+  pub stay : (p : List ℕ) (x : ℕ) → length p ≤ n → reachIn m root p ≡ Value x → reachIn m′ root p ≡ Value x
+  pub grew : (p : List ℕ) (x : ℕ) → length p ≤ n → reachIn m′ root p ≡ Value x → (reachIn m root p ≡ Value x) ⊎ (Leads p w × New x)
   pub more : (f : ℕ) → markIn m f ≡ 1 → markIn m′ f ≡ 1
   pub used : (f : ℕ) → insideIn m f ≡ true → markIn m f ≡ 0 → markIn m′ f ≡ 1 → Along m′ root w f ⊎ Held f
 
@@ -50,7 +50,7 @@ grew-refl w New Held o = record {
 
 -- what is free afterwards was free before
 pub free-before : {m m′ : Memory} {root n : ℕ} {w : List ℕ} {New Held : ℕ → Type 0} → Grew m m′ root n w New Held → (f : ℕ) → markIn m′ f ≡ 0 → markIn m f ≡ 0
-free-before {m} g f h = not-marked (m .frames .bits) (f - startOf m) (λ k. omega (arith, g .more f k))
+free-before {m} g f h = not-marked (m .frames .bits) (f - startFrame m) (λ k. omega (arith, g .more f k))
 
 -- a longer path, and more that may be new
 pub grew-wider : {m m′ : Memory} {root n : ℕ} {w w′ : List ℕ} {New New′ Held : ℕ → Type 0} → Leads w w′ → ((x : ℕ) → New x → New′ x)
@@ -80,7 +80,7 @@ grew-trans {m} {m₁} {m₂} {root} {n} {w} {Held = Held} lw a b new₁ new₂ h
       (λ c. ⊎-elim (λ d. inl d) (λ d. inr (d .0, new₁ x (d .1))) (a .grew p x lp c))
       (λ c. inr (c .0, new₂ x (c .1))) (b .grew p x lp h);
   more = λ f h. b .more f (a .more f h);
-  used = λ f ins free done. mid f ins free done (marked-cases (m₁ .frames .bits) (f - startOf m₁));
+  used = λ f ins free done. mid f ins free done (marked-cases (m₁ .frames .bits) (f - startFrame m₁));
 }
   where
     further : (f : ℕ) → Along m₁ root w f → Along m₂ root w f

@@ -10,10 +10,10 @@ use Rattle.bits.specs.Bit.{flag, pick}
 use Rattle.answer.specs.Numbers.{brokenRecord}
 use Rattle.entry.specs.Entry.{frameOf}
 use Rattle.entry.proofs.Entry.{indices-lt}
-use Rattle.paging.specs.declared.Walked.{Walked}
-use Rattle.paging.specs.declared.Walked.the-variants.{At, Stop}
-use Rattle.paging.specs.Walk.{address, lent}
-use Rattle.paging.specs.Map.{Memory, startOf, totalOf}
+use Rattle.answer.specs.declared.Outcome.{Outcome}
+use Rattle.answer.specs.declared.Outcome.the-variants.{Value, Stop}
+use Rattle.paging.specs.Walk.{address, mayWalk}
+use Rattle.paging.specs.Map.{Memory, startFrame, totalOf}
 use Rattle.paging.specs.Calls.{mapAt, translate}
 use Rattle.paging.proofs.Map.{map-entry-kept}
 use Rattle.tree.proofs.Paths.{leads-take, path, upper, last, length-path, length-upper, take-small, upper-small, last-small, path-split, take-path}
@@ -39,9 +39,9 @@ module _ {m : Memory} {root up : ℕ} (o : Ordered m root (suc up)) (u : Bool) (
   unfolding translate
   below-translate k l v′ d =
       let c = map-entry-kept u m root (take k (path up v)) (getD (path up v) k 0) e in
-      let s : lent (length (mapAt up k u m root v e .mem .words)) (startOf (mapAt up k u m root v e .mem)) (totalOf (mapAt up k u m root v e .mem)) root
-      ≡ lent (length (m .words)) (startOf m) (totalOf m) root = rw (c .words, c .start, c .total) in
-      ap₂ (λ (x : Bool) (y : Walked). pick x y (Stop brokenRecord)) s (ap (address v′) (below-other k l v′ d))
+      let s : mayWalk (length (mapAt up k u m root v e .mem .words)) (startFrame (mapAt up k u m root v e .mem)) (totalOf (mapAt up k u m root v e .mem)) root
+      ≡ mayWalk (length (m .words)) (startFrame m) (totalOf m) root = rw (c .words, c .start, c .total) in
+      ap₂ (λ (x : Bool) (y : Outcome). pick x y (Stop brokenRecord)) s (ap (address v′) (below-other k l v′ d))
 
   -- so a page's word, met or refused, changes no other page
   pub page-other : (v′ : ℕ) → (path up v′ ≡ path up v → ⊥) → leafIn (mapAt up up u m root v e .mem) root (path up v′) ≡ leafIn m root (path up v′)
@@ -55,8 +55,8 @@ module _ {m : Memory} {root up : ℕ} (o : Ordered m root (suc up)) (u : Bool) (
   page-refused = map-refused o u (upper up v) (last up v) (omega (arith, length-upper up v)) (upper-small up v) (last-small up v) e
 
   -- and met, with a marked frame that nothing reaches, it adds that page
-  pub page-placed : (f : ℕ) → flag 0 e ≡ true → frameOf e ≡ f → insideIn m f ≡ true → markIn m f ≡ 1 → ((p : List ℕ) → length p ≤ suc up → reachIn m root p ≡ At f → ⊥)
-      → (x : ℕ) → mapAt up up u m root v e .walked ≡ At x → Placed m root (suc up) (path up v) f (mapAt up up u m root v e .mem)
-  page-placed f bit to lent mine new x h =
+  pub page-placed : (f : ℕ) → flag 0 e ≡ true → frameOf e ≡ f → insideIn m f ≡ true → markIn m f ≡ 1 → ((p : List ℕ) → length p ≤ suc up → reachIn m root p ≡ Value f → ⊥)
+      → (x : ℕ) → mapAt up up u m root v e .walked ≡ Value x → Placed m root (suc up) (path up v) f (mapAt up up u m root v e .mem)
+  page-placed f bit to mayWalk mine new x h =
       subst (λ (w : List ℕ). Placed m root (suc up) w f (mapAt up up u m root v e .mem)) (path-split up v)
-      (map-placed o u (upper up v) (last up v) (omega (arith, length-upper up v)) (upper-small up v) (last-small up v) e f (ap suc (length-upper up v)) bit to lent mine new x h)
+      (map-placed o u (upper up v) (last up v) (omega (arith, length-upper up v)) (upper-small up v) (last-small up v) e f (ap suc (length-upper up v)) bit to mayWalk mine new x h)

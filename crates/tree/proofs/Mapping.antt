@@ -10,10 +10,10 @@ use lib.ListN.{length, getD, length-append}
 use Rattle.bits.specs.Bit.{flag}
 use Rattle.answer.specs.Numbers.{noFreeFrame, alreadyMapped, notMapped}
 use Rattle.entry.specs.Entry.{frameOf}
-use Rattle.paging.specs.declared.Walked.{Walked}
-use Rattle.paging.specs.declared.Walked.the-variants.{At, Stop}
+use Rattle.answer.specs.declared.Outcome.{Outcome}
+use Rattle.answer.specs.declared.Outcome.the-variants.{Value, Stop}
 use Rattle.paging.specs.Walk.{place, reach}
-use Rattle.paging.specs.Map.{Memory, startOf, totalOf, Out, out, make, Left, putEntry, withWords, mapEntry}
+use Rattle.paging.specs.Map.{Memory, startFrame, totalOf, Out, out, make, Left, putEntry, withWords, mapEntry}
 use Rattle.paging.proofs.Map.{goOn-cases, put-full, put-free}
 use Rattle.tree.proofs.Paths.{Leads, leads-refl, leads-append, leads-length, Small}
 use Rattle.tree.proofs.Walks.{nowhere, entry-there, entry-absent, reach-step, reach-stuck}
@@ -27,38 +27,38 @@ use Rattle.tree.proofs.Make.{Made, make-made}
 pub record Turned (m : Memory) (root n : ℕ) (q : List ℕ) (j a : ℕ) (m′ : Memory) : Type 0 where
   pub grew : Grew m m′ root n q (Free m) None
   pub leaves : (p : List ℕ) → length p ≡ n → leafIn m′ root p ≡ leafIn m root p
-  pub why : (a ≡ noFreeFrame) ⊎ ((a ≡ alreadyMapped) × ((f : ℕ) × (reachIn m root (q ++ (j ∷ [])) ≡ At f)))
+  pub why : (a ≡ noFreeFrame) ⊎ ((a ≡ alreadyMapped) × ((f : ℕ) × (reachIn m root (q ++ (j ∷ [])) ≡ Value f)))
 
 -- what a mapping of frame f at path w leaves that is met: w was not reached, and comes to f now
 pub record Placed (m : Memory) (root n : ℕ) (w : List ℕ) (f : ℕ) (m′ : Memory) : Type 0 where
   pub grew : Grew m m′ root n w (λ x. Free m x ⊎ (x ≡ f)) None
-  pub page : reachIn m′ root w ≡ At f
-  pub off : (x : ℕ) → reachIn m root w ≡ At x → ⊥
+  pub page : reachIn m′ root w ≡ Value f
+  pub off : (x : ℕ) → reachIn m root w ≡ Value x → ⊥
 
 module _ {m : Memory} {root n : ℕ} (o : Ordered m root n) (u : Bool) (q : List ℕ) (j : ℕ) (lq : length q < n) (sq : Small q) (sj : j < 512) (e : ℕ) where
   -- the three outcomes: no frame for a table, a present entry, and the word written
   pub map-cases : (P : Out → Type 0)
       → ((m₁ : Memory) → Made m root n q q (out (Stop noFreeFrame) m₁) → P (out (Stop noFreeFrame) m₁))
-      → ((m₁ : Memory) (t : ℕ) → Made m root n q q (out (At t) m₁) → flag 0 (getD (m₁ .words) (place (startOf m₁) t j) 0) ≡ true → P (out (Stop alreadyMapped) m₁))
-      → ((m₁ : Memory) (t : ℕ) → Made m root n q q (out (At t) m₁) → flag 0 (getD (m₁ .words) (place (startOf m₁) t j) 0) ≡ false → P (out (At 0) (written m₁ t j e)))
+      → ((m₁ : Memory) (t : ℕ) → Made m root n q q (out (Value t) m₁) → flag 0 (getD (m₁ .words) (place (startFrame m₁) t j) 0) ≡ true → P (out (Stop alreadyMapped) m₁))
+      → ((m₁ : Memory) (t : ℕ) → Made m root n q q (out (Value t) m₁) → flag 0 (getD (m₁ .words) (place (startFrame m₁) t j) 0) ≡ false → P (out (Value 0) (written m₁ t j e)))
       → P (mapEntry u m root q j e)
   unfolding mapEntry reach
   map-cases P full there free =
       let a = make-made (omega arith) u q o [] root refl (omega arith) sq (leads-refl q) in
-      goOn-cases P (make u m root q) (λ t m₁. withWords m₁ (putEntry (m₁ .words) (startOf m₁) (totalOf m₁) t j e))
+      goOn-cases P (make u m root q) (λ t m₁. withWords m₁ (putEntry (m₁ .words) (startFrame m₁) (totalOf m₁) t j e))
       (λ x h. let x11 = a .refused x h in
-      rw x11 (full (make u m root q .mem) (subst (λ (y : Walked). Made m root n q q (out y (make u m root q .mem))) (h ∙ ap Stop x11) a)))
-      (λ t h. put (make u m root q .mem) t (subst (λ (y : Walked). Made m root n q q (out y (make u m root q .mem))) h a))
+      rw x11 (full (make u m root q .mem) (subst (λ (y : Outcome). Made m root n q q (out y (make u m root q .mem))) (h ∙ ap Stop x11) a)))
+      (λ t h. put (make u m root q .mem) t (subst (λ (y : Outcome). Made m root n q q (out y (make u m root q .mem))) h a))
     where
-      put : (m₁ : Memory) (t : ℕ) → Made m root n q q (out (At t) m₁) → P (withWords m₁ (putEntry (m₁ .words) (startOf m₁) (totalOf m₁) t j e))
-      put m₁ t a = go (flag 0 (getD (m₁ .words) (place (startOf m₁) t j) 0)) refl
+      put : (m₁ : Memory) (t : ℕ) → Made m root n q q (out (Value t) m₁) → P (withWords m₁ (putEntry (m₁ .words) (startFrame m₁) (totalOf m₁) t j e))
+      put m₁ t a = go (flag 0 (getD (m₁ .words) (place (startFrame m₁) t j) 0)) refl
         where
           ins : insideIn m₁ t ≡ true
           ins = a .grew .order .tree .into q t (omega arith) (a .there t refl)
 
-          go : (x : Bool) → flag 0 (getD (m₁ .words) (place (startOf m₁) t j) 0) ≡ x → P (withWords m₁ (putEntry (m₁ .words) (startOf m₁) (totalOf m₁) t j e))
-          go true k = subst (λ (l : Left). P (withWords m₁ l)) (sym (put-full (m₁ .words) (startOf m₁) (totalOf m₁) t j e ins k)) (there m₁ t a k)
-          go false k = subst (λ (l : Left). P (withWords m₁ l)) (sym (put-free (m₁ .words) (startOf m₁) (totalOf m₁) t j e ins k)) (free m₁ t a k)
+          go : (x : Bool) → flag 0 (getD (m₁ .words) (place (startFrame m₁) t j) 0) ≡ x → P (withWords m₁ (putEntry (m₁ .words) (startFrame m₁) (totalOf m₁) t j e))
+          go true k = subst (λ (l : Left). P (withWords m₁ l)) (sym (put-full (m₁ .words) (startFrame m₁) (totalOf m₁) t j e ins k)) (there m₁ t a k)
+          go false k = subst (λ (l : Left). P (withWords m₁ l)) (sym (put-free (m₁ .words) (startFrame m₁) (totalOf m₁) t j e ins k)) (free m₁ t a k)
 
   -- met or refused, and whatever the word: no page that does not lie below it changes its leaf
   pub map-other : (p : List ℕ) → length p ≡ n → (Leads (q ++ (j ∷ [])) p → ⊥) → leafIn (mapEntry u m root q j e .mem) root p ≡ leafIn m root p
@@ -77,30 +77,30 @@ module _ {m : Memory} {root n : ℕ} (o : Ordered m root n) (u : Bool) (q : List
       (λ m₁ t d k h. record { grew = d .grew; leaves = d .leaves; why = inr (cc, was m₁ t d k) })
       (λ m₁ t d k h. absurd (nowhere (sym h)))
     where
-      was : (m₁ : Memory) (t : ℕ) → Made m root n q q (out (At t) m₁) → flag 0 (getD (m₁ .words) (place (startOf m₁) t j) 0) ≡ true → (f : ℕ) × (reachIn m root (q ++ (j ∷ [])) ≡ At f)
+      was : (m₁ : Memory) (t : ℕ) → Made m root n q q (out (Value t) m₁) → flag 0 (getD (m₁ .words) (place (startFrame m₁) t j) 0) ≡ true → (f : ℕ) × (reachIn m root (q ++ (j ∷ [])) ≡ Value f)
       was m₁ t d k =
-          let hq : reachIn m₁ root q ≡ At t = d .there t refl in
+          let hq : reachIn m₁ root q ≡ Value t = d .there t refl in
           let ins : insideIn m₁ t ≡ true = d .grew .order .tree .into q t (omega arith) hq in
-          let g = reach-step (m₁ .words) (startOf m₁) (totalOf m₁) q root t j _ hq (entry-there (m₁ .words) (startOf m₁) (totalOf m₁) t j ins sj k) in (
-            frameOf (getD (m₁ .words) (place (startOf m₁) t j) 0),
+          let g = reach-step (m₁ .words) (startFrame m₁) (totalOf m₁) q root t j _ hq (entry-there (m₁ .words) (startFrame m₁) (totalOf m₁) t j ins sj k) in (
+            frameOf (getD (m₁ .words) (place (startFrame m₁) t j) 0),
             ⊎-elim (λ c. c) (λ c. absurd (omega (arith, leads-length (c .0), length-append q (j ∷ []))))
                 (d .grew .grew (q ++ (j ∷ [])) _ (omega (arith, length-append q (j ∷ []))) g),
           )
 
   -- met, at the last level, with a marked frame that nothing reaches
   pub map-placed : (f : ℕ) → suc (length q) ≡ n → flag 0 e ≡ true → frameOf e ≡ f → insideIn m f ≡ true → markIn m f ≡ 1
-      → ((p : List ℕ) → length p ≤ n → reachIn m root p ≡ At f → ⊥) → (x : ℕ) → mapEntry u m root q j e .walked ≡ At x → Placed m root n (q ++ (j ∷ [])) f (mapEntry u m root q j e .mem)
+      → ((p : List ℕ) → length p ≤ n → reachIn m root p ≡ Value f → ⊥) → (x : ℕ) → mapEntry u m root q j e .walked ≡ Value x → Placed m root n (q ++ (j ∷ [])) f (mapEntry u m root q j e .mem)
   map-placed f last bit to lent mine new x =
-      map-cases (λ (r : Out). r .walked ≡ At x → Placed m root n (q ++ (j ∷ [])) f (r .mem))
+      map-cases (λ (r : Out). r .walked ≡ Value x → Placed m root n (q ++ (j ∷ [])) f (r .mem))
       (λ m₁ d h. absurd (nowhere h)) (λ m₁ t d k h. absurd (nowhere h)) (λ m₁ t d k h. placed m₁ t d k)
     where
       lw : length (q ++ (j ∷ [])) ≤ n
       lw = omega (arith, length-append q (j ∷ []))
 
-      placed : (m₁ : Memory) (t : ℕ) → Made m root n q q (out (At t) m₁) → flag 0 (getD (m₁ .words) (place (startOf m₁) t j) 0) ≡ false → Placed m root n (q ++ (j ∷ [])) f (written m₁ t j e)
+      placed : (m₁ : Memory) (t : ℕ) → Made m root n q q (out (Value t) m₁) → flag 0 (getD (m₁ .words) (place (startFrame m₁) t j) 0) ≡ false → Placed m root n (q ++ (j ∷ [])) f (written m₁ t j e)
       placed m₁ t d k =
           let g = d .grew in
-          let hq : reachIn m₁ root q ≡ At t = d .there t refl in
+          let hq : reachIn m₁ root q ≡ Value t = d .there t refl in
           let ins : insideIn m₁ t ≡ true = g .order .tree .into q t (omega arith) hq in
           let c : Names m₁ root n q e f = record {
             bit = bit;
@@ -115,6 +115,6 @@ module _ {m : Memory} {root n : ℕ} (o : Ordered m root n) (u : Bool) (q : List
             grew = grew-trans lw (grew-wider (leads-append q (j ∷ [])) (λ y a. a) g) (write-grew (g .order) q t j lq hq sj k c (q ++ (j ∷ [])) (leads-refl _))
                 (λ y a. inl a) (λ y a. inr a) (λ y a. absurd a) (λ y a. a);
             page = write-at (g .order) q t j lq hq sj k c;
-            off = λ y h. nowhere (sym (reach-stuck (m₁ .words) (startOf m₁) (totalOf m₁) q root t j [] notMapped hq (entry-absent (m₁ .words) (startOf m₁) (totalOf m₁) t j ins sj k))
+            off = λ y h. nowhere (sym (reach-stuck (m₁ .words) (startFrame m₁) (totalOf m₁) q root t j [] notMapped hq (entry-absent (m₁ .words) (startFrame m₁) (totalOf m₁) t j ins sj k))
                 ∙ g .stay (q ++ (j ∷ [])) y lw h);
           }

@@ -7,6 +7,7 @@ use native.Mathlib.Omega.{arith}
 use lib.Dec.{eqb}
 use lib.ListN.{length}
 use borrow.Author.Tests.{eq-eqb}
+use Rattle.answer.specs.Outcomes.{andThen}
 use Rattle.answer.specs.Numbers.{notMapped}
 use Rattle.bitmap.specs.Bitmap.{marked, count}
 use Rattle.bitmap.proofs.Marks.{Words}
@@ -14,11 +15,11 @@ use Rattle.entry.specs.Entry.{indices}
 use Rattle.entry.proofs.Entry.{length-indices}
 use Rattle.frame.specs.Frames.{inside}
 use Rattle.frame.proofs.Laws.{inside-from, inside-under, sound-counted}
-use Rattle.paging.specs.declared.Walked.{Walked}
-use Rattle.paging.specs.declared.Walked.the-variants.{At, Stop}
+use Rattle.answer.specs.declared.Outcome.{Outcome}
+use Rattle.answer.specs.declared.Outcome.the-variants.{Value, Stop}
 use Rattle.paging.specs.declared.Leaf.{Leaf}
-use Rattle.paging.specs.Walk.{andThen, reach, leaf, address, Lent}
-use Rattle.paging.specs.Map.{Memory, startOf, totalOf}
+use Rattle.paging.specs.Walk.{reach, leaf, address, WordsLent}
+use Rattle.paging.specs.Map.{Memory, startFrame, totalOf}
 use Rattle.paging.specs.Calls.{whole, translate}
 use Rattle.paging.proofs.Walk.{lent-rooted}
 use Rattle.paging.proofs.Calls.{whole-lent, translate-is}
@@ -27,33 +28,33 @@ use Rattle.tree.proofs.Plain.{Plain, Ends, at-page, at-none, leaf-ends}
 
 -- ---- a memory's walks and marks
 
-abbrev pub reachIn : Memory → ℕ → List ℕ → Walked
-reachIn m root p = reach (m .words) (startOf m) (totalOf m) root p
+abbrev pub reachIn : Memory → ℕ → List ℕ → Outcome
+reachIn m root p = reach (m .words) (startFrame m) (totalOf m) root p
 
 abbrev pub leafIn : Memory → ℕ → List ℕ → Leaf
-leafIn m root p = leaf (m .words) (startOf m) (totalOf m) root p
+leafIn m root p = leaf (m .words) (startFrame m) (totalOf m) root p
 
 -- whether frame f is one of those lent
 abbrev pub insideIn : Memory → ℕ → Bool
-insideIn m f = inside (startOf m) (totalOf m) f
+insideIn m f = inside (startFrame m) (totalOf m) f
 
 -- 1 if the lent frame f is marked and 0 if it is free
 abbrev pub markIn : Memory → ℕ → ℕ
-markIn m f = marked (m .frames .bits) (f - startOf m)
+markIn m f = marked (m .frames .bits) (f - startFrame m)
 
 -- the translation of an address, on a board of up levels above the last
-abbrev pub translateIn : ℕ → Memory → ℕ → ℕ → Walked
-translateIn up m root v = translate up (m .words) (startOf m) (totalOf m) root v
+abbrev pub translateIn : ℕ → Memory → ℕ → ℕ → Outcome
+translateIn up m root v = translate up (m .words) (startFrame m) (totalOf m) root v
 
 abbrev pub PlainIn : Memory → ℕ → ℕ → Type 0
-PlainIn m root n = Plain (m .words) (startOf m) (totalOf m) root n
+PlainIn m root n = Plain (m .words) (startFrame m) (totalOf m) root n
 
 -- ---- in order
 
 -- a memory with n levels of tables below root: its tree, sizes that are not broken, a whole bitmap, and a counter that counts it
 pub record Ordered (m : Memory) (root n : ℕ) : Type 0 where
-  pub tree : Tree (m .words) (m .frames .bits) (startOf m) (totalOf m) root n
-  pub sizes : Lent (m .words) (startOf m) (totalOf m)
+  pub tree : Tree (m .words) (m .frames .bits) (startFrame m) (totalOf m) root n
+  pub sizes : WordsLent (m .words) (startFrame m) (totalOf m)
   pub wide : length (m .frames .bits) ≡ 128
   pub small : Words (m .frames .bits)
   pub counted : m .frames .fa .allocated ≡ count (m .frames .bits) (totalOf m)
@@ -73,10 +74,10 @@ module _ {m : Memory} {root n : ℕ} (o : Ordered m root n) where
       let few = o .sizes .few in
       let low = o .sizes .low in
       let e : eqb (m .frames .fa .allocated) (count (m .frames .bits) (totalOf m)) ≡ true = eq-eqb _ _ (o .counted) in
-      rw (lent-rooted (length (m .words)) (startOf m) (totalOf m) root few (o .sizes .enough) low, root-inside, sound-counted (m .frames) few low) e
+      rw (lent-rooted (length (m .words)) (startFrame m) (totalOf m) root few (o .sizes .enough) low, root-inside, sound-counted (m .frames) few low) e
 
   -- a free frame is not reached
-  pub free-unreached : (f : ℕ) → markIn m f ≡ 0 → (p : List ℕ) → length p ≤ n → reachIn m root p ≡ At f → ⊥
+  pub free-unreached : (f : ℕ) → markIn m f ≡ 0 → (p : List ℕ) → length p ≤ n → reachIn m root p ≡ Value f → ⊥
   free-unreached f free p lp h = let k : markIn m f ≡ 1 = o .tree .kept p f lp h in omega arith
 
   -- a lent frame's bit is in the bitmap, and its number fits an entry
@@ -84,27 +85,27 @@ module _ {m : Memory} {root n : ℕ} (o : Ordered m root n) where
   in-bitmap j l = omega (arith, o .wide, o .sizes .few)
 
   pub in-entry : (f : ℕ) → insideIn m f ≡ true → f < 2 ^ 40
-  in-entry f h = omega (arith, o .sizes .low, inside-from (startOf m) (totalOf m) f h, inside-under (startOf m) (totalOf m) f h)
+  in-entry f h = omega (arith, o .sizes .low, inside-from (startFrame m) (totalOf m) f h, inside-under (startFrame m) (totalOf m) f h)
 
 -- ---- translations, where there is no large page
 
 module _ {m : Memory} {root up : ℕ} (o : Ordered m root (suc up)) (w : PlainIn m root (suc up)) (v : ℕ) where
-  translates : {x : Walked} {l : Leaf} → Ends x l → address v l ≡ andThen x (λ f. At (f * 2 ^ 12 + v % 2 ^ 12))
-  translates (at-page e) = ap (λ (f : ℕ). At (f * 2 ^ 12 + v % 2 ^ 12)) e
+  translates : {x : Outcome} {l : Leaf} → Ends x l → address v l ≡ andThen x Stop (λ f. Value (f * 2 ^ 12 + v % 2 ^ 12))
+  translates (at-page e) = ap (λ (f : ℕ). Value (f * 2 ^ 12 + v % 2 ^ 12)) e
   translates at-none = refl
 
   -- an address translates just where its page is reached, to the place in that frame; if not it is 14
-  pub translate-reach : translateIn up m root v ≡ andThen (reachIn m root (indices (suc up) v)) (λ f. At (f * 2 ^ 12 + v % 2 ^ 12))
+  pub translate-reach : translateIn up m root v ≡ andThen (reachIn m root (indices (suc up) v)) Stop (λ f. Value (f * 2 ^ 12 + v % 2 ^ 12))
   translate-reach =
-      translate-is up (m .words) (startOf m) (totalOf m) root v (whole-lent m root (ordered-whole o))
+      translate-is up (m .words) (startFrame m) (totalOf m) root v (whole-lent m root (ordered-whole o))
       ∙ translates (leaf-ends w (indices (suc up) v) (omega arith) (length-indices (suc up) v))
 
-  pub page-translates : (f : ℕ) → reachIn m root (indices (suc up) v) ≡ At f → translateIn up m root v ≡ At (f * 2 ^ 12 + v % 2 ^ 12)
+  pub page-translates : (f : ℕ) → reachIn m root (indices (suc up) v) ≡ Value f → translateIn up m root v ≡ Value (f * 2 ^ 12 + v % 2 ^ 12)
   page-translates f h = translate-reach ∙ rw h
 
-  pub no-page-translates : ((f : ℕ) → reachIn m root (indices (suc up) v) ≡ At f → ⊥) → translateIn up m root v ≡ Stop notMapped
+  pub no-page-translates : ((f : ℕ) → reachIn m root (indices (suc up) v) ≡ Value f → ⊥) → translateIn up m root v ≡ Stop notMapped
   no-page-translates none = translate-reach ∙ go (reachIn m root (indices (suc up) v)) refl
     where
-      go : (x : Walked) → reachIn m root (indices (suc up) v) ≡ x → andThen x (λ f. At (f * 2 ^ 12 + v % 2 ^ 12)) ≡ Stop notMapped
-      go (At f) h = absurd (none f h)
+      go : (x : Outcome) → reachIn m root (indices (suc up) v) ≡ x → andThen x Stop (λ f. Value (f * 2 ^ 12 + v % 2 ^ 12)) ≡ Stop notMapped
+      go (Value f) h = absurd (none f h)
       go (Stop a) h = ap Stop (tree-stop (o .tree) (indices (suc up) v) a (omega (arith, length-indices (suc up) v)) h)

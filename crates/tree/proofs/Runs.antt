@@ -3,8 +3,8 @@ use Prim.Native.Nat.{ℕ, zero, suc, _+_}
 use mathlib.Core.Path.{_≡_, refl, sym, _∙_, ap}
 use mathlib.Core.Bool.{Bool}
 use mathlib.Core.List.{List, [], _∷_, _++_, foldl-append, List·Permᴰ·append-comm}
-use Rattle.paging.specs.declared.Walked.{Walked}
-use Rattle.paging.specs.declared.Walked.the-variants.{At, Stop}
+use Rattle.answer.specs.declared.Outcome.{Outcome}
+use Rattle.answer.specs.declared.Outcome.the-variants.{Value, Stop}
 use Rattle.paging.specs.Map.{Memory}
 use Rattle.paging.specs.Pages.{Ran, mapFresh, mapPages, freePage, freePages}
 use Rattle.tree.proofs.Walks.{nowhere}
@@ -23,7 +23,7 @@ run v (suc n) = v ∷ run (v + 4096) n
 
 -- the first page of a run, and what follows
 module _ (up : ℕ) (w u : Bool) (m : Memory) (root v k n : ℕ) where
-  pub map-pages-on : (x : ℕ) → mapFresh up w u m root v .walked ≡ At x
+  pub map-pages-on : (x : ℕ) → mapFresh up w u m root v .walked ≡ Value x
       → mapPages up w u m root v k (suc n) ≡ mapPages up w u (mapFresh up w u m root v .mem) root (v + 4096) (suc k) n
   unfolding mapPages
   map-pages-on x h = rw h
@@ -34,17 +34,17 @@ module _ (up : ℕ) (w u : Bool) (m : Memory) (root v k n : ℕ) where
   map-pages-stop a h = rw h
 
 -- a run that is met takes all its pages
-pub map-pages-met : {root up : ℕ} (w u : Bool) (n : ℕ) {m : Memory} → Ordered m root (suc up) → (v k x : ℕ) → mapPages up w u m root v k n .walked ≡ At x
+pub map-pages-met : {root up : ℕ} (w u : Bool) (n : ℕ) {m : Memory} → Ordered m root (suc up) → (v k x : ℕ) → mapPages up w u m root v k n .walked ≡ Value x
     → Takes root up m (run v n) (mapPages up w u m root v k n .mem)
 unfolding mapPages
 map-pages-met w u zero o v k x h = none
 map-pages-met {root} {up} w u (suc n) {m} o v k x h = go (mapFresh up w u m root v .walked) refl (λ g. map-pages-met w u n g (v + 4096) (suc k) x)
   where
-    go : (y : Walked) → mapFresh up w u m root v .walked ≡ y
-        → (Ordered (mapFresh up w u m root v .mem) root (suc up) → mapPages up w u (mapFresh up w u m root v .mem) root (v + 4096) (suc k) n .walked ≡ At x
+    go : (y : Outcome) → mapFresh up w u m root v .walked ≡ y
+        → (Ordered (mapFresh up w u m root v .mem) root (suc up) → mapPages up w u (mapFresh up w u m root v .mem) root (v + 4096) (suc k) n .walked ≡ Value x
         → Takes root up (mapFresh up w u m root v .mem) (run (v + 4096) n) (mapPages up w u (mapFresh up w u m root v .mem) root (v + 4096) (suc k) n .mem))
         → Takes root up m (v ∷ run (v + 4096) n) (mapPages up w u m root v k (suc n) .mem)
-    go (At y) e r =
+    go (Value y) e r =
         let t = take-met o w u v y e .1 in
         let on = map-pages-on up w u m root v k n y e in
         rw on (more t (r (t .grew .order) (ap (λ (q : Ran). q .walked) (sym on) ∙ h)))

@@ -9,9 +9,9 @@ use native.Mathlib.Decide.{ℕ-discrete}
 use lib.ListN.{length, replicate, length-replicate}
 use Rattle.answer.specs.Numbers.{notMapped}
 use Rattle.bitmap.proofs.Marks.{mark-own, mark-other, mark-words, length-mark, count-mark, marked-replicate, replicate-words, count-replicate}
-use Rattle.frame.specs.Frames.{Frames, frames, inside, withMark}
+use Rattle.frame.specs.Frames.{Frames, frames, inside, withMark, unused}
 use Rattle.frame.proofs.Laws.{inside-yes, inside-from}
-use Rattle.paging.specs.declared.Walked.the-variants.{At}
+use Rattle.answer.specs.declared.Outcome.the-variants.{Value}
 use Rattle.paging.specs.Walk.{entryAt, reach}
 use Rattle.paging.specs.Map.{Memory, memory, zeroFrame}
 use Rattle.paging.proofs.Map.{length-clear}
@@ -22,18 +22,18 @@ use Rattle.tree.proofs.Growth.{None}
 use Rattle.tree.proofs.Accounts.{Reached, Accounted}
 
 -- an allocator that `init` made, and the memory that a start leaves with it
-abbrev pub unused : ℕ → ℕ → Frames
-unused start total = frames (replicate 128 0) (record { start = start; total = total; allocated = 0 })
+abbrev pub untaken : ℕ → ℕ → Frames
+untaken start total = frames (replicate 128 0) (unused start total)
 
 abbrev pub fresh : List ℕ → ℕ → ℕ → Memory
-fresh ws start total = memory (zeroFrame ws start start) (withMark (unused start total) 0)
+fresh ws start total = memory (zeroFrame ws start start) (withMark (untaken start total) 0)
 
 module _ (ws : List ℕ) (start total n : ℕ) (some : 0 < total) (few : total ≤ 8192) (enough : total * 512 ≤ length ws) (low : start + total ≤ 2 ^ 40) where
   root-in : inside start total start ≡ true
   root-in = inside-yes start total start (omega arith) (omega arith)
 
   -- nothing but the root is reached
-  pub fresh-only : (p : List ℕ) (f : ℕ) → reachIn (fresh ws start total) start p ≡ At f → (p ≡ []) × (f ≡ start)
+  pub fresh-only : (p : List ℕ) (f : ℕ) → reachIn (fresh ws start total) start p ≡ Value f → (p ≡ []) × (f ≡ start)
   unfolding reach withMark
   fresh-only [] f h = (refl, cc)
   fresh-only (i ∷ p) f h =
@@ -81,7 +81,7 @@ module _ (ws : List ℕ) (start total n : ℕ) (some : 0 < total) (few : total �
     where
       by : (f : ℕ) → insideIn (fresh ws start total) f ≡ true → markIn (fresh ws start total) f ≡ 1 → Dec (f ≡ start)
           → Reached (fresh ws start total) start n f ⊎ List·Memᴰ f [] ⊎ None f
-      by f ins done (yes e) = inl (record { path = []; short = omega arith; comes = ap At (sym e) })
+      by f ins done (yes e) = inl (record { path = []; short = omega arith; comes = ap Value (sym e) })
       by f ins done (no d) =
           let far : f - start ≡ 0 → ⊥ = λ z. d (omega (arith, inside-from start total f ins)) in
           absurd (omega (arith, mark-other (replicate 128 0) 0 (marked-replicate 128 0) (f - start) far, marked-replicate 128 (f - start), done))

@@ -9,17 +9,19 @@ use lib.ListN.{getD}
 use borrow.Author.Tests.{ltb-true}
 use Rattle.bits.specs.Bit.{pick, flag}
 use Rattle.bits.proofs.Choice.{pick-cases}
+use Rattle.answer.specs.Outcomes.{andThen}
 use Rattle.answer.specs.Numbers.{notMapped}
 use Rattle.entry.specs.Entry.{frameOf}
 use Rattle.frame.specs.Frames.{inside}
-use Rattle.paging.specs.declared.Walked.{Walked}
-use Rattle.paging.specs.declared.Walked.the-variants.{At, Stop}
-use Rattle.paging.specs.Walk.{place, andThen, present, entryAt, reach, judge, orLeaf, leaf}
+use Rattle.answer.specs.declared.Outcome.{Outcome}
+use Rattle.answer.specs.declared.Outcome.the-variants.{Value, Stop}
+use Rattle.paging.specs.Walk.{place, present, entryAt, reach, judge, leaf}
 use Rattle.paging.proofs.Walk.{entry-in, present-yes, present-no}
 use Rattle.tree.proofs.Paths.{Leads}
+use Rattle.paging.specs.declared.Leaf.the-variants.{NoLeaf}
 
 -- no step both stops and comes somewhere
-pub nowhere : {n x : ℕ} → Stop n ≡ At x → ⊥
+pub nowhere : {n x : ℕ} → Stop n ≡ Value x → ⊥
 nowhere h = let z : _≡_ {A = ℕ} 0 1 = cc in omega arith
 
 -- two entries at one place are one entry of one table
@@ -39,10 +41,10 @@ module _ (ws : List ℕ) (start total : ℕ) where
     pub word : getD ws (place start t i) 0 ≡ e
     pub bit : flag 0 e ≡ true
 
-  pub entry-cases : (t i e : ℕ) → entryAt ws start total t i ≡ At e → Entry t i e
+  pub entry-cases : (t i e : ℕ) → entryAt ws start total t i ≡ Value e → Entry t i e
   unfolding entryAt present
   entry-cases t i e =
-      let P : Walked → Type 0 = λ x. x ≡ At e → Entry t i e in
+      let P : Outcome → Type 0 = λ x. x ≡ Value e → Entry t i e in
       pick-cases P (inside start total t) _ _
       (λ a. pick-cases P (ltb i 512) _ _
       (λ b. pick-cases P (flag 0 (getD ws (place start t i) 0)) _ _
@@ -53,7 +55,7 @@ module _ (ws : List ℕ) (start total : ℕ) where
 
   -- and the other way round
   pub entry-there : (t i : ℕ) → inside start total t ≡ true → i < 512 → flag 0 (getD ws (place start t i) 0) ≡ true
-      → entryAt ws start total t i ≡ At (getD ws (place start t i) 0)
+      → entryAt ws start total t i ≡ Value (getD ws (place start t i) 0)
   entry-there t i a b c = entry-in ws start total t i a b ∙ present-yes _ c
 
   pub entry-absent : (t i : ℕ) → inside start total t ≡ true → i < 512 → flag 0 (getD ws (place start t i) 0) ≡ false
@@ -64,35 +66,35 @@ module _ (ws : List ℕ) (start total : ℕ) where
   pub entry-zero : (t i : ℕ) → inside start total t ≡ true → (i < 512 → getD ws (place start t i) 0 ≡ 0) → entryAt ws start total t i ≡ Stop notMapped
   unfolding entryAt
   entry-zero t i a h =
-      rw a (pick-cases (λ (x : Walked). x ≡ Stop notMapped) (ltb i 512) _ _ (λ e. rw (h (ltb-true _ _ e)) (present-no 0 refl)) (λ _. refl))
+      rw a (pick-cases (λ (x : Outcome). x ≡ Stop notMapped) (ltb i 512) _ _ (λ e. rw (h (ltb-true _ _ e)) (present-no 0 refl)) (λ _. refl))
 
   -- a lent table's entry stops with 14 alone
   pub entry-stop : (t i a : ℕ) → inside start total t ≡ true → entryAt ws start total t i ≡ Stop a → a ≡ notMapped
   unfolding entryAt present
   entry-stop t i a h =
-      let P : Walked → Type 0 = λ x. x ≡ Stop a → a ≡ notMapped in
+      let P : Outcome → Type 0 = λ x. x ≡ Stop a → a ≡ notMapped in
       rw h (pick-cases P (ltb i 512) _ _ (λ _. pick-cases P (flag 0 (getD ws (place start t i) 0)) _ _ (λ _ g. absurd (nowhere (sym g))) (λ _ g. cc)) (λ _ g. cc))
 
   -- ---- along two paths, one after the other
 
-  pub reach-append : (p q : List ℕ) (t : ℕ) → reach ws start total t (p ++ q) ≡ andThen (reach ws start total t p) (λ f. reach ws start total f q)
+  pub reach-append : (p q : List ℕ) (t : ℕ) → reach ws start total t (p ++ q) ≡ andThen (reach ws start total t p) Stop (λ f. reach ws start total f q)
   unfolding reach
   reach-append [] q t = refl
   reach-append (i ∷ is) q t = go (entryAt ws start total t i) (λ e. reach-append is q (frameOf e))
     where
-      go : (x : Walked) → ((e : ℕ) → reach ws start total (frameOf e) (is ++ q) ≡ andThen (reach ws start total (frameOf e) is) (λ f. reach ws start total f q))
-          → andThen x (λ e. reach ws start total (frameOf e) (is ++ q)) ≡ andThen (andThen x (λ e. reach ws start total (frameOf e) is)) (λ f. reach ws start total f q)
-      go (At e) h = h e
+      go : (x : Outcome) → ((e : ℕ) → reach ws start total (frameOf e) (is ++ q) ≡ andThen (reach ws start total (frameOf e) is) Stop (λ f. reach ws start total f q))
+          → andThen x Stop (λ e. reach ws start total (frameOf e) (is ++ q)) ≡ andThen (andThen x Stop (λ e. reach ws start total (frameOf e) is)) Stop (λ f. reach ws start total f q)
+      go (Value e) h = h e
       go (Stop n) h = refl
 
   -- one step further
-  pub reach-step : (p : List ℕ) (root t i e : ℕ) → reach ws start total root p ≡ At t → entryAt ws start total t i ≡ At e
-      → reach ws start total root (p ++ (i ∷ [])) ≡ At (frameOf e)
+  pub reach-step : (p : List ℕ) (root t i e : ℕ) → reach ws start total root p ≡ Value t → entryAt ws start total t i ≡ Value e
+      → reach ws start total root (p ++ (i ∷ [])) ≡ Value (frameOf e)
   unfolding reach
   reach-step p root t i e h k = reach-append p (i ∷ []) root ∙ rw (h, k)
 
   -- and no further
-  pub reach-stuck : (p : List ℕ) (root t i : ℕ) (r : List ℕ) (n : ℕ) → reach ws start total root p ≡ At t → entryAt ws start total t i ≡ Stop n
+  pub reach-stuck : (p : List ℕ) (root t i : ℕ) (r : List ℕ) (n : ℕ) → reach ws start total root p ≡ Value t → entryAt ws start total t i ≡ Stop n
       → reach ws start total root (p ++ (i ∷ r)) ≡ Stop n
   unfolding reach
   reach-stuck p root t i r n h k = reach-append p (i ∷ r) root ∙ rw (h, k)
@@ -101,20 +103,20 @@ module _ (ws : List ℕ) (start total : ℕ) where
   pub record Last (root : ℕ) (p : List ℕ) (i f : ℕ) : Type 0 where
     pub table : ℕ
     pub word : ℕ
-    pub way : reach ws start total root p ≡ At table
-    pub entry : entryAt ws start total table i ≡ At word
+    pub way : reach ws start total root p ≡ Value table
+    pub entry : entryAt ws start total table i ≡ Value word
     pub names : frameOf word ≡ f
 
-  pub reach-back : (root : ℕ) (p : List ℕ) (i f : ℕ) → reach ws start total root (p ++ (i ∷ [])) ≡ At f → Last root p i f
+  pub reach-back : (root : ℕ) (p : List ℕ) (i f : ℕ) → reach ws start total root (p ++ (i ∷ [])) ≡ Value f → Last root p i f
   unfolding reach
   reach-back root p i f h = by-way (reach ws start total root p) refl (sym (reach-append p (i ∷ []) root) ∙ h)
     where
-      by-entry : (t : ℕ) → reach ws start total root p ≡ At t → (y : Walked) → entryAt ws start total t i ≡ y → andThen y (λ e. At (frameOf e)) ≡ At f → Last root p i f
-      by-entry t w (At e) k g = record { table = t; word = e; way = w; entry = k; names = cc }
+      by-entry : (t : ℕ) → reach ws start total root p ≡ Value t → (y : Outcome) → entryAt ws start total t i ≡ y → andThen y Stop (λ e. Value (frameOf e)) ≡ Value f → Last root p i f
+      by-entry t w (Value e) k g = record { table = t; word = e; way = w; entry = k; names = cc }
       by-entry t w (Stop n) k g = absurd (nowhere g)
 
-      by-way : (y : Walked) → reach ws start total root p ≡ y → andThen y (λ t. reach ws start total t (i ∷ [])) ≡ At f → Last root p i f
-      by-way (At t) w g = by-entry t w (entryAt ws start total t i) refl g
+      by-way : (y : Outcome) → reach ws start total root p ≡ y → andThen y Stop (λ t. reach ws start total t (i ∷ [])) ≡ Value f → Last root p i f
+      by-way (Value t) w g = by-entry t w (entryAt ws start total t i) refl g
       by-way (Stop n) w g = absurd (nowhere g)
 
   -- a walk that stops does so at an entry of a table that it came to
@@ -124,7 +126,7 @@ module _ (ws : List ℕ) (start total : ℕ) where
     pub rest : List ℕ
     pub table : ℕ
     pub split : p ≡ before ++ (index ∷ rest)
-    pub way : reach ws start total root before ≡ At table
+    pub way : reach ws start total root before ≡ Value table
     pub stop : entryAt ws start total table index ≡ Stop a
 
   pub reach-halt : (p : List ℕ) (root a : ℕ) → reach ws start total root p ≡ Stop a → Halt root p a
@@ -132,9 +134,9 @@ module _ (ws : List ℕ) (start total : ℕ) where
   reach-halt [] root a h = absurd (nowhere (sym h))
   reach-halt (i ∷ is) root a h = go (entryAt ws start total root i) refl h (λ e. reach-halt is (frameOf e) a)
     where
-      go : (x : Walked) → entryAt ws start total root i ≡ x → andThen x (λ e. reach ws start total (frameOf e) is) ≡ Stop a
+      go : (x : Outcome) → entryAt ws start total root i ≡ x → andThen x Stop (λ e. reach ws start total (frameOf e) is) ≡ Stop a
           → ((e : ℕ) → reach ws start total (frameOf e) is ≡ Stop a → Halt (frameOf e) is a) → Halt root (i ∷ is) a
-      go (At e) k g r =
+      go (Value e) k g r =
           let t = r e g in
           record {
             before = i ∷ t .before;
@@ -148,13 +150,13 @@ module _ (ws : List ℕ) (start total : ℕ) where
       go (Stop b) k g r = record { before = []; index = i; rest = is; table = root; split = refl; way = refl; stop = k ∙ g }
 
   -- each leading run of a path that is reached is reached
-  pub reach-lead : {p q : List ℕ} (root f : ℕ) → Leads p q → reach ws start total root q ≡ At f → (t : ℕ) × (reach ws start total root p ≡ At t)
+  pub reach-lead : {p q : List ℕ} (root f : ℕ) → Leads p q → reach ws start total root q ≡ Value f → (t : ℕ) × (reach ws start total root p ≡ Value t)
   reach-lead {p} {q} root f l h =
       go (reach ws start total root p) refl
       (sym (reach-append p (l .rest) root) ∙ ap (reach ws start total root) (l .join) ∙ h)
     where
-      go : (y : Walked) → reach ws start total root p ≡ y → andThen y (λ t. reach ws start total t (l .rest)) ≡ At f → (t : ℕ) × (reach ws start total root p ≡ At t)
-      go (At t) w g = (t, w)
+      go : (y : Outcome) → reach ws start total root p ≡ y → andThen y Stop (λ t. reach ws start total t (l .rest)) ≡ Value f → (t : ℕ) × (reach ws start total root p ≡ Value t)
+      go (Value t) w g = (t, w)
       go (Stop n) w g = absurd (nowhere g)
 
 -- ---- what leaves walks as they are
@@ -175,7 +177,7 @@ abbrev pub Same : List ℕ → List ℕ → ℕ → ℕ → ℕ → List ℕ →
 Same ws ws′ start total t [] = Unit {0}
 Same ws ws′ start total t (i ∷ is) =
     (entryAt ws′ start total t i ≡ entryAt ws start total t i)
-    × ((e : ℕ) → entryAt ws start total t i ≡ At e → Same ws ws′ start total (frameOf e) is)
+    × ((e : ℕ) → entryAt ws start total t i ≡ Value e → Same ws ws′ start total (frameOf e) is)
 
 module _ (ws ws′ : List ℕ) (start total : ℕ) where
   -- so it comes to the same frame
@@ -184,24 +186,24 @@ module _ (ws ws′ : List ℕ) (start total : ℕ) where
   same-reach [] t s = refl
   same-reach (i ∷ is) t s = rw (s .0) (go (entryAt ws start total t i) refl (λ e h. same-reach is (frameOf e) (s .1 e h)))
     where
-      go : (x : Walked) → entryAt ws start total t i ≡ x → ((e : ℕ) → entryAt ws start total t i ≡ At e → reach ws′ start total (frameOf e) is ≡ reach ws start total (frameOf e) is)
-          → andThen x (λ e. reach ws′ start total (frameOf e) is) ≡ andThen x (λ e. reach ws start total (frameOf e) is)
-      go (At e) h k = k e h
+      go : (x : Outcome) → entryAt ws start total t i ≡ x → ((e : ℕ) → entryAt ws start total t i ≡ Value e → reach ws′ start total (frameOf e) is ≡ reach ws start total (frameOf e) is)
+          → andThen x Stop (λ e. reach ws′ start total (frameOf e) is) ≡ andThen x Stop (λ e. reach ws start total (frameOf e) is)
+      go (Value e) h k = k e h
       go (Stop n) h k = refl
 
   -- and a path that begins with such reads ends at the same leaf, if what follows does
   pub same-then : (q r : List ℕ) (t : ℕ) → Same ws ws′ start total t q
-      → ((s : ℕ) → reach ws start total t q ≡ At s → leaf ws′ start total s r ≡ leaf ws start total s r)
+      → ((s : ℕ) → reach ws start total t q ≡ Value s → leaf ws′ start total s r ≡ leaf ws start total s r)
       → leaf ws′ start total t (q ++ r) ≡ leaf ws start total t (q ++ r)
   unfolding leaf reach
   same-then [] r t s k = k t refl
   same-then (i ∷ is) r t s k =
       rw (s .0) (go (entryAt ws start total t i) refl (λ e h. same-then is r (frameOf e) (s .1 e h) (λ x g. k x (rw h g))))
     where
-      go : (x : Walked) → entryAt ws start total t i ≡ x
-          → ((e : ℕ) → entryAt ws start total t i ≡ At e → leaf ws′ start total (frameOf e) (is ++ r) ≡ leaf ws start total (frameOf e) (is ++ r))
-          → orLeaf x (λ e. judge (is ++ r) e (leaf ws′ start total (frameOf e) (is ++ r))) ≡ orLeaf x (λ e. judge (is ++ r) e (leaf ws start total (frameOf e) (is ++ r)))
-      go (At e) h k = ap (judge (is ++ r) e) (k e h)
+      go : (x : Outcome) → entryAt ws start total t i ≡ x
+          → ((e : ℕ) → entryAt ws start total t i ≡ Value e → leaf ws′ start total (frameOf e) (is ++ r) ≡ leaf ws start total (frameOf e) (is ++ r))
+          → andThen x NoLeaf (λ e. judge (is ++ r) e (leaf ws′ start total (frameOf e) (is ++ r))) ≡ andThen x NoLeaf (λ e. judge (is ++ r) e (leaf ws start total (frameOf e) (is ++ r)))
+      go (Value e) h k = ap (judge (is ++ r) e) (k e h)
       go (Stop n) h k = refl
 
   pub same-leaf : (p : List ℕ) (t : ℕ) → Same ws ws′ start total t p → leaf ws′ start total t p ≡ leaf ws start total t p
@@ -212,7 +214,7 @@ module _ (ws ws′ : List ℕ) (start total : ℕ) where
   pub same-along : (D : ℕ → ℕ → Type 0)
       → ((t i : ℕ) → inside start total t ≡ true → i < 512 → (D t i → ⊥) → getD ws′ (place start t i) 0 ≡ getD ws (place start t i) 0)
       → (p : List ℕ) (t : ℕ)
-      → ((a : List ℕ) (i : ℕ) (r : List ℕ) (s : ℕ) → p ≡ a ++ (i ∷ r) → reach ws start total t a ≡ At s → inside start total s ≡ true → i < 512 → D s i → ⊥)
+      → ((a : List ℕ) (i : ℕ) (r : List ℕ) (s : ℕ) → p ≡ a ++ (i ∷ r) → reach ws start total t a ≡ Value s → inside start total s ≡ true → i < 512 → D s i → ⊥)
       → Same ws ws′ start total t p
   unfolding reach
   same-along D rest [] t off = tt

@@ -11,7 +11,7 @@ use lib.Seq.{getD-set-same, getD-set-other}
 use Rattle.answer.specs.Numbers.{notMapped}
 use Rattle.frame.specs.Frames.{inside}
 use Rattle.frame.proofs.Laws.{inside-from, inside-under}
-use Rattle.paging.specs.declared.Walked.the-variants.{Stop}
+use Rattle.answer.specs.declared.Outcome.the-variants.{Stop}
 use Rattle.paging.specs.Walk.{place, entryAt}
 use Rattle.paging.specs.Map.{clear, zeroFrame}
 use Rattle.paging.proofs.Map.{length-clear}

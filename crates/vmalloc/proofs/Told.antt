@@ -1,57 +1,49 @@
--- What the code says of a call's outcome, part by part: its result, the words and the bitmap.
-use Prim.Native.Nat.{ℕ, _≤_}
-use mathlib.Core.Path.{_≡_, sym, _∙_, ap, subst}
-use mathlib.Core.Bool.{true}
+-- What the code says of a call's outcome: what it leaves, and the list that its bytes stand for.
+use Prim.Native.Nat.{ℕ}
+use mathlib.Core.Path.{_≡_, refl, sym, _∙_, ap}
+use mathlib.Core.Bool.{Bool, true, false, true≢false}
 use mathlib.Core.List.{List}
-use native.Mathlib.Omega.{arith}
-use lib.ListN.{length}
-use Rattle.bits.proofs.Choice.{both-true}
-use Rattle.paging.specs.Calls.{whole}
-use Rattle.slots.specs.Slots.{listed, every}
-use Rattle.regions.specs.declared.VMAllocator.{VMAllocator}
-use Rattle.regions.specs.Regions.{wellPlacedRegion, soundRegions}
-use Rattle.regions.specs.List.{listOf}
-use Rattle.vmalloc.specs.Calls.{Kernel, Did, soundKernel}
-use Rattle.vmalloc.specs.Results.{vmalloced, vfreed}
-use Rattle.regions.proofs.Placed.{sound-few, sound-placed}
+use Rattle.bits.specs.Bit.{both}
+use Rattle.answer.specs.Numbers.{brokenRecord}
+use Rattle.packed.proofs.RoundTrip.{Bytes}
+use Rattle.answer.specs.declared.Outcome.{Outcome}
+use Rattle.answer.specs.declared.Outcome.the-variants.{Stop}
+use Rattle.paging.specs.Map.{Memory}
+use Rattle.paging.specs.Kept.{Kept, kept}
+use Rattle.slots.specs.Slots.{Slots}
+use Rattle.regions.specs.declared.VMRegion.{VMRegion}
+use Rattle.vm_list.specs.Packed.{vmIn, vmFit}
+use Rattle.vm_list.proofs.RoundTrip.{packed-back}
+use Rattle.vmalloc.specs.Calls.{Kernel, kernel, KernelDid, kernelDid, soundKernel}
+use Rattle.vmalloc.specs.Packed.{keptKernel, onVmList, KernelStands, KernelReads, soundLent}
 
-abbrev pub Told : {R : Type 0} → (Did → R) → Did → R → List ℕ → List ℕ → Type 0
-Told f d r ws bits = (r ≡ f d) × ((ws ≡ d .kernel .mem .words) × (bits ≡ d .kernel .mem .frames .bits))
+-- what an inner call leaves
+pub left : {A : Type 0} (form : Outcome → A) {d : KernelDid} (w : Outcome) (m : Memory) {s : Slots VMRegion} → d ≡ kernelDid w (kernel m s) → (zs : List ℕ) → vmFit zs ≡ true → Bytes zs → vmIn zs ≡ s
+    → (kept (form w) m zs ≡ keptKernel form d) × KernelStands d zs
+left form w m h zs fit b e =
+    ((λ j. kept (form w) m (packed-back zs fit b e j)) ∙ ap (keptKernel form) (sym h), (fit, e ∙ ap (λ (x : KernelDid). x .kernel .regions) (sym h)))
 
-pub told : {R : Type 0} (f : Did → R) {d e : Did} → d ≡ e → Told f d (f e) (e .kernel .mem .words) (e .kernel .mem .frames .bits)
-told f e = (ap f (sym e), (ap (λ (x : Did). x .kernel .mem .words) (sym e), ap (λ (x : Did). x .kernel .mem .frames .bits) (sym e)))
+-- .. and what the call leaves
+module _ {A : Type 0} (form : Outcome → A) (call : Kernel → KernelDid) (m : Memory) (list : List ℕ) where
+  abbrev pub Told : Kept A → Type 0
+  Told k = (k ≡ onVmList form call m list) × KernelReads call m list (k .list)
 
--- what an inner call gave is what the call gives
-pub told-on : {R : Type 0} (f : Did → R) {d e : Did} {r : R} {ws bits : List ℕ} → Told f e r ws bits → d ≡ e → Told f d r ws bits
-told-on f {r = r} {ws = ws} {bits = bits} t e = subst (λ (x : Did). Told f x r ws bits) (sym e) t
+  -- the list is one, and the call comes to d
+  pub told-on : vmFit list ≡ true → {d : KernelDid} → call (kernel m (vmIn list)) ≡ d → {k : Kept A} → (k ≡ keptKernel form d) × KernelStands d (k .list) → Told k
+  unfolding onVmList
+  told-on fit h (e, s) = (e ∙ ap (keptKernel form) (sym h) ∙ sym (rw fit), λ _. (s .0, s .1 ∙ ap (λ (x : KernelDid). x .kernel .regions) (sym h)))
 
--- .. with the list that a step on it gave
-pub vmalloc-told : {d e : Did} → d ≡ e → {l : VMAllocator} → l ≡ listOf (e .kernel .regions)
-    → Told vmalloced d (record { answer = vmalloced e .answer; frames = e .kernel .mem .frames .fa; list = l }) (e .kernel .mem .words) (e .kernel .mem .frames .bits)
-vmalloc-told {e = e} h g =
-    let t = told vmalloced h in
-    ((λ j. record { answer = vmalloced e .answer; frames = e .kernel .mem .frames .fa; list = g j }) ∙ t .0, t .1)
+  -- .. which refuses it
+  pub told-refused : vmFit list ≡ true → Bytes list → (e : ℕ) → call (kernel m (vmIn list)) ≡ kernelDid (Stop e) (kernel m (vmIn list)) → Told (kept (form (Stop e)) m list)
+  told-refused fit b e h = told-on fit h (left form (Stop e) m refl list fit b refl)
 
-pub vfree-told : {d e : Did} → d ≡ e → {l : VMAllocator} → l ≡ listOf (e .kernel .regions)
-    → Told vfreed d (record { answer = vfreed e .answer; frames = e .kernel .mem .frames .fa; list = l }) (e .kernel .mem .words) (e .kernel .mem .frames .bits)
-vfree-told {e = e} h g =
-    let t = told vfreed h in
-    ((λ j. record { answer = vfreed e .answer; frames = e .kernel .mem .frames .fa; list = g j }) ∙ t .0, t .1)
-
--- ---- what the test of all that is lent says
-
-module _ (k : Kernel) (root : ℕ) (h : soundKernel k root ≡ true) where
-  pub kernel-whole : whole (k .mem) root ≡ true
-  kernel-whole = both-true (whole (k .mem) root) _ h .0
-
-  kernel-sound : soundRegions (k .regions) ≡ true
-  kernel-sound = both-true (whole (k .mem) root) _ h .1
-
-  pub kernel-few : k .regions .count ≤ 256
-  kernel-few = sound-few (k .regions) kernel-sound
-
-  pub kernel-placed : every wellPlacedRegion (listed (k .regions)) ≡ true
-  kernel-placed = sound-placed (k .regions) kernel-sound
-
-  pub kernel-enough : length (k .regions .slots) ≡ 256 → k .regions .count ≤ length (k .regions .slots)
-  kernel-enough l = omega (arith, kernel-few)
+  -- something is broken
+  pub told-broken : (root : ℕ) → soundLent m list root ≡ false → Bytes list
+      → (soundKernel (kernel m (vmIn list)) root ≡ false → call (kernel m (vmIn list)) ≡ kernelDid (Stop brokenRecord) (kernel m (vmIn list)))
+      → Told (kept (form (Stop brokenRecord)) m list)
+  unfolding onVmList
+  told-broken root h b broken = by (vmFit list) refl
+    where
+      by : (f : Bool) → vmFit list ≡ f → Told (kept (form (Stop brokenRecord)) m list)
+      by true e = told-refused e b brokenRecord (broken (sym (ap (λ (f : Bool). both f (soundKernel (kernel m (vmIn list)) root)) e) ∙ h))
+      by false e = (sym (rw e), λ t. absurd (true≢false (sym t ∙ e)))

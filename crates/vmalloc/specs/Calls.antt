@@ -5,15 +5,13 @@ use lib.Dec.{eqb, leb, ltb}
 use Rattle.bits.specs.Bit.{pick, unless, both}
 use Rattle.allocator.specs.Round.{rounded}
 use Rattle.answer.specs.Numbers.{sizeZero, brokenRecord, regionNotFound}
-use Rattle.answer.specs.declared.CountAnswer.{CountAnswer}
-use Rattle.answer.specs.declared.CountAnswer.the-variants.{Count, NoCount}
-use Rattle.paging.specs.declared.Walked.{Walked}
-use Rattle.paging.specs.declared.Walked.the-variants.{At, Stop}
+use Rattle.answer.specs.declared.Outcome.{Outcome}
+use Rattle.answer.specs.declared.Outcome.the-variants.{Value, Stop}
 use Rattle.paging.specs.Map.{Memory}
 use Rattle.paging.specs.Calls.{whole}
 use Rattle.slots.specs.Slots.{Slots, listed, store}
 use Rattle.regions.specs.declared.VMRegion.{VMRegion}
-use Rattle.regions.specs.Regions.{windowStart, windowEnd, noSlot, soundRegions, firstFit, takenSlots, usedSize, freeFirst, merge}
+use Rattle.regions.specs.Regions.{windowStart, windowEnd, noVmRegion, soundRegions, firstFit, takenSlots, usedSize, freeFirst, merge}
 use Rattle.paging.specs.Pages.{Ran, mapPages, freePages}
 
 -- what vmalloc and vfree are lent: words and frames, the root beside them, and the list
@@ -24,12 +22,12 @@ pub record Kernel : Type 0 where
 abbrev pub kernel : Memory → Slots VMRegion → Kernel
 kernel m s = record { mem = m; regions = s }
 
-pub record Did : Type 0 where
-  pub answer : Walked
+pub record KernelDid : Type 0 where
+  pub answer : Outcome
   pub kernel : Kernel
 
-abbrev pub did : Walked → Kernel → Did
-did a k = record { answer = a; kernel = k }
+abbrev pub kernelDid : Outcome → Kernel → KernelDid
+kernelDid a k = record { answer = a; kernel = k }
 
 abbrev pub soundKernel : Kernel → ℕ → Bool
 soundKernel k root = both (whole (k .mem) root) (soundRegions (k .regions))
@@ -39,37 +37,37 @@ abbrev pub kernelPages : ℕ → Memory → ℕ → ℕ → ℕ → Ran
 kernelPages up m root a n = mapPages up true false m root a 0 (n / 4096)
 
 -- the region at a once its pages are mapped; after 11 or 13 'the region is free with its size cut, split and unmerged'
-abbrev pub mapped : ℕ → ℕ → Slots VMRegion → Walked → Memory → Did
-mapped a n s (At x) m = did (At a) (kernel m (takenSlots true n s))
-mapped a n s (Stop e) m = did (Stop e) (kernel m (takenSlots false n s))
+abbrev pub kernelMapped : ℕ → ℕ → Slots VMRegion → Outcome → Memory → KernelDid
+kernelMapped a n s (Value x) m = kernelDid (Value a) (kernel m (takenSlots true n s))
+kernelMapped a n s (Stop e) m = kernelDid (Stop e) (kernel m (takenSlots false n s))
 
 -- n bytes at the first free region large enough; 15 where there is none
-abbrev pub placed : ℕ → Kernel → ℕ → ℕ → Walked → Did
-placed up k root n (At a) = mapped a n (k .regions) (kernelPages up (k .mem) root a n .walked) (kernelPages up (k .mem) root a n .mem)
-placed up k root n (Stop e) = did (Stop e) k
+abbrev pub kernelPlaced : ℕ → Kernel → ℕ → ℕ → Outcome → KernelDid
+kernelPlaced up k root n (Value a) = kernelMapped a n (k .regions) (kernelPages up (k .mem) root a n .walked) (kernelPages up (k .mem) root a n .mem)
+kernelPlaced up k root n (Stop e) = kernelDid (Stop e) k
 
-abbrev pub sized : ℕ → Kernel → ℕ → CountAnswer → Did
-sized up k root (Count n) = placed up k root n (firstFit n (listed (k .regions)))
-sized up k root (NoCount e) = did (Stop e) k
+abbrev pub kernelSized : ℕ → Kernel → ℕ → Outcome → KernelDid
+kernelSized up k root (Value n) = kernelPlaced up k root n (firstFit n (listed (k .regions)))
+kernelSized up k root (Stop e) = kernelDid (Stop e) k
 
 -- 'vmalloc: 1, 3, 15', after 10
-unfoldable pub vmalloc : ℕ → Kernel → ℕ → ℕ → Did
+unfoldable pub vmalloc : ℕ → Kernel → ℕ → ℕ → KernelDid
 vmalloc up k root size =
-    unless (soundKernel k root) (did (Stop brokenRecord) k)
-    (pick (eqb size 0) (did (Stop sizeZero) k)
-    (sized up k root (rounded size)))
+    unless (soundKernel k root) (kernelDid (Stop brokenRecord) k)
+    (pick (eqb size 0) (kernelDid (Stop sizeZero) k)
+    (kernelSized up k root (rounded size)))
 
 -- a used region of n bytes at a, unmapped, freed and merged; or 16
-abbrev pub released : ℕ → Kernel → ℕ → ℕ → Walked → Did
-released up k root a (At n) =
-    did (At 0) (kernel (freePages up (k .mem) root a (n / 4096)) (store noSlot (merge (freeFirst a (listed (k .regions)))) (k .regions)))
-released up k root a (Stop e) = did (Stop e) k
+abbrev pub released : ℕ → Kernel → ℕ → ℕ → Outcome → KernelDid
+released up k root a (Value n) =
+    kernelDid (Value 0) (kernel (freePages up (k .mem) root a (n / 4096)) (store noVmRegion (merge (freeFirst a (listed (k .regions)))) (k .regions)))
+released up k root a (Stop e) = kernelDid (Stop e) k
 
 -- 16 for 'vfree of an unknown or null address'
-unfoldable pub vfree : ℕ → Kernel → ℕ → ℕ → Did
+unfoldable pub vfree : ℕ → Kernel → ℕ → ℕ → KernelDid
 vfree up k root a =
-    unless (soundKernel k root) (did (Stop brokenRecord) k)
-    (pick (eqb a 0) (did (Stop regionNotFound) k)
+    unless (soundKernel k root) (kernelDid (Stop brokenRecord) k)
+    (pick (eqb a 0) (kernelDid (Stop regionNotFound) k)
     (released up k root a (usedSize a (listed (k .regions)))))
 
 abbrev pub isVmallocAddr : ℕ → Bool

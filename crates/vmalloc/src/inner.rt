@@ -5,86 +5,90 @@ use address::Frame;
 use address::VirtAddr;
 use address::VirtAnswer;
 use answer::Answer;
+use answer::Outcome;
 use frame::FrameAllocator;
-use paging::Walked;
-use regions::VMAllocator;
+use frame::Marks;
 ghost use mathlib.Core.Path.{_≡_};
 ghost use mathlib.Core.Bool.{true};
-ghost use Rattle.frame.specs.Frames.{frames as framesOf};
-ghost use Rattle.paging.specs.Map.{memory};
-ghost use Rattle.slots.specs.Slots.{listed};
-ghost use Rattle.regions.specs.Regions.{firstFit, usedSize};
-ghost use Rattle.regions.specs.List.{slotsOf};
-ghost use Rattle.vmalloc.specs.Calls.{kernel, soundKernel, placed, released};
-ghost use Rattle.vmalloc.specs.Results.{vmalloced, vfreed};
+ghost use Rattle.answer.specs.Outcomes.{asAnswer};
+ghost use Rattle.address.specs.Address.{asVirt};
+ghost use Rattle.paging.specs.Kept.{lentMemory};
+ghost use Rattle.vmalloc.specs.Packed.{keptKernel, vmalloced, vfreed, KernelStands, soundLent, placedOn, releasedOn};
 
 // `size` bytes at the first free region large enough, its pages mapped; 15 where there is none. The region of a refused call is free, with its size cut.
 pub fn allocate(
     words: &mut [u64],
-    bitmap: &mut [u64; 128],
+    bitmap: &mut Marks,
     frames: FrameAllocator,
     root: Frame,
-    list: VMAllocator,
+    list: &mut [u8],
     size: u64,
 ) -> Vmalloced
-    requires { ⌜ soundKernel (kernel (memory (now words) (framesOf (now bitmap) frames)) (slotsOf list)) (root .0) ≡ true ⌝ }
-    ensures { λ r. ⌜ r ≡ vmalloced (placed 3 (kernel (memory (now (words .entry)) (framesOf (now (bitmap .entry)) frames)) (slotsOf list)) (root .0) size (firstFit size (listed (slotsOf list)))) ⌝ }
-    ensures { λ r. ⌜ now (words .exit) ≡ placed 3 (kernel (memory (now (words .entry)) (framesOf (now (bitmap .entry)) frames)) (slotsOf list)) (root .0) size (firstFit size (listed (slotsOf list))) .kernel .mem .words ⌝ }
-    ensures { λ r. ⌜ now (bitmap .exit) ≡ placed 3 (kernel (memory (now (words .entry)) (framesOf (now (bitmap .entry)) frames)) (slotsOf list)) (root .0) size (firstFit size (listed (slotsOf list))) .kernel .mem .frames .bits ⌝ }
+    requires { ⌜ soundLent (lentMemory (now words) (now bitmap) frames) (now list) (root .0) ≡ true ⌝ }
+    ensures { λ r. ⌜ vmalloced r (now (words .exit)) (now (bitmap .exit)) (now (list .exit))
+        ≡ keptKernel asVirt (placedOn (lentMemory (now (words .entry)) (now (bitmap .entry)) frames) (now (list .entry)) (root .0) size) ⌝ }
+    ensures { λ _. ⌜ KernelStands (placedOn (lentMemory (now (words .entry)) (now (bitmap .entry)) frames) (now (list .entry)) (root .0) size)
+        (now (list .exit)) ⌝ }
 {
-    let i = regions::list::first_fit(list, size);
-    if i == list.count {
+    let n = vm_list::count(list) as usize;
+    let i = vm_list::first_fit(list, n, size);
+    if i == n {
         return Vmalloced {
             answer: VirtAnswer::NoVirt(answer::NO_REGION),
             frames,
-            list,
         };
     }
-    let start = VirtAddr(list.regions[i].start);
+    let r = vm_list::slot(list, i);
+    let start = VirtAddr(r.start);
     let run = pages::map_pages(words, bitmap, frames, root, start, size / 4096, true, false);
     let walked = run.walked;
     let left = run.frames;
     match walked {
-        Walked::Stop(n) => Vmalloced {
-            answer: VirtAnswer::NoVirt(n),
-            frames: left,
-            list: regions::list::take_region(list, i, size, false),
-        },
-        Walked::At(_) => Vmalloced {
-            answer: VirtAnswer::AtVirt(start),
-            frames: left,
-            list: regions::list::take_region(list, i, size, true),
-        },
+        Outcome::Stop(e) => {
+            vm_list::take_region(list, n, i, size, false);
+            Vmalloced {
+                answer: VirtAnswer::NoVirt(e),
+                frames: left,
+            }
+        }
+        Outcome::Value(_) => {
+            vm_list::take_region(list, n, i, size, true);
+            Vmalloced {
+                answer: VirtAnswer::AtVirt(start),
+                frames: left,
+            }
+        }
     }
 }
 
 // The used region at an address free, its pages unmapped and their frames freed; 16 where there is none.
 pub fn free(
     words: &mut [u64],
-    bitmap: &mut [u64; 128],
+    bitmap: &mut Marks,
     frames: FrameAllocator,
     root: Frame,
-    list: VMAllocator,
+    list: &mut [u8],
     addr: VirtAddr,
 ) -> Vfreed
-    requires { ⌜ soundKernel (kernel (memory (now words) (framesOf (now bitmap) frames)) (slotsOf list)) (root .0) ≡ true ⌝ }
-    ensures { λ r. ⌜ r ≡ vfreed (released 3 (kernel (memory (now (words .entry)) (framesOf (now (bitmap .entry)) frames)) (slotsOf list)) (root .0) (addr .0) (usedSize (addr .0) (listed (slotsOf list)))) ⌝ }
-    ensures { λ r. ⌜ now (words .exit) ≡ released 3 (kernel (memory (now (words .entry)) (framesOf (now (bitmap .entry)) frames)) (slotsOf list)) (root .0) (addr .0) (usedSize (addr .0) (listed (slotsOf list))) .kernel .mem .words ⌝ }
-    ensures { λ r. ⌜ now (bitmap .exit) ≡ released 3 (kernel (memory (now (words .entry)) (framesOf (now (bitmap .entry)) frames)) (slotsOf list)) (root .0) (addr .0) (usedSize (addr .0) (listed (slotsOf list))) .kernel .mem .frames .bits ⌝ }
+    requires { ⌜ soundLent (lentMemory (now words) (now bitmap) frames) (now list) (root .0) ≡ true ⌝ }
+    ensures { λ r. ⌜ vfreed r (now (words .exit)) (now (bitmap .exit)) (now (list .exit))
+        ≡ keptKernel asAnswer (releasedOn (lentMemory (now (words .entry)) (now (bitmap .entry)) frames) (now (list .entry)) (root .0) (addr .0)) ⌝ }
+    ensures { λ _. ⌜ KernelStands (releasedOn (lentMemory (now (words .entry)) (now (bitmap .entry)) frames) (now (list .entry)) (root .0) (addr .0))
+        (now (list .exit)) ⌝ }
 {
-    let i = regions::list::find_used(list, addr.0);
-    if i == list.count {
+    let n = vm_list::count(list) as usize;
+    let i = vm_list::find_used(list, n, addr.0);
+    if i == n {
         return Vfreed {
             answer: Answer::Refused(answer::REGION_NOT_FOUND),
             frames,
-            list,
         };
     }
-    let size = list.regions[i].size;
-    let left = pages::free_pages(words, bitmap, frames, root, addr, size / 4096);
+    let r = vm_list::slot(list, i);
+    let left = pages::free_pages(words, bitmap, frames, root, addr, r.size / 4096);
+    vm_list::free_region(list, n, i);
     Vfreed {
         answer: Answer::Met,
         frames: left,
-        list: regions::list::free_region(list, i),
     }
 }

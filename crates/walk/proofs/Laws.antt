@@ -7,7 +7,7 @@ use Rattle.entry.specs.Entry.{addrOf, frameOf}
 use Rattle.entry.proofs.Entry.{frame-of-addr}
 use Rattle.frame.specs.Frames.{inside}
 use Rattle.frame.proofs.Laws.{inside-from, inside-bit}
-use Rattle.paging.specs.declared.Walked.the-variants.{At}
+use Rattle.answer.specs.declared.Outcome.the-variants.{Value}
 use Rattle.paging.specs.Walk.{reach, leaf}
 
 -- what `entry_place` asks of an entry of a lent table
@@ -18,8 +18,8 @@ place-asks start total t i few h k = (inside-from start total t h, (inside-bit s
 pub shifted : (e : ℕ) {a : ℕ} → a ≡ addrOf e → a / 4096 ≡ frameOf e
 shifted e h = ap (λ (x : ℕ). x / 4096) h ∙ frame-of-addr e
 
-pub named : (e : ℕ) {a : ℕ} → a ≡ addrOf e → At (frameOf e) ≡ At (a / 4096)
-named e h = ap At (sym (shifted e h))
+pub named : (e : ℕ) {a : ℕ} → a ≡ addrOf e → Value (frameOf e) ≡ Value (a / 4096)
+named e h = ap Value (sym (shifted e h))
 
 module _ (ws : List ℕ) (start total e : ℕ) {a : ℕ} (h : a ≡ addrOf e) (is : List ℕ) where
   pub reach-shifted : reach ws start total (frameOf e) is ≡ reach ws start total (a / 4096) is

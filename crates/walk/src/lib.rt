@@ -4,15 +4,17 @@ use address::PhysAddr;
 use address::PhysAnswer;
 use address::VirtAddr;
 use answer::FlagAnswer;
+use answer::Outcome;
 use entry::paging::PageTableEntry;
 use paging::Leaf;
-use paging::Walked;
 ghost use mathlib.Core.Path.{_≡_};
 ghost use Prim.Native.Nat.{ℕ, _-_, _%_, _^_, _<_, _≤_};
 ghost use lib.ListN.{getD, take};
 ghost use Rattle.entry.specs.Entry.{indices as indicesOf};
-ghost use Rattle.paging.specs.Walk.{place, entryAt, reach, leaf, address, lent, Lent};
-ghost use Rattle.paging.specs.Calls.{asPhys, userLeaf, translate as translated, userMay};
+ghost use Rattle.paging.specs.Walk.{place, entryAt, reach, leaf, address, mayWalk, WordsLent};
+ghost use Rattle.paging.specs.Calls.{userLeaf, translate as translated, userMay};
+ghost use Rattle.paging.specs.Levels.{aboveLast, levels};
+ghost use Rattle.address.specs.Address.{asPhys};
 
 // The word number of entry i of table t, which is lent.
 pub fn entry_place(start: u64, t: u64, i: usize) -> usize
@@ -25,32 +27,32 @@ pub fn entry_place(start: u64, t: u64, i: usize) -> usize
 }
 
 // The present word at entry i of table t.
-pub fn entry_at(words: &[u64], start: u64, total: u64, t: u64, i: usize) -> Walked
-    requires { ⌜ Lent (now words) start total ⌝ }
+pub fn entry_at(words: &[u64], start: u64, total: u64, t: u64, i: usize) -> Outcome
+    requires { ⌜ WordsLent (now words) start total ⌝ }
     requires { ⌜ i < 512 ⌝ }
     ensures { λ r. ⌜ r ≡ entryAt (now (words .entry)) start total t i ⌝ }
 {
     if !frame::inner::is_inside(start, total, t) {
-        return Walked::Stop(answer::OUTSIDE);
+        return Outcome::Stop(answer::OUTSIDE);
     }
     let e = words[entry_place(start, t, i)];
     if PageTableEntry(e).is_present() {
-        return Walked::At(e);
+        return Outcome::Value(e);
     }
-    Walked::Stop(answer::NOT_MAPPED)
+    Outcome::Stop(answer::NOT_MAPPED)
 }
 
 // The entry that a translation ends at. Only the third level looks at HUGE.
 pub fn find_leaf(words: &[u64], start: u64, total: u64, root: Frame, virt: VirtAddr) -> Leaf
-    requires { ⌜ Lent (now words) start total ⌝ }
-    ensures { λ r. ⌜ r ≡ leaf (now (words .entry)) start total (root .0) (indicesOf 4 (virt .0)) ⌝ }
+    requires { ⌜ WordsLent (now words) start total ⌝ }
+    ensures { λ r. ⌜ r ≡ leaf (now (words .entry)) start total (root .0) (indicesOf levels (virt .0)) ⌝ }
 {
     let indices = entry::page_indices(virt);
     let mut t = root.0;
     for level in 0..4 {
         match entry_at(words, start, total, t, indices[level]) {
-            Walked::Stop(n) => return Leaf::NoLeaf(n),
-            Walked::At(e) => {
+            Outcome::Stop(n) => return Leaf::NoLeaf(n),
+            Outcome::Value(e) => {
                 if level == 3 {
                     return Leaf::Page(e);
                 }
@@ -73,8 +75,8 @@ fn large_offset(virt: VirtAddr) -> u64
 
 // From a virtual address to the physical one.
 pub fn walk(words: &[u64], start: u64, total: u64, root: Frame, virt: VirtAddr) -> PhysAnswer
-    requires { ⌜ Lent (now words) start total ⌝ }
-    ensures { λ r. ⌜ r ≡ asPhys (address (virt .0) (leaf (now (words .entry)) start total (root .0) (indicesOf 4 (virt .0)))) ⌝ }
+    requires { ⌜ WordsLent (now words) start total ⌝ }
+    ensures { λ r. ⌜ r ≡ asPhys (address (virt .0) (leaf (now (words .entry)) start total (root .0) (indicesOf levels (virt .0)))) ⌝ }
 {
     match find_leaf(words, start, total, root, virt) {
         Leaf::Page(e) => {
@@ -101,26 +103,32 @@ pub fn user_entry(e: PageTableEntry, write: bool) -> bool
 }
 
 // The last table on the way to a page.
-pub fn find_table(words: &[u64], start: u64, total: u64, root: Frame, indices: [usize; 4]) -> Walked
-    requires { ⌜ Lent (now words) start total ⌝ }
+pub fn find_table(
+    words: &[u64],
+    start: u64,
+    total: u64,
+    root: Frame,
+    indices: [usize; 4],
+) -> Outcome
+    requires { ⌜ WordsLent (now words) start total ⌝ }
     requires { ⌜ ((k : ℕ) → getD indices k 0 < 512) ⌝ }
-    ensures { λ r. ⌜ r ≡ reach (now (words .entry)) start total (root .0) (take 3 indices) ⌝ }
+    ensures { λ r. ⌜ r ≡ reach (now (words .entry)) start total (root .0) (take aboveLast indices) ⌝ }
 {
     let mut t = root.0;
     for level in 0..3 {
         match entry_at(words, start, total, t, indices[level]) {
-            Walked::Stop(n) => return Walked::Stop(n),
-            Walked::At(e) => {
+            Outcome::Stop(n) => return Outcome::Stop(n),
+            Outcome::Value(e) => {
                 t = PageTableEntry(e).addr().0 >> 12;
             }
         }
     }
-    Walked::At(t)
+    Outcome::Value(t)
 }
 
 // Whether a walk can start: the frames lent are those of a record that is not broken.
 pub fn is_lent(len: usize, start: u64, total: u64, root: Frame) -> bool
-    ensures { λ r. ⌜ r ≡ lent len start total (root .0) ⌝ }
+    ensures { λ r. ⌜ r ≡ mayWalk len start total (root .0) ⌝ }
 {
     if total > frame::MAX_FRAMES {
         return false;
@@ -128,14 +136,14 @@ pub fn is_lent(len: usize, start: u64, total: u64, root: Frame) -> bool
     if (total as usize) * 512 > len {
         return false;
     }
-    if start > frame::LAST_FRAME - total {
+    if start > frame::FRAMES_END - total {
         return false;
     }
     frame::inner::is_inside(start, total, root.0)
 }
 
 pub fn translate(words: &[u64], start: u64, total: u64, root: Frame, virt: VirtAddr) -> PhysAnswer
-    ensures { λ r. ⌜ r ≡ asPhys (translated 3 (now (words .entry)) start total (root .0) (virt .0)) ⌝ }
+    ensures { λ r. ⌜ r ≡ asPhys (translated aboveLast (now (words .entry)) start total (root .0) (virt .0)) ⌝ }
 {
     if !is_lent(words.len(), start, total, root) {
         return PhysAnswer::NoPhys(answer::BROKEN_RECORD);
@@ -152,7 +160,7 @@ pub fn user_may(
     virt: VirtAddr,
     write: bool,
 ) -> FlagAnswer
-    ensures { λ r. ⌜ r ≡ userMay 3 (now (words .entry)) start total (root .0) (virt .0) write ⌝ }
+    ensures { λ r. ⌜ r ≡ userMay aboveLast (now (words .entry)) start total (root .0) (virt .0) write ⌝ }
 {
     if !is_lent(words.len(), start, total, root) {
         return FlagAnswer::NoFlag(answer::BROKEN_RECORD);

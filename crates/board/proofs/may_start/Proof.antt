@@ -2,7 +2,7 @@
 use Prim.Native.Nat.{_*_, _≤_}
 use mathlib.Core.Path.{sym, _∙_}
 use Rattle.board.specs.Board.{frameCount}
-use Rattle.board.proofs.Steps.{may-crossed, may-high, may-short, may-none, may-met}
+use Rattle.board.proofs.Outcomes.{may-crossed, may-high, may-short, may-none, may-met}
 use borrow.Author.Needs.{needs}
 use Rattle.board.proofs.may_start.Statement.{statement}
 use Rattle.board.proofs.may_start.Tie as tie

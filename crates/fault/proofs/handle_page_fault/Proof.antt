@@ -1,17 +1,35 @@
 -- `handle_page_fault`: 10, or the first path at the address's page.
 use mathlib.Core.Path.{_≡_}
 use mathlib.Core.Bool.{true}
-use Rattle.frame.specs.Frames.{frames as framesOf}
+use Rattle.bits.specs.Bit.{both}
 use Rattle.frame.proofs.Laws.{passed, failed}
-use Rattle.paging.specs.Map.{memory}
+use Rattle.paging.specs.Levels.{aboveLast}
+use Rattle.paging.specs.Map.{Memory}
+use Rattle.paging.specs.Kept.{lentMemory}
 use Rattle.paging.specs.Calls.{whole}
 use Rattle.paging.proofs.Calls.{whole-roomy}
-use Rattle.cow.specs.Marked.{slotsOf, soundMarked}
-use Rattle.fault.specs.Faults.{Faulting, faulting}
-use Rattle.fault.proofs.Faults.{told-fault, says-on, fault-broken, fault-unsorted, fault-is}
+use Rattle.cow.specs.Marked.{soundMarked}
+use Rattle.cow.specs.Packed.{markedIn, markedFit}
+use Rattle.fault.specs.Faults.{Faulting, FaultDid, handled, handleFault}
+use Rattle.fault.proofs.Faults.{says-broken, says-on, fault-broken, fault-unsorted, fault-is}
 use borrow.Author.Needs.{needs}
 use Rattle.fault.proofs.handle_page_fault.Statement.{statement}
 use Rattle.fault.proofs.handle_page_fault.Tie as tie
+
+-- what is lent
+abbrev mem : tie.Start → Memory
+mem s = lentMemory (s .args .words .now) (s .args .bitmap .now) (s .args .frames)
+
+abbrev path : tie.Start → Faulting → FaultDid
+path s x = handleFault aboveLast x (s .args .root .0) (s .args .addr .0) (s .args .code)
+
+-- nothing is broken
+good : (c : tie.Else1) → let s = c .before .before .before .before .before .before in whole (mem s) (s .args .root .0) ≡ true
+good c = passed (c .before .is-whole .ensures) (c .if1 .left)
+
+sorted : (c : tie.Else2) → let bs = c .before .before .before .before .before .before .before .before .before .args .marked .now in
+    both (markedFit bs) (soundMarked (markedIn bs)) ≡ true
+sorted c = passed (c .before .is-sound .ensures) (c .if2 .left)
 
 is-whole-requires : tie.Need-is-whole-requires
 is-whole-requires c κs = search needs
@@ -19,19 +37,12 @@ is-whole-requires c κs = search needs
 same-length : tie.Need-same-length
 same-length c = search needs
 
--- what is lent
-abbrev lent : tie.Start → Faulting
-lent s = faulting (memory (s .args .words .now) (framesOf (s .args .bitmap .now) (s .args .frames))) (slotsOf (s .args .marked .now) (s .args .count))
-
--- nothing is broken
-good : (c : tie.Else1) → whole (lent (c .before .before .before .before .before) .mem) (c .before .before .before .before .before .args .root .0) ≡ true
-good c = passed (c .before .is-whole .ensures) (c .if1 .left)
-
-sorted : (c : tie.Else2) → soundMarked (lent (c .before .before .before .before .before .before .before .before) .marked) ≡ true
-sorted c = passed (c .before .is-sound .ensures .0) (c .if2 .left)
-
 returns : tie.Need-returns
-returns c = told-fault (fault-broken 3 (lent (c .before .before .before .before .before)) _ _ _ (failed (c .before .is-whole .ensures) (c .if1 .taken)))
+returns c =
+    let s = c .before .before .before .before .before .before in
+    let a = s .args in
+    let e = fault-broken aboveLast (mem s) (a .marked .now) (a .root .0) (a .addr .0) (a .code) (failed (c .before .is-whole .ensures) (c .if1 .taken)) in
+    says-broken (path s) (mem s) (a .marked .now) (λ _. e) (λ k. c .before .before .before .before .slice-known2 .given k .fits)
 
 is-sound-requires : tie.Need-is-sound-requires
 is-sound-requires c κs = search needs
@@ -39,29 +50,38 @@ is-sound-requires c κs = search needs
 same-length-2 : tie.Need-same-length-2
 same-length-2 c = search needs
 
+same-length-3 : tie.Need-same-length-3
+same-length-3 c = search needs
+
 returns-2 : tie.Need-returns-2
 returns-2 c =
-    told-fault (fault-unsorted 3 (lent (c .before .before .before .before .before .before .before .before)) _ _ _ (good (c .before .before .before))
-    (failed (c .before .is-sound .ensures .0) (c .if2 .taken)))
+    let g = c .before .before .before in
+    let s = g .before .before .before .before .before .before in
+    let a = s .args in
+    let e = fault-unsorted aboveLast (mem s) (a .marked .now) (a .root .0) (a .addr .0) (a .code) (good g) (failed (c .before .is-sound .ensures) (c .if2 .taken)) in
+    says-broken (path s) (mem s) (a .marked .now) e (λ k. g .before .before .before .before .slice-known2 .given k .fits)
 
 page-of-requires : tie.Need-page-of-requires
 page-of-requires c κs = search needs
 
 handle-requires : tie.Need-handle-requires
-handle-requires c κs = (
-  whole-roomy _ _ (good (c .before .before .before .before .before .before .before)) 7 (search needs),
-  (c .before .before .before .before .before .is-sound .ensures .1, sorted (c .before .before .before .before)),
-)
+handle-requires c κs = let e = c .before .before .before .before in (whole-roomy _ _ (good (e .before .before .before)) 7 (search needs), sorted e)
 
-same-length-3 : tie.Need-same-length-3
-same-length-3 c = search needs
+same-length-4 : tie.Need-same-length-4
+same-length-4 c = search needs
+
+same-length-5 : tie.Need-same-length-5
+same-length-5 c = search needs
 
 returns-3 : tie.Need-returns-3
 returns-3 c =
-    let s = c .before .before .before .before .before .before .before .before .before .before .before .before .before .before .before in
-    says-on (c .before .before .handle .ensures)
-    (fault-is 3 (lent s) _ (s .args .addr .0) (s .args .code) (good (c .before .before .before .before .before .before .before .before .before .before))
-    (sorted (c .before .before .before .before .before .before .before)) (c .before .before .before .page-of .ensures))
+    let h = c .before .before .before .before in
+    let e = h .before .before .before .before .before in
+    let g = e .before .before .before in
+    let s = g .before .before .before .before .before .before in
+    let a = s .args in
+    says-on (path s) (λ x. handled aboveLast x (a .root .0) (h .before .page-of .result .0) (a .code)) (mem s) (a .marked .now)
+    (fault-is aboveLast (mem s) (a .marked .now) (a .root .0) (a .addr .0) (a .code) (good g) (sorted e) (h .before .page-of .ensures)) (h .handle .ensures)
 
 pub handle-page-fault-spec : {M : Type 1} → statement M
 handle-page-fault-spec =
@@ -72,8 +92,10 @@ handle-page-fault-spec =
     returns
     is-sound-requires
     same-length-2
+    same-length-3
     returns-2
     page-of-requires
     handle-requires
-    same-length-3
+    same-length-4
+    same-length-5
     returns-3)

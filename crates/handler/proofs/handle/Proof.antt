@@ -2,6 +2,7 @@
 use mathlib.Core.Path.{_≡_, sym, _∙_}
 use mathlib.Core.Bool.{false}
 use Rattle.frame.specs.Frames.{frames as framesOf}
+use Rattle.paging.specs.Levels.{aboveLast}
 use Rattle.paging.specs.Map.{Memory, memory}
 use Rattle.paging.proofs.Calls.{told}
 use Rattle.fault.specs.Faults.{isReserved}
@@ -23,7 +24,7 @@ plain c = sym (c .before .is-reserved .ensures) ∙ c .if1 .left
 returns : tie.Need-returns
 returns c =
     let s = c .before .before .before in
-    told (second-reserved 3 (lent s) _ (s .args .page .0) (s .args .code) (sym (c .before .is-reserved .ensures) ∙ c .if1 .taken))
+    told (second-reserved aboveLast (lent s) _ (s .args .page .0) (s .args .code) (sym (c .before .is-reserved .ensures) ∙ c .if1 .taken))
 
 is-present-requires : tie.Need-is-present-requires
 is-present-requires c κs = search needs
@@ -34,7 +35,7 @@ refusal-requires c κs = search needs
 returns-2 : tie.Need-returns-2
 returns-2 c =
     let s = c .before .before .before .before .before .before in
-    told (second-present 3 (lent s) _ (s .args .page .0) (s .args .code) (plain (c .before .before .before))
+    told (second-present aboveLast (lent s) _ (s .args .page .0) (s .args .code) (plain (c .before .before .before))
     (sym (c .before .before .is-present .ensures) ∙ c .before .if2 .taken) (c .refusal .ensures))
 
 is-write-requires : tie.Need-is-write-requires
@@ -55,7 +56,7 @@ same-length c = search needs
 returns-3 : tie.Need-returns-3
 returns-3 c =
     let s = c .before .before .before .before .before .before .before .before .before .before .before .before .before .before in
-    second-absent 3 (lent s) _ (s .args .page .0) (s .args .code)
+    second-absent aboveLast (lent s) _ (s .args .page .0) (s .args .code)
     (plain (c .before .before .before .before .before .before .before .before .before .before .before))
     (sym (c .before .before .before .before .before .before .before .before .before .before .is-present .ensures)
     ∙ c .before .before .before .before .before .before .before .before .before .if2 .left)

@@ -4,6 +4,7 @@ use mathlib.Core.Bool.{true}
 use Rattle.frame.specs.Frames.{frames as framesOf}
 use Rattle.frame.proofs.Laws.{passed, failed}
 use Rattle.mapper.proofs.Laws.{passed-on}
+use Rattle.paging.specs.Levels.{aboveLast}
 use Rattle.paging.specs.Map.{Memory, memory}
 use Rattle.paging.specs.Calls.{whole}
 use Rattle.paging.proofs.Calls.{told, whole-roomy}
@@ -27,7 +28,7 @@ good : (c : tie.Else1) → whole (lent (c .before .before .before .before .befor
 good c = passed (c .before .is-whole .ensures) (c .if1 .left)
 
 returns : tie.Need-returns
-returns c = told (second-broken 3 (lent (c .before .before .before .before .before)) _ _ _ (failed (c .before .is-whole .ensures) (c .if1 .taken)))
+returns c = told (second-broken aboveLast (lent (c .before .before .before .before .before)) _ _ _ (failed (c .before .is-whole .ensures) (c .if1 .taken)))
 
 page-of-requires : tie.Need-page-of-requires
 page-of-requires c κs = search needs
@@ -42,7 +43,7 @@ returns-2 : tie.Need-returns-2
 returns-2 c =
     let s = c .before .before .before .before .before .before .before .before .before .before .before in
     passed-on (c .before .before .handle .ensures)
-    (second-is 3 (lent s) _ (s .args .addr .0) (s .args .code) (good (c .before .before .before .before .before .before))
+    (second-is aboveLast (lent s) _ (s .args .addr .0) (s .args .code) (good (c .before .before .before .before .before .before))
     (c .before .before .before .page-of .ensures))
 
 pub handle-page-fault-spec : {M : Type 1} → statement M

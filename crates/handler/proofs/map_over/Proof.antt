@@ -3,6 +3,7 @@ use native.Mathlib.Omega.{arith}
 use lib.ListN.{take, length-take}
 use Rattle.frame.specs.Frames.{frames as framesOf}
 use Rattle.mapper.proofs.Laws.{made-roomy}
+use Rattle.paging.specs.Levels.{aboveLast}
 use Rattle.paging.specs.Map.{Memory, memory}
 use Rattle.paging.proofs.Map.{roomy-less, roomy-lent}
 use Rattle.fault.proofs.Steps.{frame-low}
@@ -43,9 +44,9 @@ put-over-requires c κs =
     let s = i .before .before in
     let a = s .args in
     let is = i .page-indices .result in (
-      roomy-lent (made-roomy (a .user) (lent s) (a .root .0) (take 3 is) (r .make-tables .ensures) 0
-          (roomy-less {m = lent s} _ (omega (arith, length-take 3 is)) (s .pre .0))),
-      (i .page-indices .ensures .1 _, made-lent (a .user) (lent s) (a .root .0) (take 3 is) (r .make-tables .ensures) (a .f) (s .pre .1)),
+      roomy-lent (made-roomy (a .user) (lent s) (a .root .0) (take aboveLast is) (r .make-tables .ensures) 0
+          (roomy-less {m = lent s} _ (omega (arith, length-take aboveLast is)) (s .pre .0))),
+      (i .page-indices .ensures .1 _, made-lent (a .user) (lent s) (a .root .0) (take aboveLast is) (r .make-tables .ensures) (a .f) (s .pre .1)),
     )
 
 same-length : tie.Need-same-length
@@ -57,7 +58,7 @@ returns c =
     let i = r .before .before .before in
     let s = i .before .before in
     let a = s .args in
-    map-over-stop 3 (lent s) (a .root .0) (a .virt .0) (a .f) (a .writable) (a .user) (i .page-indices .ensures .0)
+    map-over-stop aboveLast (lent s) (a .root .0) (a .virt .0) (a .f) (a .writable) (a .user) (i .page-indices .ensures .0)
     (r .make-tables .ensures) (c .before .walked .given .1)
 
 same-length-2 : tie.Need-same-length-2
@@ -70,7 +71,7 @@ returns-2 c =
     let i = r .before .before .before in
     let s = i .before .before in
     let a = s .args in
-    map-over-put 3 (lent s) (a .root .0) (a .virt .0) (a .f) (a .writable) (a .user) (i .page-indices .ensures .0)
+    map-over-put aboveLast (lent s) (a .root .0) (a .virt .0) (a .f) (a .writable) (a .user) (i .page-indices .ensures .0)
     (r .make-tables .ensures) (w .walked2 .given .1) (frame-low {m = lent s} (a .f) (s .pre .0) (s .pre .1))
     (c .before .before .before .before .before .start-address .ensures) (c .before .before .before .before .set .ensures)
     (c .before .before .put-over .ensures _)

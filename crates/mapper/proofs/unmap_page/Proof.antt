@@ -1,7 +1,8 @@
 -- `unmap_page`: 10, or the leaf cleared.
 use mathlib.Core.Path.{_≡_, sym, _∙_, ap}
-use Rattle.paging.specs.declared.Walked.{Walked}
-use Rattle.paging.specs.Calls.{asFrame, unmapPage}
+use Rattle.answer.specs.declared.Outcome.{Outcome}
+use Rattle.paging.specs.Calls.{unmapPage}
+use Rattle.address.specs.Address.{asFrame}
 use Rattle.paging.proofs.Walk.{lent-words}
 use Rattle.paging.proofs.Calls.{told-left, unmap-broken, unmap-is}
 use Rattle.frame.proofs.Laws.{passed, failed}
@@ -21,7 +22,7 @@ unmap-leaf-requires : tie.Need-unmap-leaf-requires
 unmap-leaf-requires c κs = lent-words _ _ _ _ (passed (c .before .before .is-lent .ensures) (c .before .if1 .left))
 
 -- the answer from where the step came
-from : (c : tie.After-unmap-leaf) → {w : Walked} → c .unmap-leaf .result ≡ w → let a = c .before .before .before .before .before .args in
+from : (c : tie.After-unmap-leaf) → {w : Outcome} → c .unmap-leaf .result ≡ w → let a = c .before .before .before .before .before .args in
     let d = unmapPage 3 (a .words .now) (a .start) (a .total) (a .root .0) (a .virt .0) in
     (asFrame w ≡ asFrame (d .walked)) × (c .unmap-leaf .last .0 ≡ d .words)
 from c h =

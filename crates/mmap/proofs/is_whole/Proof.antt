@@ -1,6 +1,8 @@
 -- `is_whole`: words, frames and root, then the list.
 use mathlib.Core.Path.{sym, _∙_}
+use Rattle.bits.proofs.Choice.{both-false}
 use Rattle.frame.proofs.Laws.{passed, failed}
+use Rattle.mappings.specs.Packed.{mmapFit}
 use borrow.Author.Needs.{needs}
 use Rattle.mmap.proofs.is_whole.Statement.{statement}
 use Rattle.mmap.proofs.is_whole.Tie as tie
@@ -9,7 +11,7 @@ is-whole-requires : tie.Need-is-whole-requires
 is-whole-requires c κs = search needs
 
 returns : tie.Need-returns
-returns c = sym (rw (failed (c .before .is-whole .ensures) (c .if1 .taken)))
+returns c = sym (rw (failed (c .before .is-whole .ensures) (c .if1 .taken)) (both-false (mmapFit (c .before .before .before .before .args .list .now))))
 
 is-sound-requires : tie.Need-is-sound-requires
 is-sound-requires c κs = search needs

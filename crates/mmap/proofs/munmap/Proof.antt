@@ -1,28 +1,45 @@
 -- `munmap`: 10, 1, 2, 3, then the region.
-use mathlib.Core.Path.{_≡_, refl, sym, _∙_}
-use mathlib.Core.Bool.{true}
-use mathlib.Core.List.{List}
 use Prim.Native.Nat.{ℕ, _%_}
+use mathlib.Core.Path.{_≡_, refl, sym, _∙_, ap, subst}
+use mathlib.Core.Bool.{Bool, true, false, not}
 use borrow.Author.Needs.{needs}
-use Rattle.frame.proofs.Laws.{passed, failed}
-use Rattle.mmap.specs.Calls.{User, soundUser, unmapRegion, munmap}
-use Rattle.mmap.specs.declared.Munmapped.{Munmapped}
+use Rattle.bits.specs.Bit.{both}
+use Rattle.bits.proofs.Choice.{both-true}
 use Rattle.allocator.specs.Round.{rounded}
-use Rattle.answer.specs.declared.CountAnswer.the-variants.{Count}
-use Rattle.mmap.specs.Results.{lentUser, munmapped}
-use Rattle.mmap.proofs.Steps.{Told, told, passed-on, munmap-broken, munmap-empty, munmap-odd, munmap-large, munmap-sized}
+use Rattle.answer.specs.declared.Answer.{Answer}
+use Rattle.answer.specs.declared.Outcome.the-variants.{Value}
+use Rattle.frame.proofs.Laws.{passed, failed}
+use Rattle.paging.specs.Levels.{aboveLast}
+use Rattle.answer.specs.Outcomes.{asAnswer}
+use Rattle.paging.specs.Kept.{Kept}
+use Rattle.mappings.specs.Packed.{mmapFit}
+use Rattle.mmap.specs.declared.Munmapped.{Munmapped}
+use Rattle.mmap.specs.Calls.{User, UserDid, soundUser, unmapRegion, munmap}
+use Rattle.mmap.specs.Packed.{lentUser, munmapOn, munmapped, UserReads, UserLeaves}
+use Rattle.mmap.proofs.Leaving.{not-unmapped-left, on-list, on-broken}
+use Rattle.mmap.proofs.Steps.{munmap-broken, munmap-empty, munmap-odd, munmap-large, munmap-sized}
 use Rattle.mmap.proofs.munmap.Statement.{statement}
 use Rattle.mmap.proofs.munmap.Tie as tie
 
 abbrev lent : tie.Start → User
-lent s = lentUser (s .args .words .now) (s .args .bitmap .now) (s .args .frames) (s .args .list)
+lent s = lentUser (s .args .words .now) (s .args .bitmap .now) (s .args .frames) (s .args .list .now)
+
+-- the call on whatever list
+abbrev call : tie.Start → User → UserDid
+call s u = munmap aboveLast u (s .args .root .0) (s .args .addr .0) (s .args .size)
 
 is-whole-requires : tie.Need-is-whole-requires
 is-whole-requires c κs = tt
 
 -- nothing that is lent is broken
-good : (c : tie.Else1) → let s = c .before .before .before .before .before in soundUser (lent s) (s .args .root .0) ≡ true
-good c = passed (c .before .is-whole .ensures) (c .if1 .left)
+abbrev Good : tie.Start → Type 0
+Good s = (mmapFit (s .args .list .now) ≡ true) × (soundUser (lent s) (s .args .root .0) ≡ true)
+
+tested : (s : tie.Start) {r : Bool} → r ≡ both (mmapFit (s .args .list .now)) (soundUser (lent s) (s .args .root .0)) → not r ≡ false → Good s
+tested s e h = both-true (mmapFit (s .args .list .now)) (soundUser (lent s) (s .args .root .0)) (passed e h)
+
+good : (c : tie.Else1) → Good (c .before .before .before .before .before .before .before)
+good c = tested (c .before .before .before .before .before .before .before) (c .before .is-whole .ensures) (c .if1 .left)
 
 not-unmapped-requires : tie.Need-not-unmapped-requires
 not-unmapped-requires c κs = tt
@@ -30,37 +47,57 @@ not-unmapped-requires c κs = tt
 same-length : tie.Need-same-length
 same-length c = refl
 
+same-length-2 : tie.Need-same-length-2
+same-length-2 c = refl
+
 returns : tie.Need-returns
 returns c =
     let w = c .before .before in
-    let s = w .before .before .before .before in
-    told munmapped (munmap-broken 3 (lent s) (s .args .root .0) (s .args .addr .0) (s .args .size) (failed (w .is-whole .ensures) (c .before .if1 .taken)))
-    (c .not-unmapped .ensures)
+    let k = w .before .before .before .before in
+    let s = k .before .before in
+    let a = s .args in
+    let r = on-broken asAnswer (call s) (lent s .mem) (a .list .now) (λ i. k .slice-known2 .given i .fits) (soundUser (lent s) (a .root .0))
+    (failed (w .is-whole .ensures) (c .before .if1 .taken)) (munmap-broken aboveLast (lent s) (a .root .0) (a .addr .0) (a .size)) in
+    (ap (λ (x : Munmapped). munmapped x (a .words .now) (a .bitmap .now) (a .list .now)) (c .not-unmapped .ensures) ∙ r .0, r .1)
 
 not-unmapped-requires-2 : tie.Need-not-unmapped-requires-2
 not-unmapped-requires-2 c κs = tt
 
-same-length-2 : tie.Need-same-length-2
-same-length-2 c = refl
+same-length-3 : tie.Need-same-length-3
+same-length-3 c = refl
+
+same-length-4 : tie.Need-same-length-4
+same-length-4 c = refl
 
 returns-2 : tie.Need-returns-2
 returns-2 c =
     let e = c .before .before in
-    let s = e .before .before .before .before .before in
-    told munmapped (munmap-empty 3 (lent s) (s .args .root .0) (s .args .addr .0) (s .args .size) (good e) (c .before .if2 .taken)) (c .not-unmapped2 .ensures)
+    let k = e .before .before .before .before .before in
+    let s = k .before .before in
+    let a = s .args in
+    on-list asAnswer (call s) (lent s .mem) (a .list .now) (good e .0)
+    (not-unmapped-left (λ i. k .slice-known2 .given i .fits) (good e .0)
+    (munmap-empty aboveLast (lent s) (a .root .0) (a .addr .0) (a .size) (good e .1) (c .before .if2 .taken)) (c .not-unmapped2 .ensures))
 
 not-unmapped-requires-3 : tie.Need-not-unmapped-requires-3
 not-unmapped-requires-3 c κs = tt
 
-same-length-3 : tie.Need-same-length-3
-same-length-3 c = refl
+same-length-5 : tie.Need-same-length-5
+same-length-5 c = refl
+
+same-length-6 : tie.Need-same-length-6
+same-length-6 c = refl
 
 returns-3 : tie.Need-returns-3
 returns-3 c =
     let e = c .before .before .before in
-    let s = e .before .before .before .before .before .before in
-    told munmapped (munmap-odd 3 (lent s) (s .args .root .0) (s .args .addr .0) (s .args .size) (good (e .before)) (e .if2 .left) (c .before .if3 .taken))
-    (c .not-unmapped3 .ensures)
+    let g = good (e .before) in
+    let k = e .before .before .before .before .before .before in
+    let s = k .before .before in
+    let a = s .args in
+    on-list asAnswer (call s) (lent s .mem) (a .list .now) (g .0)
+    (not-unmapped-left (λ i. k .slice-known2 .given i .fits) (g .0)
+    (munmap-odd aboveLast (lent s) (a .root .0) (a .addr .0) (a .size) (g .1) (e .if2 .left) (c .before .if3 .taken)) (c .not-unmapped3 .ensures))
 
 page-align-up-requires : tie.Need-page-align-up-requires
 page-align-up-requires c κs = tt
@@ -75,10 +112,13 @@ enum-known-n : tie.Need-enum-known-n
 enum-known-n c = c .match .keys2
 
 unmap-region-requires : tie.Need-unmap-region-requires
-unmap-region-requires c κs = good (c .before .before .before .before .before .before .before .before .before)
+unmap-region-requires c κs = good (c .before .before .before .before .before .before .before .before .before .before)
 
-same-length-4 : tie.Need-same-length-4
-same-length-4 c = refl
+same-length-7 : tie.Need-same-length-7
+same-length-7 c = refl
+
+same-length-8 : tie.Need-same-length-8
+same-length-8 c = refl
 
 returns-4 : tie.Need-returns-4
 returns-4 c =
@@ -86,27 +126,38 @@ returns-4 c =
     let r = x .before .before in
     let t = r .before in
     let e = t .before .before in
-    let s = e .before .before .before .before .before .before in
-    told munmapped (munmap-large 3 (lent s) (s .args .root .0) (s .args .addr .0) (s .args .size) (good (e .before)) (e .if2 .left) (t .if3 .left) _
-    (sym (r .page-align-up .ensures) ∙ x .e .given .1)) (c .not-unmapped4 .ensures)
+    let g = good (e .before) in
+    let k = e .before .before .before .before .before .before in
+    let s = k .before .before in
+    let a = s .args in
+    on-list asAnswer (call s) (lent s .mem) (a .list .now) (g .0)
+    (not-unmapped-left (λ i. k .slice-known2 .given i .fits) (g .0)
+    (munmap-large aboveLast (lent s) (a .root .0) (a .addr .0) (a .size) (g .1) (e .if2 .left) (t .if3 .left) _ (sym (r .page-align-up .ensures) ∙ x .e .given .1))
+    (c .not-unmapped4 .ensures))
 
-same-length-5 : tie.Need-same-length-5
-same-length-5 c = search needs
+same-length-9 : tie.Need-same-length-9
+same-length-9 c = search needs
 
--- the region's answer, over the arguments alone
-sized : (s : tie.Start) (n : ℕ) {r : Munmapped} {ws bm : List ℕ} → soundUser (lent s) (s .args .root .0) ≡ true → (s .args .size ≡ 0 → ⊥) → s .args .addr .0 % 4096 ≡ 0
-    → rounded (s .args .size) ≡ Count n → Told munmapped r ws bm (unmapRegion 3 (lent s) (s .args .root .0) (s .args .addr .0) n)
-    → Told munmapped r ws bm (munmap 3 (lent s) (s .args .root .0) (s .args .addr .0) (s .args .size))
-sized s n h k o e t = passed-on munmapped t (munmap-sized 3 (lent s) (s .args .root .0) (s .args .addr .0) (s .args .size) h k o n e)
+same-length-10 : tie.Need-same-length-10
+same-length-10 c = search needs
+
+-- what the region leaves, over the arguments alone
+sized : (s : tie.Start) (n : ℕ) {k : Kept Answer} → Good s → (s .args .size ≡ 0 → ⊥)
+    → s .args .addr .0 % 4096 ≡ 0 → rounded (s .args .size) ≡ Value n → UserLeaves asAnswer k (unmapRegion aboveLast (lent s) (s .args .root .0) (s .args .addr .0) n)
+    → (k ≡ munmapOn (lent s .mem) (s .args .list .now) (s .args .root .0) (s .args .addr .0) (s .args .size)) × UserReads (call s) (lent s .mem) (s .args .list .now) (k .list)
+sized s n {k = k} g z o e t =
+    let a = s .args in
+    on-list asAnswer (call s) (lent s .mem) (a .list .now) (g .0)
+    (subst (UserLeaves asAnswer k) (sym (munmap-sized aboveLast (lent s) (a .root .0) (a .addr .0) (a .size) (g .1) z o n e)) t)
 
 returns-5 : tie.Need-returns-5
 returns-5 c =
-    let u = c .before .before in
-    let n = u .before .before .before .before in
+    let u = c .before .before .before .before in
+    let n = u .before .before .before .before .before in
     let r = n .before .before in
     let t = r .before in
     let e = t .before .before in
-    sized (e .before .before .before .before .before .before) (n .n .given .0 .0) (good (e .before)) (e .if2 .left) (t .if3 .left)
+    sized (e .before .before .before .before .before .before .before .before) (n .n .given .0 .0) (good (e .before)) (e .if2 .left) (t .if3 .left)
     (sym (r .page-align-up .ensures) ∙ n .n .given .1) (u .unmap-region .ensures)
 
 pub munmap-spec : {M : Type 1} → statement M
@@ -116,19 +167,24 @@ munmap-spec =
     is-whole-requires
     not-unmapped-requires
     same-length
+    same-length-2
     returns
     not-unmapped-requires-2
-    same-length-2
+    same-length-3
+    same-length-4
     returns-2
     not-unmapped-requires-3
-    same-length-3
+    same-length-5
+    same-length-6
     returns-3
     page-align-up-requires
     enum-known-e
     not-unmapped-requires-4
     enum-known-n
     unmap-region-requires
-    same-length-4
+    same-length-7
+    same-length-8
     returns-4
-    same-length-5
+    same-length-9
+    same-length-10
     returns-5)

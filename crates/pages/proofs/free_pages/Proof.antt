@@ -5,7 +5,7 @@ use mathlib.Core.Path.{_≡_, refl, sym, _∙_}
 use lib.ListN.{length}
 use borrow.Author.Needs.{needs}
 use Rattle.frame.specs.Frames.{frames as framesOf}
-use Rattle.paging.specs.Map.{memory, Roomy}
+use Rattle.paging.specs.Map.{memory, RoomToTake}
 use Rattle.paging.specs.Pages.{freePages}
 use Rattle.pages.specs.Freeing.{Blank}
 use Rattle.pages.proofs.Laws.{free-end}
@@ -16,7 +16,7 @@ use Rattle.pages.proofs.free_pages.Tie as tie
 
 abbrev Inv-loop : tie.InvT-loop
 Inv-loop words₀ bitmap₀ root virt n most empty₀ left₀ done₀ words bitmap empty left done =
-    (done ≤ most) × (most ≤ n) × (length words ≡ length words₀) × Roomy (memory words (framesOf bitmap left)) 0 × Blank words empty
+    (done ≤ most) × (most ≤ n) × (length words ≡ length words₀) × RoomToTake (memory words (framesOf bitmap left)) 0 × Blank words empty
     × (freePages 3 (memory words₀ (framesOf bitmap₀ left₀)) (root .0) (virt .0) n
     ≡ freePages 3 (memory words (framesOf bitmap left)) (root .0) (virt .0 + done * 4096) (most - done))
 

@@ -6,8 +6,8 @@ use native.Mathlib.Omega.{arith}
 use lib.ListN.{length}
 use borrow.Author.Needs.{needs}
 use Rattle.frame.specs.Frames.{frames as framesOf}
-use Rattle.paging.specs.Map.{memory, Roomy}
-use Rattle.paging.specs.declared.Walked.the-variants.{At}
+use Rattle.paging.specs.Map.{memory, RoomToTake}
+use Rattle.answer.specs.declared.Outcome.the-variants.{Value}
 use Rattle.paging.specs.Pages.{ran, mapPages}
 use Rattle.paging.proofs.Map.{roomy-less}
 use Rattle.bits.proofs.Counter.{onward, fewer, next-fits}
@@ -17,7 +17,7 @@ use Rattle.pages.proofs.map_pages.Tie as tie
 
 abbrev Inv-loop : tie.InvT-loop
 Inv-loop words₀ bitmap₀ root virt n writable user left₀ i₀ words bitmap left i =
-    (i ≤ n) × (length words ≡ length words₀) × Roomy (memory words (framesOf bitmap left)) ((n - i) * 4)
+    (i ≤ n) × (length words ≡ length words₀) × RoomToTake (memory words (framesOf bitmap left)) ((n - i) * 4)
     × (mapPages 3 writable user (memory words₀ (framesOf bitmap₀ left₀)) (root .0) (virt .0) 0 n
     ≡ mapPages 3 writable user (memory words (framesOf bitmap left)) (root .0) (virt .0 + i * 4096) i (n - i))
 
@@ -97,7 +97,7 @@ returns-2 c =
     ∙ run-end (a .root .0) (a .virt .0 + l .loop .i * 4096) (l .loop .i) (a .n) (c .loop-test .left)
     (memory (l .loop .words) (framesOf (l .loop .bitmap) (l .loop .left))) 3 (a .writable)
     (a .user)
-    ∙ λ j. ran (At 0) (e j) (memory (l .loop .words) (framesOf (l .loop .bitmap) (l .loop .left))))
+    ∙ λ j. ran (Value 0) (e j) (memory (l .loop .words) (framesOf (l .loop .bitmap) (l .loop .left))))
 
 pub map-pages-spec : {M : Type 1} → statement M
 map-pages-spec =

@@ -1,9 +1,7 @@
--- The first path, its line, and the board with what it was lent.
-use mathlib.Core.Path.{_∙_, ap}
-use Rattle.answer.specs.Numbers.{answerLine}
-use Rattle.board.specs.Board.{boardOf}
-use Rattle.player.specs.Play.{turn}
-use Rattle.fault.specs.declared.Faulted.{Faulted}
+-- The call, its line, and the board with what it was lent.
+use Rattle.paging.specs.Levels.{aboveLast}
+use Rattle.fault.specs.Faults.{Faulting, handleFault}
+use Rattle.player.proofs.Turns.{fault-turn}
 use borrow.Author.Needs.{needs}
 use Rattle.player.proofs.play_fault.Statement.{statement}
 use Rattle.player.proofs.play_fault.Tie as tie
@@ -17,13 +15,17 @@ answer-line-requires c κs = search needs
 same-length : tie.Need-same-length
 same-length c = search needs
 
+same-length-2 : tie.Need-same-length-2
+same-length-2 c = search needs
+
 returns : tie.Need-returns
 returns c =
-    let e = c .before .before .before .before .before .before .handle-page-fault .ensures in
-    let s = c .before .before .before .before .before .before .before .before .before .before .before .before .before in
-    λ j. turn 5 ((c .answer-line .ensures ∙ ap (λ (x : Faulted). answerLine (x .answer)) (e .0)) j)
-    (boardOf (e .1 .0 j) (e .1 .1 .0 j) (e .1 .1 .1 j) (record { frames = e .0 j .frames; root = s .args .records .root; kernel = s .args .records .kernel; user = s .args .records .user; count = e .0 j .count }))
+    let v = c .before .before .before .before .before .before in
+    let s = v .before .before .before .before .before .before .before .before in
+    let a = s .args in
+    fault-turn (a .records) (a .words .now) (a .bitmap .now) (a .marked .now) 5 (c .answer-line .ensures)
+    (λ (f : Faulting). handleFault aboveLast f (a .records .root .0) (a .c .addr) (a .c .code)) (s .pre) (v .handle-page-fault .ensures .0) (v .handle-page-fault .ensures .1)
 
 pub play-fault-spec : {M : Type 1} → statement M
 play-fault-spec =
-    tie.close (tie.spec handle-page-fault-requires answer-line-requires same-length returns)
+    tie.close (tie.spec handle-page-fault-requires answer-line-requires same-length same-length-2 returns)

@@ -1,10 +1,10 @@
 -- The call, its line, and the board with what it was lent.
-use mathlib.Core.Path.{_∙_, ap}
 use Rattle.answer.specs.Numbers.{answerLine}
-use Rattle.board.specs.Board.{boardOf}
-use Rattle.player.specs.Play.{turn}
-use Rattle.mmap.specs.declared.Munmapped.{Munmapped}
+use Rattle.answer.specs.Outcomes.{asAnswer}
+use Rattle.paging.specs.Levels.{aboveLast}
+use Rattle.mmap.specs.Calls.{User, munmap}
 use Rattle.release.specs.Calls.{play as playRegions}
+use Rattle.player.proofs.Turns.{user-turn}
 use borrow.Author.Needs.{needs}
 use Rattle.player.proofs.play_munmap.Statement.{statement}
 use Rattle.player.proofs.play_munmap.Tie as tie
@@ -18,13 +18,18 @@ answer-line-requires c κs = search needs
 same-length : tie.Need-same-length
 same-length c = search needs
 
+same-length-2 : tie.Need-same-length-2
+same-length-2 c = search needs
+
 returns : tie.Need-returns
 unfolding playRegions
 returns c =
-    let e = c .before .before .before .before .before .before .munmap .ensures in
-    let s = c .before .before .before .before .before .before .before .before .before .before .before .before .before in
-    λ m j. turn 4 ((c .answer-line .ensures ∙ ap (λ (x : Munmapped). answerLine (x .answer)) (e .0)) j)
-    (boardOf (e .1 .0 j) (e .1 .1 j) m (record { frames = e .0 j .frames; root = s .args .records .root; kernel = s .args .records .kernel; user = e .0 j .list; count = s .args .records .count }))
+    let v = c .before .before .before .before .before .before in
+    let s = v .before .before .before .before .before .before .before .before in
+    let a = s .args in
+    user-turn (a .records) (a .words .now) (a .bitmap .now) (a .user .now) 4 asAnswer answerLine (c .answer-line .ensures)
+    (λ (u : User). munmap aboveLast u (a .records .root .0) (a .c .addr) (a .c .size)) (s .pre) (v .munmap .ensures .0) (v .munmap .ensures .1)
 
 pub play-munmap-spec : {M : Type 1} → statement M
-play-munmap-spec = tie.close (tie.spec munmap-requires answer-line-requires same-length returns)
+play-munmap-spec =
+    tie.close (tie.spec munmap-requires answer-line-requires same-length same-length-2 returns)

@@ -1,7 +1,7 @@
 -- The translation and its line.
 use mathlib.Core.Path.{_∙_, ap}
 use Rattle.address.specs.Address.{physLine}
-use Rattle.board.specs.Board.{boardOf}
+use Rattle.board.specs.Packed.{boardOf}
 use Rattle.player.specs.Play.{turn}
 use borrow.Author.Needs.{needs}
 use Rattle.player.proofs.play_translate.Statement.{statement}
@@ -16,7 +16,7 @@ phys-line-requires c κs = search needs
 returns : tie.Need-returns
 returns c =
     let s = c .before .before .before .before .before in
-    λ b m j. turn 6 ((c .phys-line .ensures ∙ ap physLine (c .before .translate .ensures)) j) (boardOf (s .args .words .now) b m (s .args .records))
+    λ b k u m j. turn 6 ((c .phys-line .ensures ∙ ap physLine (c .before .translate .ensures)) j) (boardOf (s .args .words .now) b k u m (s .args .records))
 
 pub play-translate-spec : {M : Type 1} → statement M
 play-translate-spec = tie.close (tie.spec translate-requires phys-line-requires returns)

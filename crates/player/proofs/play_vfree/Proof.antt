@@ -1,10 +1,10 @@
 -- The call, its line, and the board with what it was lent.
-use mathlib.Core.Path.{_∙_, ap}
 use Rattle.answer.specs.Numbers.{answerLine}
-use Rattle.board.specs.Board.{boardOf}
-use Rattle.player.specs.Play.{turn}
-use Rattle.vmalloc.specs.declared.Vfreed.{Vfreed}
+use Rattle.answer.specs.Outcomes.{asAnswer}
+use Rattle.paging.specs.Levels.{aboveLast}
+use Rattle.vmalloc.specs.Calls.{Kernel, vfree}
 use Rattle.release.specs.Calls.{play as playRegions}
+use Rattle.player.proofs.Turns.{kernel-turn}
 use borrow.Author.Needs.{needs}
 use Rattle.player.proofs.play_vfree.Statement.{statement}
 use Rattle.player.proofs.play_vfree.Tie as tie
@@ -18,13 +18,18 @@ answer-line-requires c κs = search needs
 same-length : tie.Need-same-length
 same-length c = search needs
 
+same-length-2 : tie.Need-same-length-2
+same-length-2 c = search needs
+
 returns : tie.Need-returns
 unfolding playRegions
 returns c =
-    let e = c .before .before .before .before .before .before .vfree .ensures in
-    let s = c .before .before .before .before .before .before .before .before .before .before .before .before .before in
-    λ m j. turn 2 ((c .answer-line .ensures ∙ ap (λ (x : Vfreed). answerLine (x .answer)) (e .0)) j)
-    (boardOf (e .1 .0 j) (e .1 .1 j) m (record { frames = e .0 j .frames; root = s .args .records .root; kernel = e .0 j .list; user = s .args .records .user; count = s .args .records .count }))
+    let v = c .before .before .before .before .before .before in
+    let s = v .before .before .before .before .before .before .before .before in
+    let a = s .args in
+    kernel-turn (a .records) (a .words .now) (a .bitmap .now) (a .kernel .now) 2 asAnswer answerLine (c .answer-line .ensures)
+    (λ (k : Kernel). vfree aboveLast k (a .records .root .0) (a .addr)) (s .pre) (v .vfree .ensures .0) (v .vfree .ensures .1)
 
 pub play-vfree-spec : {M : Type 1} → statement M
-play-vfree-spec = tie.close (tie.spec vfree-requires answer-line-requires same-length returns)
+play-vfree-spec =
+    tie.close (tie.spec vfree-requires answer-line-requires same-length same-length-2 returns)

@@ -1,10 +1,9 @@
 -- The call, its line, and the board with what it was lent.
-use mathlib.Core.Path.{_∙_, ap}
-use Rattle.address.specs.Address.{virtLine}
-use Rattle.board.specs.Board.{boardOf}
-use Rattle.player.specs.Play.{turn}
-use Rattle.vmalloc.specs.declared.Vmalloced.{Vmalloced}
+use Rattle.address.specs.Address.{asVirt, virtLine}
+use Rattle.paging.specs.Levels.{aboveLast}
+use Rattle.vmalloc.specs.Calls.{Kernel, vmalloc}
 use Rattle.release.specs.Calls.{play as playRegions}
+use Rattle.player.proofs.Turns.{kernel-turn}
 use borrow.Author.Needs.{needs}
 use Rattle.player.proofs.play_vmalloc.Statement.{statement}
 use Rattle.player.proofs.play_vmalloc.Tie as tie
@@ -18,13 +17,18 @@ virt-line-requires c κs = search needs
 same-length : tie.Need-same-length
 same-length c = search needs
 
+same-length-2 : tie.Need-same-length-2
+same-length-2 c = search needs
+
 returns : tie.Need-returns
 unfolding playRegions
 returns c =
-    let e = c .before .before .before .before .before .before .vmalloc .ensures in
-    let s = c .before .before .before .before .before .before .before .before .before .before .before .before .before in
-    λ m j. turn 1 ((c .virt-line .ensures ∙ ap (λ (x : Vmalloced). virtLine (x .answer)) (e .0)) j)
-    (boardOf (e .1 .0 j) (e .1 .1 j) m (record { frames = e .0 j .frames; root = s .args .records .root; kernel = e .0 j .list; user = s .args .records .user; count = s .args .records .count }))
+    let v = c .before .before .before .before .before .before in
+    let s = v .before .before .before .before .before .before .before .before in
+    let a = s .args in
+    kernel-turn (a .records) (a .words .now) (a .bitmap .now) (a .kernel .now) 1 asVirt virtLine (c .virt-line .ensures)
+    (λ (k : Kernel). vmalloc aboveLast k (a .records .root .0) (a .size)) (s .pre) (v .vmalloc .ensures .0) (v .vmalloc .ensures .1)
 
 pub play-vmalloc-spec : {M : Type 1} → statement M
-play-vmalloc-spec = tie.close (tie.spec vmalloc-requires virt-line-requires same-length returns)
+play-vmalloc-spec =
+    tie.close (tie.spec vmalloc-requires virt-line-requires same-length same-length-2 returns)

@@ -1,15 +1,13 @@
 -- `advance`: bytes read, text written, and a step where there is one to make.
-use Prim.Native.Nat.{ℕ, _≤_}
-use mathlib.Core.Path.{_≡_, refl, sym, _∙_, ap, subst}
-use mathlib.Core.Bool.{true, false}
+use mathlib.Core.Path.{_≡_, sym, _∙_, ap, subst}
 use native.Mathlib.Omega.{arith}
 use lib.ListN.{length, take}
 use borrow.Author.Tests.{not-true, not-false}
-use Rattle.board.specs.Board.{boardOf}
-use Rattle.runner.specs.declared.Source.{Source}
-use Rattle.runner.specs.declared.Stage.{Stage}
-use Rattle.runner.specs.Run.{run, goes}
-use Rattle.runner.specs.Loop.{leftOf, runOf, Turned}
+use Rattle.board.specs.Packed.{boardOf}
+use Rattle.streams.specs.declared.Source.{Source}
+use Rattle.turn.specs.Run.{run, goes, runOf}
+use Rattle.streams.specs.Streams.{leftOf}
+use Rattle.runner.specs.Loop.{Turned}
 use Rattle.runner.proofs.Steps.{turned, turn-stays, turn-steps, short}
 use borrow.Author.Needs.{needs}
 use Rattle.runner.proofs.advance.Statement.{statement}
@@ -43,18 +41,18 @@ returns c =
     let a = s .args in
     let r = rf .refill .result in
     let ok = rf .refill .ensures in
-    let board = boardOf (a .words .now) (a .bitmap .now) (a .marked .now) (a .from .records) in
+    let board = boardOf (a .words .now) (a .bitmap .now) (a .kernel .now) (a .user .now) (a .marked .now) (a .from .records) in
     let text = take (fl .flush .result .put) (a .out .now) in
     let ready = run (leftOf (rf .refill .last .0) r) (r .offset) board text (st .stage-of .result) in
     let stays = sym (c .before .is-going .ensures) ∙ not-true (c .before .is-going .result) (c .if1 .taken) in (
       turned (a .buf .now) (rf .refill .last .0) (a .from .input) r board (take (a .from .put) (a .out .now)) (a .from .stage) ok text (re .is-readable .result) (fl .flush .result .written)
           (st .stage-of .result) ready (fl .flush .ensures .0) (re .is-readable .ensures) (st .stage-of .ensures) (turn-stays ready stays),
-      (ok .within, (omega (arith, ok .room, long rf), omega (arith, fl .flush .ensures .1))),
+      (ok .within, (omega (arith, ok .room, long rf), (omega (arith, fl .flush .ensures .1), s .pre .1 .1 .1))),
     )
 
 play-next-requires : tie.Need-play-next-requires
 play-next-requires c κs =
-    let g = c .before .before .before .before .before in
+    let g = c .before .before .before .before .before .before .before in
     let st = g .before .before in
     let re = st .before in
     let fl = re .before .before in
@@ -62,11 +60,11 @@ play-next-requires c κs =
     let ok = rf .refill .ensures in
     let going = sym (g .before .is-going .ensures) ∙ not-false (g .before .is-going .result) (g .if1 .left) in
     let most = short (re .is-readable .result) (fl .flush .result .written) (rf .refill .result .offset) (ap goes (sym (st .stage-of .ensures)) ∙ going) in
-    (ok .within, (omega (arith, ok .room, long rf), (most, fl .flush .ensures .1)))
+    (ok .within, (omega (arith, ok .room, long rf), (most, (fl .flush .ensures .1, rf .before .before .pre .1 .1 .1))))
 
 returns-2 : tie.Need-returns-2
 returns-2 c =
-    let g = c .before .before .before .before .before .before in
+    let g = c .before .before .before .before .before .before .before .before in
     let st = g .before .before in
     let re = st .before in
     let fl = re .before .before in
@@ -76,11 +74,11 @@ returns-2 c =
     let r = rf .refill .result in
     let ok = rf .refill .ensures in
     let e = c .play-next .ensures in
-    let board = boardOf (a .words .now) (a .bitmap .now) (a .marked .now) (a .from .records) in
-    let before = runOf (a .words .now) (a .bitmap .now) (a .marked .now) (a .buf .now) (a .out .now) (a .from) in
+    let board = boardOf (a .words .now) (a .bitmap .now) (a .kernel .now) (a .user .now) (a .marked .now) (a .from .records) in
+    let before = runOf (a .words .now) (a .bitmap .now) (a .kernel .now) (a .user .now) (a .marked .now) (a .buf .now) (a .out .now) (a .from) in
     let text = take (fl .flush .result .put) (a .out .now) in
     let ready = run (leftOf (rf .refill .last .0) r) (r .offset) board text (st .stage-of .result) in
-    let after = runOf (c .play-next .last .0) (c .play-next .last .1 .0) (c .play-next .last .1 .1 .0) (rf .refill .last .0) (c .play-next .last .1 .1 .1 .1 .0) (c .play-next .result) in
+    let after = runOf (c .play-next .last .0) (c .play-next .last .1 .0) (c .play-next .last .1 .1 .0) (c .play-next .last .1 .1 .1 .0) (c .play-next .last .1 .1 .1 .1 .0) (rf .refill .last .0) (c .play-next .last .1 .1 .1 .1 .1 .1 .0) (c .play-next .result) in
     let going = sym (g .before .is-going .ensures) ∙ not-false (g .before .is-going .result) (g .if1 .left) in
     let one =
     turned (a .buf .now) (rf .refill .last .0) (a .from .input) r board (take (a .from .put) (a .out .now)) (a .from .stage) ok text (re .is-readable .result) (fl .flush .result .written)

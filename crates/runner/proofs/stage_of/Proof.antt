@@ -1,7 +1,6 @@
 -- `stage_of`: three tests.
 use mathlib.Core.Path.{refl}
 use borrow.Author.Tests.{not-true, not-false, le-leb, lt-leb}
-use borrow.Author.Needs.{needs}
 use Rattle.runner.proofs.stage_of.Statement.{statement}
 use Rattle.runner.proofs.stage_of.Tie as tie
 use Rattle.runner.proofs.stage_of.Reads as reads

@@ -10,7 +10,7 @@ use lib.ListN.{length, getD, take, length-set}
 use borrow.Author.Needs.{needs}
 use Rattle.frame.specs.Frames.{inside}
 use Rattle.frame.proofs.Laws.{passed, failed}
-use Rattle.paging.specs.declared.Walked.the-variants.{At}
+use Rattle.answer.specs.declared.Outcome.the-variants.{Value}
 use Rattle.paging.specs.Walk.{reach}
 use Rattle.paging.proofs.Walk.{reach-end}
 use Rattle.bits.proofs.Counter.{onward, fewer, next-fits, slot-fits}
@@ -21,8 +21,8 @@ use Rattle.spans.proofs.find_span.Tie as tie
 
 abbrev Inv-loop : tie.InvT-loop
 Inv-loop words start total virt indices above₀ t₀ level₀ above t level =
-    (level ≤ 3) × (length above ≡ 3) × (reach words start total t₀ (take level indices) ≡ At t) × (0 < level → inside start total t ≡ true)
-    × ((k : ℕ) → k < level → reach words start total t₀ (take k indices) ≡ At (getD above k 0))
+    (level ≤ 3) × (length above ≡ 3) × (reach words start total t₀ (take level indices) ≡ Value t) × (0 < level → inside start total t ≡ true)
+    × ((k : ℕ) → k < level → reach words start total t₀ (take k indices) ≡ Value (getD above k 0))
 
 abbrev μ-loop : tie.MeasureT-loop
 μ-loop words start total virt indices above₀ t₀ level₀ above t level = 3 - level
@@ -74,7 +74,7 @@ addr-requires c κs = search needs
 
 -- the table below, one level further down
 down : (c : tie.After-addr Inv-loop μ-loop) → let l = c .before .before .before .before .before .before in let a = l .before .before .before .args in
-    reach (a .words .now) (a .start) (a .total) (a .root .0) (take (l .loop .level + 1) (l .before .page-indices .result)) ≡ At (c .addr .result .0 / 4096)
+    reach (a .words .now) (a .start) (a .total) (a .root .0) (take (l .loop .level + 1) (l .before .page-indices .result)) ≡ Value (c .addr .result .0 / 4096)
 down c =
     let x = c .before .before .before .before in
     let l = x .before .before in

@@ -1,6 +1,8 @@
 -- `is_whole`: the mapper's test, then the list's.
 use mathlib.Core.Path.{sym, _∙_}
 use Rattle.frame.proofs.Laws.{passed, failed}
+use Rattle.paging.specs.Kept.{lentMemory}
+use Rattle.vmalloc.proofs.Found.{broken-memory}
 use borrow.Author.Needs.{needs}
 use Rattle.vmalloc.proofs.is_whole.Statement.{statement}
 use Rattle.vmalloc.proofs.is_whole.Tie as tie
@@ -9,7 +11,10 @@ is-whole-requires : tie.Need-is-whole-requires
 is-whole-requires c κs = search needs
 
 returns : tie.Need-returns
-returns c = sym (rw (failed (c .before .is-whole .ensures) (c .if1 .taken)))
+returns c =
+    let s = c .before .before .before .before in
+    sym (broken-memory (lentMemory (s .args .words .now) (s .args .bitmap .now) (s .args .frames)) (s .args .list .now) (s .args .root .0)
+    (failed (c .before .is-whole .ensures) (c .if1 .taken)))
 
 is-sound-requires : tie.Need-is-sound-requires
 is-sound-requires c κs = search needs

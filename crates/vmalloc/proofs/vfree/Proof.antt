@@ -1,63 +1,78 @@
 -- `vfree`: 10, 16 for the null address, or the used region at the address.
-use Prim.Native.Nat.{ℕ}
-use mathlib.Core.Path.{_≡_, refl}
+use mathlib.Core.Path.{_≡_}
 use mathlib.Core.Bool.{true}
-use mathlib.Core.List.{List}
+use Rattle.answer.specs.Numbers.{regionNotFound}
+use Rattle.answer.specs.Outcomes.{asAnswer}
 use Rattle.frame.proofs.Laws.{passed, failed}
-use Rattle.frame.specs.Frames.{frames}
-use Rattle.paging.specs.Map.{memory}
-use Rattle.slots.specs.Slots.{listed}
-use Rattle.regions.specs.Regions.{usedSize}
-use Rattle.regions.specs.List.{slotsOf}
-use Rattle.vmalloc.specs.declared.Vfreed.{Vfreed}
-use Rattle.vmalloc.specs.Calls.{Kernel, kernel, soundKernel, released, vfree}
-use Rattle.vmalloc.specs.Results.{vfreed}
+use Rattle.paging.specs.Levels.{aboveLast}
+use Rattle.paging.specs.Map.{Memory}
+use Rattle.paging.specs.Kept.{lentMemory}
+use Rattle.regions.specs.Regions.{fits}
+use Rattle.vm_list.specs.Packed.{vmIn}
+use Rattle.vmalloc.specs.Calls.{Kernel, kernel, KernelDid, vfree}
+use Rattle.vmalloc.specs.Packed.{soundLent}
 use Rattle.vmalloc.proofs.Calls.{vfree-broken, vfree-null, vfree-is}
-use Rattle.vmalloc.proofs.Told.{Told, told, told-on}
+use Rattle.vmalloc.proofs.Told.{told-on, told-refused, told-broken}
+use Rattle.vmalloc.proofs.Found.{lent-fit, lent-kernel}
 use borrow.Author.Needs.{needs}
 use Rattle.vmalloc.proofs.vfree.Statement.{statement}
 use Rattle.vmalloc.proofs.vfree.Tie as tie
 
-abbrev lent : tie.Start → Kernel
-lent s = kernel (memory (s .args .words .now) (frames (s .args .bitmap .now) (s .args .frames))) (slotsOf (s .args .list))
+abbrev lent : tie.Start → Memory
+lent s = lentMemory (s .args .words .now) (s .args .bitmap .now) (s .args .frames)
 
-is-whole-requires : tie.Need-is-whole-requires
-is-whole-requires c κs = tt
-
-same-length : tie.Need-same-length
-same-length c = refl
-
-returns : tie.Need-returns
-returns c = told vfreed (vfree-broken 3 _ _ _ (failed (c .before .is-whole .ensures) (c .if1 .taken)))
+abbrev called : tie.Start → Kernel → KernelDid
+called s k = vfree aboveLast k (s .args .root .0) (s .args .addr .0)
 
 -- nothing is broken
-good : (c : tie.Else1) → let s = c .before .before .before .before .before in soundKernel (lent s) (s .args .root .0) ≡ true
-good c = passed (c .before .is-whole .ensures) (c .if1 .left)
+good : (e : tie.Else1) → let s = e .before .before .before .before .before .before .before in soundLent (lent s) (s .args .list .now) (s .args .root .0) ≡ true
+good e = passed (e .before .is-whole .ensures) (e .if1 .left)
+
+is-whole-requires : tie.Need-is-whole-requires
+is-whole-requires c κs = search needs
+
+same-length : tie.Need-same-length
+same-length c = search needs
 
 same-length-2 : tie.Need-same-length-2
-same-length-2 c = refl
+same-length-2 c = search needs
 
-returns-2 : tie.Need-returns-2
-returns-2 c = told vfreed (vfree-null 3 _ _ _ (good (c .before .before)) (c .if2 .taken))
-
-free-requires : tie.Need-free-requires
-free-requires c κs = good (c .before .before .before .before)
+returns : tie.Need-returns
+returns c =
+    let s = c .before .before .before .before .before .before .before in
+    told-broken asAnswer (called s) (lent s) (s .args .list .now) (s .args .root .0) (failed (c .before .is-whole .ensures) (c .if1 .taken)) (λ k. c .before .before .before .before .before .slice-known2 .given k .fits)
+    (vfree-broken aboveLast (kernel (lent s) (vmIn (s .args .list .now))) (s .args .root .0) (s .args .addr .0))
 
 same-length-3 : tie.Need-same-length-3
 same-length-3 c = search needs
 
--- the region's answer, over the arguments alone
-freed : (s : tie.Start) {r : Vfreed} {ws bits : List ℕ} → soundKernel (lent s) (s .args .root .0) ≡ true → (s .args .addr .0 ≡ 0 → ⊥)
-    → Told vfreed (released 3 (lent s) (s .args .root .0) (s .args .addr .0) (usedSize (s .args .addr .0) (listed (slotsOf (s .args .list))))) r ws bits
-    → Told vfreed (vfree 3 (lent s) (s .args .root .0) (s .args .addr .0)) r ws bits
-freed s h k t = told-on vfreed t (vfree-is 3 (lent s) (s .args .root .0) (s .args .addr .0) h k)
+same-length-4 : tie.Need-same-length-4
+same-length-4 c = search needs
+
+returns-2 : tie.Need-returns-2
+returns-2 c =
+    let s = c .before .before .before .before .before .before .before .before .before in
+    let g = good (c .before .before) in
+    told-refused asAnswer (called s) (lent s) (s .args .list .now) (lent-fit (lent s) (s .args .list .now) (s .args .root .0) g) (λ k. c .before .before .before .before .before .before .before .slice-known2 .given k .fits) regionNotFound
+    (vfree-null aboveLast (kernel (lent s) (vmIn (s .args .list .now))) (s .args .root .0) (s .args .addr .0) (lent-kernel (lent s) (s .args .list .now) (s .args .root .0) g) (c .if2 .taken))
+
+free-requires : tie.Need-free-requires
+free-requires c κs = good (c .before .before .before .before .before)
+
+same-length-5 : tie.Need-same-length-5
+same-length-5 c = search needs
+
+same-length-6 : tie.Need-same-length-6
+same-length-6 c = search needs
 
 returns-3 : tie.Need-returns-3
 returns-3 c =
-    let f = c .before .before in
-    let e = f .before .before .before in
-    let l = e .before .before in
-    freed (l .before .before .before .before .before) (good l) (e .if2 .left) (f .free .ensures)
+    let l = c .before .before .before .before in
+    let e = c .before .before .before .before .before .before .before .before in
+    let s = c .before .before .before .before .before .before .before .before .before .before .before .before .before .before .before .before .before in
+    let g = good (c .before .before .before .before .before .before .before .before .before .before) in
+    told-on asAnswer (called s) (lent s) (s .args .list .now) (lent-fit (lent s) (s .args .list .now) (s .args .root .0) g)
+    (vfree-is aboveLast (kernel (lent s) (vmIn (s .args .list .now))) (s .args .root .0) (s .args .addr .0) (lent-kernel (lent s) (s .args .list .now) (s .args .root .0) g) (e .if2 .left)) (l .free .ensures)
 
 pub vfree-spec : {M : Type 1} → statement M
 vfree-spec =
@@ -65,9 +80,12 @@ vfree-spec =
     (tie.spec
     is-whole-requires
     same-length
-    returns
     same-length-2
+    returns
+    same-length-3
+    same-length-4
     returns-2
     free-requires
-    same-length-3
+    same-length-5
+    same-length-6
     returns-3)

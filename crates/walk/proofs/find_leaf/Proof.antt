@@ -9,7 +9,7 @@ use lib.ListN.{length, getD, drop, length-drop, drop-of-length-le}
 use borrow.Author.Needs.{needs}
 use Rattle.entry.specs.Entry.{indices as indicesOf}
 use Rattle.paging.specs.declared.Leaf.{Leaf}
-use Rattle.paging.specs.declared.Walked.the-variants.{At}
+use Rattle.answer.specs.declared.Outcome.the-variants.{Value}
 use Rattle.paging.specs.Walk.{entryAt, leaf}
 use Rattle.paging.proofs.Walk.{next, leaf-end, leaf-stop, leaf-page, leaf-large, leaf-small, leaf-above}
 use Rattle.walk.proofs.Laws.{leaf-shifted}
@@ -73,7 +73,7 @@ enum-known-e c = c .match .keys2
 
 -- the entry that was read
 seen : (c : tie.After-e Inv-loop μ-loop) → let l = c .before .before .before .before in let a = l .before .before .before .args in
-    entryAt (a .words .now) (a .start) (a .total) (l .loop .t) (getD (l .before .page-indices .result) (l .loop .level) 0) ≡ At (c .e .given .0 .0)
+    entryAt (a .words .now) (a .start) (a .total) (l .loop .t) (getD (l .before .page-indices .result) (l .loop .level) 0) ≡ Value (c .e .given .0 .0)
 seen c = sym (c .before .before .entry-at .ensures) ∙ c .e .given .1
 
 -- the number of indices below it

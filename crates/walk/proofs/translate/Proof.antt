@@ -1,6 +1,6 @@
 -- `translate`: 10, or the walk.
 use mathlib.Core.Path.{sym, _∙_, ap}
-use Rattle.paging.specs.Calls.{asPhys}
+use Rattle.address.specs.Address.{asPhys}
 use Rattle.paging.proofs.Walk.{lent-words}
 use Rattle.paging.proofs.Calls.{translate-broken, translate-is}
 use Rattle.frame.proofs.Laws.{passed, failed}

@@ -3,7 +3,7 @@ use mathlib.Core.Path.{_≡_, sym, _∙_, ap}
 use Rattle.entry.specs.Entry.{indices as indicesOf}
 use Rattle.paging.specs.declared.Leaf.{Leaf}
 use Rattle.paging.specs.Walk.{leaf, address}
-use Rattle.paging.specs.Calls.{asPhys}
+use Rattle.address.specs.Address.{asPhys}
 use borrow.Author.Needs.{needs}
 use Rattle.walk.proofs.walk.Statement.{statement}
 use Rattle.walk.proofs.walk.Tie as tie

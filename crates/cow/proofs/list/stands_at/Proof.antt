@@ -4,30 +4,32 @@ use mathlib.Core.Path.{sym}
 use native.Mathlib.Omega.{arith}
 use lib.ListN.{take, length-take}
 use lib.Seq.{getD-take}
-use Rattle.cow.proofs.Place.{listed-past, listed-at}
+use Rattle.slots.proofs.Sorted.{key-past, key-at}
+use Rattle.cow.specs.Marked.{pageKey}
+use Rattle.cow.specs.Packed.{markedIn}
+use Rattle.cow.proofs.RoundTrip.{slots-long}
 use borrow.Author.Needs.{needs}
 use Rattle.cow.proofs.list.stands_at.Statement.{statement}
 use Rattle.cow.proofs.list.stands_at.Tie as tie
 
 returns : tie.Need-returns
 returns c =
-    let s = c .before in
-    let l = take (s .args .n) (s .args .marked .now) in
-    sym (listed-past (s .args .page) l (omega (arith, s .pre, length-take (s .args .n) (s .args .marked .now), c .if1 .taken)))
+    let s = c .before .before in
+    let l = markedIn (s .args .list .now) .slots in
+    sym (key-past pageKey (s .args .page) (take (s .args .n) l) (omega (arith, s .pre .1 .1 .1, length-take (s .args .n) l, c .if1 .taken)))
 
-mul-result : tie.Need-mul-result
-mul-result c = search needs
-
-element-copy-out-result : tie.Need-element-copy-out-result
-element-copy-out-result c = search needs
+page-at-requires : tie.Need-page-at-requires
+page-at-requires c κs = search needs
 
 returns-2 : tie.Need-returns-2
 returns-2 c =
-    let s = c .before .before in
-    let l = take (s .args .n) (s .args .marked .now) in
-    let under : s .args .at < s .args .n = c .before .if1 .left in
-    rw (← getD-take (s .args .n) (s .args .marked .now) (s .args .at) 0 under, s .pre .1 .1 .1)
-    (sym (listed-at (s .args .page) 0 l (s .pre .1 .1 .0) (omega (arith, s .pre, length-take (s .args .n) (s .args .marked .now)))))
+    let s = c .before .before .before in
+    let l = markedIn (s .args .list .now) .slots in
+    let n = s .args .n in
+    let under : s .args .at < n = c .before .if1 .left in
+    rw (c .page-at .ensures, ← getD-take n l (s .args .at) 0 under, s .pre .1 .1 .1)
+    (sym (key-at pageKey (s .args .page) 0 0 (take n l) (s .pre .1 .1 .0)
+    (omega (arith, s .pre .1 .0, s .pre .1 .1 .1, slots-long (s .args .list .now), length-take n l))))
 
 pub stands-at-spec : {M : Type 1} → statement M
-stands-at-spec = tie.close (tie.spec returns mul-result element-copy-out-result returns-2)
+stands-at-spec = tie.close (tie.spec returns page-at-requires returns-2)

@@ -5,6 +5,7 @@ use Rattle.frame.proofs.Laws.{passed, failed}
 use Rattle.layout.specs.Parts.{fieldsSize, bitsSize}
 use Rattle.layout.proofs.Fit.{lengths}
 use Rattle.layout.proofs.Left.{memory-broken, memory-met, contract-broken, contract-met, FramesBytes}
+use Rattle.paging.specs.Levels.{aboveLast}
 use Rattle.paging.specs.Map.{Memory, Out}
 use Rattle.layout.specs.Left.{secondLeftovers}
 use Rattle.handler.specs.Handler.{handleFaultSecond}
@@ -20,7 +21,7 @@ bytes : (c : tie.After-two) → let a = entry c .args in FramesBytes (a .fields 
 bytes c = (λ i. c .before .before .slice-known2 .given i .fits, λ i. c .before .slice-known3 .given i .fits)
 
 abbrev call : tie.After-two → Memory → Out
-call c m = handleFaultSecond 3 m (entry c .args .root) (entry c .args .addr) (entry c .args .code)
+call c m = handleFaultSecond aboveLast m (entry c .args .root) (entry c .args .addr) (entry c .args .code)
 
 fit : (c : tie.Else1) → let a = entry (c .before) .args in (length (a .fields .now) ≡ fieldsSize) × (length (a .bits .now) ≡ bitsSize)
 fit c = let a = entry (c .before) .args in lengths (a .fields .now) (a .bits .now) (c .before .two .ensures) (c .if1 .left)

@@ -6,7 +6,7 @@ use Rattle.layout.specs.Parts.{fieldsSize, bitsSize}
 use Rattle.layout.proofs.Fit.{lengths}
 use Rattle.layout.proofs.Left.{contract-broken, contract-met, FramesBytes}
 use Rattle.layout.specs.Left.{noLeftovers}
-use Rattle.frame.specs.Frames.{Frames, Did, allocate}
+use Rattle.frame.specs.Frames.{Frames, FramesDid, allocate}
 use Rattle.frame.specs.Results.{allocated}
 use Rattle.frame.specs.declared.Allocated.{Allocated}
 use Rattle.address.specs.Address.{frameLine}
@@ -22,7 +22,7 @@ entry c = c .before .before .before
 bytes : (c : tie.After-two) → let a = entry c .args in FramesBytes (a .fields .now) (a .bits .now)
 bytes c = (λ i. c .before .before .slice-known .given i .fits, λ i. c .before .slice-known2 .given i .fits)
 
-abbrev call : tie.After-two → Frames → Did FrameAnswer
+abbrev call : tie.After-two → Frames → FramesDid FrameAnswer
 call c fr = allocate fr
 
 fit : (c : tie.Else1) → let a = entry (c .before) .args in (length (a .fields .now) ≡ fieldsSize) × (length (a .bits .now) ≡ bitsSize)

@@ -6,7 +6,7 @@ use Rattle.layout.specs.Parts.{fieldsSize, bitsSize}
 use Rattle.layout.proofs.Fit.{lengths}
 use Rattle.layout.proofs.Left.{contract-broken, contract-met, FramesBytes}
 use Rattle.layout.specs.Left.{noLeftovers}
-use Rattle.frame.specs.Frames.{Frames, Did, deallocate}
+use Rattle.frame.specs.Frames.{Frames, FramesDid, deallocate}
 use Rattle.frame.specs.Results.{changed}
 use Rattle.frame.specs.declared.Changed.{Changed}
 use Rattle.answer.specs.Numbers.{answerLine}
@@ -22,7 +22,7 @@ entry c = c .before .before .before
 bytes : (c : tie.After-two) → let a = entry c .args in FramesBytes (a .fields .now) (a .bits .now)
 bytes c = (λ i. c .before .before .slice-known .given i .fits, λ i. c .before .slice-known2 .given i .fits)
 
-abbrev call : tie.After-two → Frames → Did Answer
+abbrev call : tie.After-two → Frames → FramesDid Answer
 call c fr = deallocate fr (entry c .args .number)
 
 fit : (c : tie.Else1) → let a = entry (c .before) .args in (length (a .fields .now) ≡ fieldsSize) × (length (a .bits .now) ≡ bitsSize)

@@ -5,13 +5,14 @@ use Rattle.frame.proofs.Laws.{passed, failed}
 use Rattle.layout.specs.Parts.{fieldsSize, bitsSize}
 use Rattle.layout.proofs.Fit.{lengths}
 use Rattle.layout.proofs.Left.{memory-broken, memory-met, contract-broken, contract-met, FramesBytes}
+use Rattle.paging.specs.Levels.{aboveLast}
 use Rattle.paging.specs.Map.{Memory, Out}
 use Rattle.layout.specs.Left.{tableLeftovers}
 use mathlib.Core.Path.{_∙_, ap}
 use Rattle.paging.specs.Calls.{mapHuge}
 use Rattle.paging.specs.declared.HugePageSize.{HugePageSize}
 use Rattle.layout.specs.Memory.{memoryParts, onMemory}
-use Rattle.desk_memory.specs.Line.{hugeOf}
+use Rattle.desk_memory.specs.Memory.{hugeOf}
 use Rattle.desk_memory.proofs.LeftMemory.{huge-refused}
 use Rattle.desk_memory.proofs.tables.gadulnos_map_huge_page.Statement.{statement}
 use Rattle.desk_memory.proofs.tables.gadulnos_map_huge_page.Tie as tie
@@ -24,7 +25,7 @@ bytes : (c : tie.After-two) → let a = entry c .args in FramesBytes (a .fields 
 bytes c = (λ i. c .before .before .slice-known2 .given i .fits, λ i. c .before .slice-known3 .given i .fits)
 
 abbrev call : tie.After-two → HugePageSize → Memory → Out
-call c s m = mapHuge 3 m (entry c .args .root) (entry c .args .virt) (entry c .args .phys) s (entry c .args .writable) (entry c .args .user)
+call c s m = mapHuge aboveLast m (entry c .args .root) (entry c .args .virt) (entry c .args .phys) s (entry c .args .writable) (entry c .args .user)
 
 fit : (c : tie.Else1) → let a = entry (c .before) .args in (length (a .fields .now) ≡ fieldsSize) × (length (a .bits .now) ≡ bitsSize)
 fit c = let a = entry (c .before) .args in lengths (a .fields .now) (a .bits .now) (c .before .two .ensures) (c .if1 .left)

@@ -5,6 +5,7 @@ use Rattle.frame.proofs.Laws.{passed, failed}
 use Rattle.layout.specs.Parts.{fieldsSize, bitsSize}
 use Rattle.layout.proofs.Fit.{lengths}
 use Rattle.layout.proofs.Left.{memory-broken, memory-met, contract-broken, contract-met, FramesBytes}
+use Rattle.paging.specs.Levels.{aboveLast}
 use Rattle.paging.specs.Map.{Memory, Out}
 use Rattle.layout.specs.Left.{tableLeftovers}
 use Rattle.paging.specs.Calls.{mapPage}
@@ -20,7 +21,7 @@ bytes : (c : tie.After-two) → let a = entry c .args in FramesBytes (a .fields 
 bytes c = (λ i. c .before .before .slice-known2 .given i .fits, λ i. c .before .slice-known3 .given i .fits)
 
 abbrev call : tie.After-two → Memory → Out
-call c m = mapPage 3 m (entry c .args .root) (entry c .args .virt) (entry c .args .phys) (entry c .args .writable) (entry c .args .user)
+call c m = mapPage aboveLast m (entry c .args .root) (entry c .args .virt) (entry c .args .phys) (entry c .args .writable) (entry c .args .user)
 
 fit : (c : tie.Else1) → let a = entry (c .before) .args in (length (a .fields .now) ≡ fieldsSize) × (length (a .bits .now) ≡ bitsSize)
 fit c = let a = entry (c .before) .args in lengths (a .fields .now) (a .bits .now) (c .before .two .ensures) (c .if1 .left)

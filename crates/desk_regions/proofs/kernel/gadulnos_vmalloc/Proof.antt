@@ -1,143 +1,119 @@
--- Parts that do not fit, or the call on the parts unpacked.
+-- A frame record or bitmap that does not fit, or the call on them unpacked and on the list where it stands.
 use mathlib.Core.Path.{_≡_, refl}
 use lib.ListN.{length}
+use Rattle.address.specs.Address.{virtLine, asVirt}
+use Rattle.packed.proofs.RoundTrip.{Bytes}
 use Rattle.frame.proofs.Laws.{passed, failed}
+use Rattle.paging.specs.Levels.{aboveLast}
+use Rattle.vmalloc.specs.Calls.{Kernel, KernelDid, vmalloc}
 use Rattle.layout.specs.Parts.{fieldsSize, bitsSize}
-use Rattle.layout.proofs.Fit.{lengths-vm}
-use Rattle.layout.proofs.Left.{contract-broken, contract-met, FramesBytes}
-use Rattle.layout.specs.Lists.{vmSize}
-use Rattle.layout.proofs.RoundTrip.{Bytes}
 use Rattle.layout.specs.Left.{regionLeftovers}
-use Rattle.vmalloc.specs.Calls.{Kernel, Did, vmalloc}
-use Rattle.vmalloc.specs.Results.{vmalloced}
-use Rattle.vmalloc.specs.declared.Vmalloced.{Vmalloced}
-use Rattle.address.specs.Address.{virtLine}
-use Rattle.desk_regions.specs.Regions.{addressLine}
+use Rattle.layout.proofs.Fit.{lengths}
+use Rattle.layout.proofs.Left.{contract-broken, contract-met, FramesBytes}
 use Rattle.desk_regions.proofs.LeftRegions.{kernel-broken, kernel-met, vmalloc-refused}
 use Rattle.desk_regions.proofs.kernel.gadulnos_vmalloc.Statement.{statement}
 use Rattle.desk_regions.proofs.kernel.gadulnos_vmalloc.Tie as tie
 
 -- what was lent, from after the test; its bytes; and the call
-abbrev entry : tie.After-with-vm → tie.Start
-entry c = c .before .before .before .before .before .before
+abbrev entry : tie.After-two → tie.Start
+entry c = c .before .before .before .before .before
 
-bytes : (c : tie.After-with-vm) → let a = entry c .args in FramesBytes (a .fields .now) (a .bits .now)
-bytes c = (λ i. c .before .before .before .before .slice-known2 .given i .fits, λ i. c .before .before .before .slice-known3 .given i .fits)
+bytes : (c : tie.After-two) → let a = entry c .args in FramesBytes (a .fields .now) (a .bits .now)
+bytes c = (λ i. c .before .before .before .slice-known2 .given i .fits, λ i. c .before .before .slice-known3 .given i .fits)
 
-list-bytes : (c : tie.After-with-vm) → Bytes (entry c .args .list .now)
-list-bytes c = λ i. c .before .before .slice-known4 .given i .fits
+list-bytes : (c : tie.After-two) → Bytes (entry c .args .list .now)
+list-bytes c = λ i. c .before .slice-known4 .given i .fits
 
-abbrev call : tie.After-with-vm → Kernel → Did
-call c k = vmalloc 3 k (entry c .args .root) (entry c .args .size)
+abbrev call : tie.After-two → Kernel → KernelDid
+call c k = vmalloc aboveLast k (entry c .args .root) (entry c .args .size)
 
-fit : (c : tie.Else1) → let a = entry (c .before) .args in (length (a .fields .now) ≡ fieldsSize) × ((length (a .bits .now) ≡ bitsSize) × (length (a .list .now) ≡ vmSize))
-fit c = let a = entry (c .before) .args in lengths-vm (a .fields .now) (a .bits .now) (a .list .now) (c .before .with-vm .ensures) (c .if1 .left)
+fit : (c : tie.Else1) → let a = entry (c .before) .args in (length (a .fields .now) ≡ fieldsSize) × (length (a .bits .now) ≡ bitsSize)
+fit c = let a = entry (c .before) .args in lengths (a .fields .now) (a .bits .now) (c .before .two .ensures) (c .if1 .left)
 
 -- the way back to the test
 abbrev to-get-bits : tie.After-get-bits → tie.Else1
 to-get-bits c = c .before .before
 
 abbrev to-get-fields : tie.After-get-fields → tie.Else1
-to-get-fields c = to-get-bits (c .before .before)
-
-abbrev to-get-vm : tie.After-get-vm → tie.Else1
-to-get-vm c = to-get-fields (c .before .before .before .before)
+to-get-fields c = to-get-bits (c .before .before .before .before)
 
 abbrev to-vmalloc : tie.After-vmalloc → tie.Else1
-to-vmalloc c = to-get-vm (c .before)
+to-vmalloc c = to-get-fields (c .before .before)
 
 abbrev to-put-fields : tie.After-put-fields → tie.Else1
-to-put-fields c = to-vmalloc (c .before .before .before .before .before .before)
+to-put-fields c = to-vmalloc (c .before .before .before .before .before .before .before)
 
-abbrev to-put-bits : tie.After-put-bits → tie.Else1
-to-put-bits c = to-put-fields (c .before .before .before .before .before)
-
-with-vm-requires : tie.Need-with-vm-requires
-with-vm-requires c κs = tt
+two-requires : tie.Need-two-requires
+two-requires c κs = tt
 
 broken-requires : tie.Need-broken-requires
 broken-requires c κs = tt
-
-same-length : tie.Need-same-length
-same-length c = refl
 
 returns : tie.Need-returns
 returns c =
     let d = c .before .before in
     let a = entry d .args in
-    contract-broken regionLeftovers (kernel-broken addressLine (call d) (a .words .now) (a .fields .now) (a .bits .now) (a .list .now) (failed (d .with-vm .ensures) (c .before .if1 .taken)) (c .broken .ensures))
+    contract-broken regionLeftovers (kernel-broken asVirt virtLine (call d) (a .words .now) (a .fields .now) (a .bits .now) (a .list .now) (failed (d .two .ensures) (c .before .if1 .taken)) (c .broken .ensures))
 
 get-bits-requires : tie.Need-get-bits-requires
-get-bits-requires c κs = fit (c .before) .1 .0
+get-bits-requires c κs = fit (c .before) .1
 
 get-fields-requires : tie.Need-get-fields-requires
-get-fields-requires c κs = fit (to-get-bits (c .before)) .0
-
-get-vm-requires : tie.Need-get-vm-requires
-get-vm-requires c κs = fit (to-get-fields (c .before .before .before)) .1 .1
+get-fields-requires c κs = fit (to-get-bits (c .before .before .before)) .0
 
 vmalloc-requires : tie.Need-vmalloc-requires
 vmalloc-requires c κs = tt
 
 put-fields-requires : tie.Need-put-fields-requires
-put-fields-requires c κs = fit (to-vmalloc (c .before .before .before .before .before)) .0
+put-fields-requires c κs = fit (to-vmalloc (c .before .before .before .before .before .before)) .0
 
 put-bits-requires : tie.Need-put-bits-requires
-put-bits-requires c κs = fit (to-put-fields (c .before .before .before .before)) .1 .0
-
-put-vm-requires : tie.Need-put-vm-requires
-put-vm-requires c κs = fit (to-put-bits (c .before .before .before)) .1 .1
+put-bits-requires c κs = fit (to-put-fields (c .before .before .before .before)) .1
 
 virt-line-requires : tie.Need-virt-line-requires
 virt-line-requires c κs = tt
 
+same-length : tie.Need-same-length
+same-length c = c .before .before .before .before .before .before .before .before .before .before .before .before .before .before .before .vmalloc .kept .0
+
 same-length-2 : tie.Need-same-length-2
-same-length-2 c = c .before .before .before .before .before .before .before .before .before .before .before .before .before .before .before .before .before .before .vmalloc .kept .0
+same-length-2 c = c .before .before .before .before .before .before .before .before .put-fields .kept .0
 
 same-length-3 : tie.Need-same-length-3
-same-length-3 c = c .before .before .before .before .before .before .before .before .before .before .before .before .put-fields .kept .0
+same-length-3 c = c .before .before .before .put-bits .kept .0
 
 same-length-4 : tie.Need-same-length-4
-same-length-4 c = c .before .before .before .before .before .before .before .put-bits .kept .0
-
-same-length-5 : tie.Need-same-length-5
-same-length-5 c = c .before .before .before .put-vm .kept .0
+same-length-4 c = c .before .before .before .before .before .before .before .before .before .before .before .before .before .before .before .vmalloc .kept .1 .1 .1 .1 .0
 
 returns-2 : tie.Need-returns-2
 returns-2 c =
-    let put-vm = c .before .before .before in
-    let put-bits = put-vm .before .before .before .before in
+    let put-bits = c .before .before .before in
     let put-fields = put-bits .before .before .before .before .before in
-    let did = put-fields .before .before .before .before .before .before in
-    let get-vm = did .before in
-    let get-fields = get-vm .before .before .before .before in
-    let get-bits = get-fields .before .before in
+    let did = put-fields .before .before .before .before .before .before .before in
+    let get-fields = did .before .before in
+    let get-bits = get-fields .before .before .before .before in
     let d = get-bits .before .before .before in
     let a = entry d .args in
     contract-met regionLeftovers
-    (kernel-met addressLine (call d) (a .words .now) (a .fields .now) (a .bits .now) (a .list .now) vmalloced (λ (x : Vmalloced). virtLine (x .answer)) (λ (x : Vmalloced). x .frames)
-    (λ (x : Vmalloced). x .list) (λ _. (refl, (refl, refl))) (passed (d .with-vm .ensures) (get-bits .before .before .if1 .left)) (get-bits .get-bits .ensures) (get-fields .get-fields .ensures) (get-vm .get-vm .ensures)
-    (did .vmalloc .ensures) (c .virt-line .ensures) (put-fields .put-fields .ensures) (put-bits .put-bits .ensures) (put-vm .put-vm .ensures))
+    (kernel-met asVirt virtLine (call d) (a .words .now) (a .fields .now) (a .bits .now) (a .list .now) refl (passed (d .two .ensures) (get-bits .before .before .if1 .left)) (bytes d)
+    (get-bits .get-bits .ensures) (get-fields .get-fields .ensures) (did .vmalloc .ensures .0) (c .virt-line .ensures) (put-fields .put-fields .ensures) (put-bits .put-bits .ensures))
     (vmalloc-refused (a .words .now) (a .fields .now) (a .bits .now) (a .list .now) (bytes d) (list-bytes d) (a .root) (a .size))
 
 pub gadulnos-vmalloc-spec : {M : Type 1} → statement M
 gadulnos-vmalloc-spec =
     tie.close
     (tie.spec
-    with-vm-requires
+    two-requires
     broken-requires
-    same-length
     returns
     get-bits-requires
     get-fields-requires
-    get-vm-requires
     vmalloc-requires
     put-fields-requires
     put-bits-requires
-    put-vm-requires
     virt-line-requires
+    same-length
     same-length-2
     same-length-3
     same-length-4
-    same-length-5
     returns-2)

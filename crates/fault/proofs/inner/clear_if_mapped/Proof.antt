@@ -1,5 +1,6 @@
 -- `clear_if_mapped`: where the page translates it is cleared.
 use mathlib.Core.Path.{sym, _∙_}
+use Rattle.paging.specs.Levels.{aboveLast}
 use Rattle.fault.proofs.Steps.{phys-at, phys-none, cleared-there, cleared-none}
 use borrow.Author.Needs.{needs}
 use Rattle.fault.proofs.inner.clear_if_mapped.Statement.{statement}
@@ -24,7 +25,7 @@ returns : tie.Need-returns
 returns c =
     let w = c .before .before .before .before .before .before in
     λ b. c .before .before .clear-page .ensures b
-    ∙ sym (cleared-there 3 _ _ (w .before .before .before .args .virt .0) _
+    ∙ sym (cleared-there aboveLast _ _ (w .before .before .before .args .virt .0) _
     (phys-at _ (sym (w .walk .ensures) ∙ c .before .before .before .before .enum-told .given .1)))
 
 same-length-2 : tie.Need-same-length-2
@@ -33,7 +34,7 @@ same-length-2 c = search needs
 returns-2 : tie.Need-returns-2
 returns-2 c =
     let w = c .before .before in
-    λ b. sym (cleared-none 3 _ _ (w .before .before .before .args .virt .0) _ (phys-none _ (sym (w .walk .ensures) ∙ c .enum-told2 .given .1)))
+    λ b. sym (cleared-none aboveLast _ _ (w .before .before .before .args .virt .0) _ (phys-none _ (sym (w .walk .ensures) ∙ c .enum-told2 .given .1)))
 
 pub clear-if-mapped-spec : {M : Type 1} → statement M
 clear-if-mapped-spec =

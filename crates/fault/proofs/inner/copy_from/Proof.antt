@@ -5,7 +5,8 @@ use mathlib.Core.Bool.{true}
 use mathlib.Core.List.{List}
 use Rattle.frame.specs.Frames.{frames as framesOf, inside}
 use Rattle.frame.proofs.Laws.{passed, failed}
-use Rattle.paging.specs.declared.Walked.the-variants.{At}
+use Rattle.paging.specs.Levels.{aboveLast}
+use Rattle.answer.specs.declared.Outcome.the-variants.{Value}
 use Rattle.paging.specs.Map.{memory, out}
 use Rattle.walk.proofs.Laws.{place-asks}
 use Rattle.paging.proofs.Walk.{frame-lent}
@@ -35,8 +36,8 @@ same-length c = search needs
 
 -- where the page is
 there : (c : tie.After-a) (b : List ℕ) → let s = c .before .before .before .before .before .args in
-    translated 3 (memory (s .words .now) (framesOf b (s .frames))) (s .root .0) (s .page .0)
-    ≡ At (c .a .given .0 .0 .0)
+    translated aboveLast (memory (s .words .now) (framesOf b (s .frames))) (s .root .0) (s .page .0)
+    ≡ Value (c .a .given .0 .0 .0)
 there c b = phys-at _ (sym (c .before .before .walk .ensures) ∙ c .a .given .1)
 
 -- its frame is lent
@@ -73,7 +74,7 @@ returns-2 : tie.Need-returns-2
 returns-2 c =
     let s = c .before .before .before .before .before .args in
     λ b. let m = memory (s .words .now) (framesOf b (s .frames)) in
-    sym (copied-none m (translated 3 m (s .root .0) (s .page .0)) (s .f) _ (phys-none _ (sym (c .before .before .walk .ensures) ∙ c .enum-told .given .1)))
+    sym (copied-none m (translated aboveLast m (s .root .0) (s .page .0)) (s .f) _ (phys-none _ (sym (c .before .before .walk .ensures) ∙ c .enum-told .given .1)))
 
 same-length-3 : tie.Need-same-length-3
 same-length-3 c = search needs
@@ -85,7 +86,7 @@ returns-3 c =
     let s = a .before .before .before .before .before .args in
     let at = e .before .before .containing-address .ensures in
     λ b.
-    ap (λ (ws : List ℕ). out (At 0) (memory ws (framesOf b (s .frames)))) (c .before .before .copy-words .ensures)
+    ap (λ (ws : List ℕ). out (Value 0) (memory ws (framesOf b (s .frames)))) (c .before .before .copy-words .ensures)
     ∙ sym (copied-in _ _ _ _ (there a b) (rw (← at) (lent e)) (rw (← at) (c .before .before .before .before .before .entry-place .ensures))
     (c .before .before .before .before .entry-place2 .ensures))
 

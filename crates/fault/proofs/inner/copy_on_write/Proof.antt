@@ -1,6 +1,7 @@
 -- `copy_on_write`: 11, or the copy to the frame that was taken.
 use mathlib.Core.Path.{sym, _∙_}
 use Rattle.mapper.proofs.Laws.{stepped}
+use Rattle.paging.specs.Levels.{aboveLast}
 use Rattle.fault.proofs.Steps.{taken-roomy, taken-lent, cow-none, cow-on}
 use borrow.Author.Needs.{needs}
 use Rattle.fault.proofs.inner.copy_on_write.Statement.{statement}
@@ -22,14 +23,14 @@ copy-to-requires c κs =
     (taken-roomy _ e 6 (s .pre), taken-lent _ e _ (c .before .before .before .walked2 .given .1))
 
 returns : tie.Need-returns
-returns c = sym (cow-none 3 _ _ _ _ _ _ (stepped (c .before .before .before .before .raw-frame .ensures _) (c .before .walked .given .1)))
+returns c = sym (cow-none aboveLast _ _ _ _ _ _ (stepped (c .before .before .before .before .raw-frame .ensures _) (c .before .walked .given .1)))
 
 same-length : tie.Need-same-length
 same-length c = search needs
 
 returns-2 : tie.Need-returns-2
 returns-2 c =
-    c .before .before .copy-to .ensures ∙ sym (cow-on 3 _ _
+    c .before .before .copy-to .ensures ∙ sym (cow-on aboveLast _ _
     (c .before .before .before .before .before .before .before .before .before .before .before .before .args .page .0) _ _ _
     (stepped (c .before .before .before .before .before .before .before .before .before .raw-frame .ensures _)
     (c .before .before .before .before .before .before .walked2 .given .1)))

@@ -5,8 +5,9 @@ use lib.ListN.{length}
 use Rattle.frame.specs.Frames.{frames as framesOf}
 use Rattle.mapper.proofs.Laws.{stepped}
 use Rattle.pages.proofs.Laws.{lent-still}
-use Rattle.paging.specs.Walk.{Lent}
-use Rattle.paging.specs.Map.{Memory, memory, out, Roomy}
+use Rattle.paging.specs.Levels.{aboveLast}
+use Rattle.paging.specs.Walk.{WordsLent}
+use Rattle.paging.specs.Map.{Memory, memory, out, RoomToTake}
 use Rattle.paging.proofs.Map.{roomy-lent}
 use Rattle.fault.specs.Faults.{temporary, mapFrame}
 use Rattle.fault.proofs.Steps.{frame-low, mapped-roomy, mapped-lent, unused, unused-roomy, copy-page-stop, copy-page-on}
@@ -24,11 +25,11 @@ lent s = memory (s .args .words .now) (framesOf (s .args .bitmap .now) (s .args 
 abbrev freed : tie.After-clear-if-mapped → Memory
 freed c = memory (c .clear-if-mapped .last .0) (framesOf (c .before .before .before .args .bitmap .now) (c .before .before .before .args .frames))
 
-free : (c : tie.After-clear-if-mapped) → freed c ≡ unused 3 (lent (c .before .before .before)) (c .before .before .before .args .root .0)
+free : (c : tie.After-clear-if-mapped) → freed c ≡ unused aboveLast (lent (c .before .before .before)) (c .before .before .before .args .root .0)
 free c = c .clear-if-mapped .ensures (c .before .before .before .args .bitmap .now)
 
-room : (c : tie.After-clear-if-mapped) → Roomy (freed c) 3
-room c = unused-roomy 3 _ _ (free c) 3 (c .before .before .before .pre .0)
+room : (c : tie.After-clear-if-mapped) → RoomToTake (freed c) aboveLast
+room c = unused-roomy aboveLast _ _ (free c) aboveLast (c .before .before .before .pre .0)
 
 map-frame-requires : tie.Need-map-frame-requires
 map-frame-requires c κs =
@@ -44,15 +45,15 @@ enum-told c = search needs
 -- what mapping it comes to
 mapped : (c : tie.After-map-frame) → let s = c .before .before .before .before .before .before .before .before in
     out (c .map-frame .result .walked) (memory (c .map-frame .last .0) (framesOf (c .map-frame .last .1 .0) (c .map-frame .result .frames)))
-    ≡ mapFrame 3 (unused 3 (lent s) (s .args .root .0)) (s .args .root .0) temporary (s .args .f) true false
+    ≡ mapFrame aboveLast (unused aboveLast (lent s) (s .args .root .0)) (s .args .root .0) temporary (s .args .f) true false
 mapped c =
     let s = c .before .before .before .before .before .before .before .before in
-    c .map-frame .ensures ∙ ap (λ (x : Memory). mapFrame 3 x (s .args .root .0) temporary (s .args .f) true false)
+    c .map-frame .ensures ∙ ap (λ (x : Memory). mapFrame aboveLast x (s .args .root .0) temporary (s .args .f) true false)
     (free (c .before .before .before .before .before))
 
-lent-after : (c : tie.After-map-frame) → Lent (c .map-frame .last .0) (c .map-frame .result .frames .start) (c .map-frame .result .frames .total)
+lent-after : (c : tie.After-map-frame) → WordsLent (c .map-frame .last .0) (c .map-frame .result .frames .start) (c .map-frame .result .frames .total)
 lent-after c =
-    roomy-lent (mapped-roomy 3 (freed (c .before .before .before .before .before)) _ temporary
+    roomy-lent (mapped-roomy aboveLast (freed (c .before .before .before .before .before)) _ temporary
     (c .before .before .before .before .before .before .before .before .args .f) true false (c .map-frame .ensures) 0
     (room (c .before .before .before .before .before)))
 
@@ -60,7 +61,7 @@ copy-from-requires : tie.Need-copy-from-requires
 copy-from-requires c κs =
     let r = c .before .before .before .before .before .before in
     let s = r .before .before .before .before .before .before .before .before in
-    (lent-after r, mapped-lent 3 (freed (r .before .before .before .before .before)) _ temporary (s .args .f) true false (r .map-frame .ensures) (s .pre .1))
+    (lent-after r, mapped-lent aboveLast (freed (r .before .before .before .before .before)) _ temporary (s .args .f) true false (r .map-frame .ensures) (s .pre .1))
 
 clear-page-requires : tie.Need-clear-page-requires
 clear-page-requires c κs =
@@ -74,7 +75,7 @@ same-length c = search needs
 returns : tie.Need-returns
 returns c =
     let r = c .before .before .before .before .before .before in
-    sym (copy-page-stop 3 _ _ _ _ _ _ (stepped (mapped r) (c .before .walked .given .1)))
+    sym (copy-page-stop aboveLast _ _ _ _ _ _ (stepped (mapped r) (c .before .walked .given .1)))
 
 same-length-2 : tie.Need-same-length-2
 same-length-2 c = search needs
@@ -85,7 +86,7 @@ returns-2 c =
     let r = c .before .before .before .before .before .before .before .before .before .before .before .before .before in
     let b = r .map-frame .last .1 .0 in
     ap (out (d .copy-from .result)) (c .before .before .clear-page .ensures b)
-    ∙ sym (copy-page-on 3 _ _ (r .before .before .before .before .before .before .before .before .args .page .0) _ _ _
+    ∙ sym (copy-page-on aboveLast _ _ (r .before .before .before .before .before .before .before .before .args .page .0) _ _ _
     (stepped (mapped r) (c .before .before .before .before .before .before .before .before .enum-told .given .1)) (sym (d .copy-from .ensures b)))
 
 pub copy-page-spec : {M : Type 1} → statement M

@@ -1,5 +1,6 @@
 -- `copy_to`: the words copied, then the page remapped.
 use Rattle.frame.specs.Frames.{frames as framesOf}
+use Rattle.paging.specs.Levels.{aboveLast}
 use Rattle.paging.specs.Map.{Memory, memory}
 use Rattle.fault.proofs.Steps.{frame-low, copied-on-roomy, copy-to-stop, copy-to-on}
 use borrow.Author.Needs.{needs}
@@ -22,8 +23,8 @@ lent s = memory (s .args .words .now) (framesOf (s .args .bitmap .now) (s .args 
 remap-page-requires : tie.Need-remap-page-requires
 remap-page-requires c κs =
     let s = c .before .before .before .before .before .before .before .before .before .before .before in (
-      copied-on-roomy 3 (lent s) (s .args .root .0) (s .args .page .0) (s .args .f)
-          (c .before .before .before .before .before .before .before .copy-page .ensures) 3 (s .pre .0),
+      copied-on-roomy aboveLast (lent s) (s .args .root .0) (s .args .page .0) (s .args .f)
+          (c .before .before .before .before .before .before .before .copy-page .ensures) aboveLast (s .pre .0),
       frame-low {m = lent s} (s .args .f) (s .pre .0) (s .pre .1),
     )
 
@@ -33,7 +34,7 @@ same-length c = search needs
 returns : tie.Need-returns
 returns c =
     let s = c .before .before .before .before .before .before .before .before .before .before in
-    copy-to-stop 3 (lent s) (s .args .root .0) (s .args .page .0) (s .args .f) (s .args .user)
+    copy-to-stop aboveLast (lent s) (s .args .root .0) (s .args .page .0) (s .args .f) (s .args .user)
     (c .before .before .before .before .before .before .copy-page .ensures) (c .before .walked .given .1)
 
 same-length-2 : tie.Need-same-length-2
@@ -42,7 +43,7 @@ same-length-2 c = search needs
 returns-2 : tie.Need-returns-2
 returns-2 c =
     let s = c .before .before .before .before .before .before .before .before .before .before .before .before .before .before in
-    copy-to-on 3 (lent s) (s .args .root .0) (s .args .page .0) (s .args .f) (s .args .user)
+    copy-to-on aboveLast (lent s) (s .args .root .0) (s .args .page .0) (s .args .f) (s .args .user)
     (c .before .before .before .before .before .before .before .before .before .before .copy-page .ensures)
     (c .before .before .before .before .before .enum-told .given .1) (c .before .before .remap-page .ensures)
 

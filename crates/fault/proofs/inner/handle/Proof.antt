@@ -1,29 +1,41 @@
 -- `handle`: 5, access that was denied, or a page that was not present.
-use mathlib.Core.Path.{_≡_, sym, _∙_}
-use mathlib.Core.Bool.{false}
-use Rattle.frame.specs.Frames.{frames as framesOf}
-use Rattle.paging.specs.Map.{memory}
-use Rattle.cow.specs.Marked.{slotsOf}
-use Rattle.fault.specs.Faults.{isReserved, Faulting, faulting}
-use Rattle.fault.proofs.Faults.{told-fault, says-on, handled-reserved, handled-present, handled-absent}
+use mathlib.Core.Path.{_≡_, refl, sym, _∙_}
+use mathlib.Core.Bool.{true, false}
+use Rattle.bits.proofs.Choice.{both-true}
+use Rattle.paging.specs.Levels.{aboveLast}
+use Rattle.paging.specs.Map.{Memory}
+use Rattle.paging.specs.Kept.{lentMemory}
+use Rattle.cow.specs.Packed.{markedIn, markedFit}
+use Rattle.fault.specs.Faults.{isReserved, Faulting, faulting, FaultDid, protected, handled}
+use Rattle.fault.proofs.Faults.{says-same, says-on, handled-reserved, handled-present, handled-absent}
 use borrow.Author.Needs.{needs}
 use Rattle.fault.proofs.inner.handle.Statement.{statement}
 use Rattle.fault.proofs.inner.handle.Tie as tie
 
+-- what is lent
+abbrev mem : tie.Start → Memory
+mem s = lentMemory (s .args .words .now) (s .args .bitmap .now) (s .args .frames)
+
+abbrev lent : tie.Start → Faulting
+lent s = faulting (mem s) (markedIn (s .args .marked .now))
+
+abbrev path : tie.Start → Faulting → FaultDid
+path s x = handled aboveLast x (s .args .root .0) (s .args .page .0) (s .args .code)
+
+fits : (s : tie.Start) → markedFit (s .args .marked .now) ≡ true
+fits s = both-true _ _ (s .pre .1) .0
+
+plain : (c : tie.Else1) → isReserved (c .before .before .before .before .args .code) ≡ false
+plain c = sym (c .before .is-reserved .ensures) ∙ c .if1 .left
+
 is-reserved-requires : tie.Need-is-reserved-requires
 is-reserved-requires c κs = search needs
 
--- what is lent
-abbrev lent : tie.Start → Faulting
-lent s = faulting (memory (s .args .words .now) (framesOf (s .args .bitmap .now) (s .args .frames))) (slotsOf (s .args .marked .now) (s .args .count))
-
-plain : (c : tie.Else1) → isReserved (c .before .before .before .args .code) ≡ false
-plain c = sym (c .before .is-reserved .ensures) ∙ c .if1 .left
-
 returns : tie.Need-returns
 returns c =
-    let s = c .before .before .before in
-    told-fault (handled-reserved 3 (lent s) _ (s .args .page .0) (s .args .code) (sym (c .before .is-reserved .ensures) ∙ c .if1 .taken))
+    let s = c .before .before .before .before in
+    let e = handled-reserved aboveLast (lent s) (s .args .root .0) (s .args .page .0) (s .args .code) (sym (c .before .is-reserved .ensures) ∙ c .if1 .taken) in
+    says-same (path s) (mem s) (s .args .marked .now) (fits s) refl e (λ k. c .before .before .slice-known2 .given k .fits)
 
 is-present-requires : tie.Need-is-present-requires
 is-present-requires c κs = search needs
@@ -34,12 +46,17 @@ protected-requires c κs = search needs
 same-length : tie.Need-same-length
 same-length c = search needs
 
+same-length-2 : tie.Need-same-length-2
+same-length-2 c = search needs
+
 returns-2 : tie.Need-returns-2
 returns-2 c =
-    let s = c .before .before .before .before .before .before .before .before .before .before .before in
-    says-on (c .before .before .protected .ensures)
-    (handled-present 3 (lent s) _ (s .args .page .0) (s .args .code) (plain (c .before .before .before .before .before .before .before .before))
-    (sym (c .before .before .before .before .before .before .before .is-present .ensures) ∙ c .before .before .before .before .before .before .if2 .taken))
+    let p = c .before .before .before .before in
+    let t = p .before .before .before .before in
+    let e = t .before .before in
+    let s = e .before .before .before .before in
+    says-on (path s) (λ x. protected aboveLast x (s .args .root .0) (s .args .page .0) (s .args .code)) (mem s) (s .args .marked .now)
+    (handled-present aboveLast (lent s) (s .args .root .0) (s .args .page .0) (s .args .code) (plain e) (sym (t .before .is-present .ensures) ∙ t .if2 .taken)) (p .protected .ensures)
 
 demand-page-requires : tie.Need-demand-page-requires
 demand-page-requires c κs = search needs
@@ -47,15 +64,17 @@ demand-page-requires c κs = search needs
 as-answer-requires : tie.Need-as-answer-requires
 as-answer-requires c κs = search needs
 
-same-length-2 : tie.Need-same-length-2
-same-length-2 c = search needs
+same-length-3 : tie.Need-same-length-3
+same-length-3 c = search needs
 
 returns-3 : tie.Need-returns-3
 returns-3 c =
-    let s = c .before .before .before .before .before .before .before .before .before .before .before .before in
-    handled-absent 3 (lent s) _ (s .args .page .0) (s .args .code) (plain (c .before .before .before .before .before .before .before .before .before))
-    (sym (c .before .before .before .before .before .before .before .before .is-present .ensures)
-    ∙ c .before .before .before .before .before .before .before .if2 .left) (c .before .before .before .before .demand-page .ensures) (c .as-answer .ensures)
+    let r = c .before .before .before .before in
+    let t = r .before .before .before in
+    let e = t .before .before in
+    let s = e .before .before .before .before in
+    let d = handled-absent aboveLast (lent s) (s .args .root .0) (s .args .page .0) (s .args .code) (plain e) (sym (t .before .is-present .ensures) ∙ t .if2 .left) (r .demand-page .ensures) in
+    says-same (path s) (mem s) (s .args .marked .now) (fits s) (c .as-answer .ensures) d (λ k. e .before .before .slice-known2 .given k .fits)
 
 pub handle-spec : {M : Type 1} → statement M
 handle-spec =
@@ -66,8 +85,9 @@ handle-spec =
     is-present-requires
     protected-requires
     same-length
+    same-length-2
     returns-2
     demand-page-requires
     as-answer-requires
-    same-length-2
+    same-length-3
     returns-3)

@@ -1,5 +1,6 @@
 -- `map_frame`: what mapping the page answers, with 18 for each refusal.
 use Rattle.frame.specs.Frames.{frames as framesOf}
+use Rattle.paging.specs.Levels.{aboveLast}
 use Rattle.paging.specs.Map.{Memory, memory}
 use Rattle.fault.proofs.Steps.{map-frame-met, map-frame-refused}
 use borrow.Author.Needs.{needs}
@@ -34,7 +35,7 @@ returns c =
     let s = m .before .before .before in
     let t = s .before .before .before in
     let a = t .args in
-    map-frame-met 3 (lent t) (a .root .0) (a .virt .0) (a .f) (a .writable) (a .user) (t .pre .1) (s .before .start-address .ensures) (s .set .ensures) (m .map-entry .ensures)
+    map-frame-met aboveLast (lent t) (a .root .0) (a .virt .0) (a .f) (a .writable) (a .user) (t .pre .1) (s .before .start-address .ensures) (s .set .ensures) (m .map-entry .ensures)
     (c .enum-told .given .1)
 
 same-length-2 : tie.Need-same-length-2
@@ -46,7 +47,7 @@ returns-2 c =
     let s = m .before .before .before in
     let t = s .before .before .before in
     let a = t .args in
-    map-frame-refused 3 (lent t) (a .root .0) (a .virt .0) (a .f) (a .writable) (a .user) (t .pre .1) (s .before .start-address .ensures) (s .set .ensures) (m .map-entry .ensures) _
+    map-frame-refused aboveLast (lent t) (a .root .0) (a .virt .0) (a .f) (a .writable) (a .user) (t .pre .1) (s .before .start-address .ensures) (s .set .ensures) (m .map-entry .ensures) _
     (c .enum-told2 .given .1)
 
 pub map-frame-spec : {M : Type 1} → statement M

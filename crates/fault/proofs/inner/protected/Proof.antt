@@ -1,17 +1,42 @@
 -- `protected`: 7 or 8, 17, what refuses the copy, or the page copied and unmarked.
-use mathlib.Core.Path.{_≡_}
+use mathlib.Core.Path.{_≡_, refl}
 use mathlib.Core.Bool.{true}
-use lib.ListN.{take}
-use Rattle.frame.specs.Frames.{frames as framesOf}
+use Rattle.bits.proofs.Choice.{both-true}
 use Rattle.frame.proofs.Laws.{passed, failed}
+use Rattle.paging.specs.Levels.{aboveLast}
+use Rattle.paging.specs.Map.{Memory}
+use Rattle.paging.specs.Kept.{lentMemory}
 use Rattle.mapper.proofs.Laws.{stepped}
-use Rattle.paging.specs.Map.{memory}
-use Rattle.cow.specs.Marked.{slotsOf, isListed}
-use Rattle.fault.specs.Faults.{isWrite, Faulting, faulting}
-use Rattle.fault.proofs.Faults.{told-fault, protected-read, protected-plain, protected-stop, protected-met}
+use Rattle.slots.specs.Slots.{listed}
+use Rattle.slots.specs.Sorted.{hasKey}
+use Rattle.cow.specs.Marked.{pageKey}
+use Rattle.cow.specs.Packed.{markedIn, markedFit}
+use Rattle.fault.specs.Faults.{isWrite, Faulting, faulting, FaultDid, protected}
+use Rattle.fault.proofs.Faults.{says, says-same, protected-read, protected-plain, protected-stop, protected-met}
 use borrow.Author.Needs.{needs}
 use Rattle.fault.proofs.inner.protected.Statement.{statement}
 use Rattle.fault.proofs.inner.protected.Tie as tie
+
+-- what is lent
+abbrev mem : tie.Start → Memory
+mem s = lentMemory (s .args .words .now) (s .args .bitmap .now) (s .args .frames)
+
+abbrev lent : tie.Start → Faulting
+lent s = faulting (mem s) (markedIn (s .args .marked .now))
+
+abbrev path : tie.Start → Faulting → FaultDid
+path s x = protected aboveLast x (s .args .root .0) (s .args .page .0) (s .args .code)
+
+fits : (s : tie.Start) → markedFit (s .args .marked .now) ≡ true
+fits s = both-true _ _ (s .pre .1) .0
+
+-- a write, and to a marked page
+writes : (c : tie.Else1) → isWrite (c .before .before .before .before .args .code) ≡ true
+writes c = passed (c .before .is-write .ensures) (c .if1 .left)
+
+marked : (c : tie.Else2) → let s = c .before .before .before .before .before .before .before in
+    hasKey pageKey (s .args .page .0) (listed (markedIn (s .args .marked .now))) ≡ true
+marked c = passed (c .before .is-listed .ensures) (c .if2 .left)
 
 is-write-requires : tie.Need-is-write-requires
 is-write-requires c κs = search needs
@@ -19,30 +44,24 @@ is-write-requires c κs = search needs
 denied-requires : tie.Need-denied-requires
 denied-requires c κs = search needs
 
--- what is lent
-abbrev lent : tie.Start → Faulting
-lent s = faulting (memory (s .args .words .now) (framesOf (s .args .bitmap .now) (s .args .frames))) (slotsOf (s .args .marked .now) (s .args .count))
-
--- a write, and to a marked page
-writes : (c : tie.Else1) → isWrite (c .before .before .before .args .code) ≡ true
-writes c = passed (c .before .is-write .ensures) (c .if1 .left)
-
-listed : (c : tie.Else2) → let a = c .before .before .before .before .before .before .args in isListed (a .page .0) (take (a .count) (a .marked .now)) ≡ true
-listed c = passed (c .before .is-listed .ensures) (c .if2 .left)
-
 returns : tie.Need-returns
 returns c =
-    let s = c .before .before .before .before in
-    told-fault (protected-read 3 (lent s) _ (s .args .page .0) (s .args .code) (failed (c .before .before .is-write .ensures) (c .before .if1 .taken)) (c .denied .ensures))
+    let s = c .before .before .before .before .before in
+    let e = protected-read aboveLast (lent s) (s .args .root .0) (s .args .page .0) (s .args .code) (failed (c .before .before .is-write .ensures) (c .before .if1 .taken)) (c .denied .ensures) in
+    says-same (path s) (mem s) (s .args .marked .now) (fits s) refl e (λ k. c .before .before .before .slice-known2 .given k .fits)
 
 is-listed-requires : tie.Need-is-listed-requires
 is-listed-requires c κs = search needs
 
+same-length : tie.Need-same-length
+same-length c = search needs
+
 returns-2 : tie.Need-returns-2
 returns-2 c =
-    let s = c .before .before .before .before .before .before in
-    told-fault (protected-plain 3 (lent s) _ (s .args .page .0) (s .args .code) (writes (c .before .before .before))
-    (failed (c .before .is-listed .ensures) (c .if2 .taken)))
+    let e = c .before .before .before in
+    let s = e .before .before .before .before in
+    let d = protected-plain aboveLast (lent s) (s .args .root .0) (s .args .page .0) (s .args .code) (writes e) (failed (c .before .is-listed .ensures) (c .if2 .taken)) in
+    says-same (path s) (mem s) (s .args .marked .now) (fits s) refl d (λ k. e .before .before .slice-known2 .given k .fits)
 
 is-user-requires : tie.Need-is-user-requires
 is-user-requires c κs = search needs
@@ -59,27 +78,38 @@ enum-told c = search needs
 unmark-requires : tie.Need-unmark-requires
 unmark-requires c κs = search needs
 
-same-length : tie.Need-same-length
-same-length c = search needs
-
-returns-3 : tie.Need-returns-3
-returns-3 c =
-    let e = c .before .before .before .before .before .before .before .before .before .before in
-    let s = e .before .before .before .before .before .before in
-    told-fault (protected-stop 3 (lent s) _ (s .args .page .0) (s .args .code) (writes (e .before .before .before)) (listed e)
-    (c .before .before .before .before .before .before .before .is-user .ensures) _ _
-    (stepped (c .before .before .before .before .before .before .copy-on-write .ensures) (c .before .walked .given .1)))
-
 same-length-2 : tie.Need-same-length-2
 same-length-2 c = search needs
 
+same-length-3 : tie.Need-same-length-3
+same-length-3 c = search needs
+
+returns-3 : tie.Need-returns-3
+returns-3 c =
+    let r = c .before .before .before .before .before .before in
+    let e = r .before .before .before .before in
+    let w = e .before .before .before in
+    let s = w .before .before .before .before in
+    let d = protected-stop aboveLast (lent s) (s .args .root .0) (s .args .page .0) (s .args .code) (writes w) (marked e) (r .before .is-user .ensures) _ _
+    (stepped (r .copy-on-write .ensures) (c .before .walked .given .1)) in
+    says-same (path s) (mem s) (s .args .marked .now) (fits s) refl d (λ k. w .before .before .slice-known2 .given k .fits)
+
+same-length-4 : tie.Need-same-length-4
+same-length-4 c = search needs
+
+same-length-5 : tie.Need-same-length-5
+same-length-5 c = search needs
+
 returns-4 : tie.Need-returns-4
 returns-4 c =
-    let e = c .before .before .before .before .before .before .before .before .before .before .before in
-    let s = e .before .before .before .before .before .before in
-    protected-met 3 (lent s) _ (s .args .page .0) (s .args .code) (writes (e .before .before .before)) (listed e)
-    (c .before .before .before .before .before .before .before .before .is-user .ensures) _ _
-    (stepped (c .before .before .before .before .before .before .before .copy-on-write .ensures) (c .before .before .enum-told .given .1)) (c .unmark .ensures)
+    let u = c .before .before in
+    let r = u .before .before .before .before .before .before .before in
+    let e = r .before .before .before .before in
+    let w = e .before .before .before in
+    let s = w .before .before .before .before in
+    let d = protected-met aboveLast (lent s) (s .args .root .0) (s .args .page .0) (s .args .code) (writes w) (marked e) (r .before .is-user .ensures) _ _
+    (stepped (r .copy-on-write .ensures) (u .before .before .enum-told .given .1)) in
+    says (path s) (mem s) (s .args .marked .now) (fits s) refl d (u .unmark .last .0) (u .unmark .ensures .1) (λ k. c .slice-known4 .given k .fits) (u .unmark .ensures .0)
 
 pub protected-spec : {M : Type 1} → statement M
 protected-spec =
@@ -89,13 +119,16 @@ protected-spec =
     denied-requires
     returns
     is-listed-requires
+    same-length
     returns-2
     is-user-requires
     copy-on-write-requires
     enum-known-walked
     enum-told
     unmark-requires
-    same-length
-    returns-3
     same-length-2
+    same-length-3
+    returns-3
+    same-length-4
+    same-length-5
     returns-4)

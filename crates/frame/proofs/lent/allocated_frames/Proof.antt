@@ -3,8 +3,8 @@ use mathlib.Core.List.{[]}
 use contract.Running.{givenOf, tables, tablesOf}
 use denote.Triple.Spec.{tripleOf}
 use denote.Triple.Table.{entered, cited}
-use Rattle.answer.proofs.CountAnswer as E
-use Rattle.answer.proofs.CountAnswer.Laws as E′
+use Rattle.answer.proofs.Outcome as E
+use Rattle.answer.proofs.Outcome.Laws as E′
 use Rattle.frame.specs.Frames.{allocatedFrames}
 use Rattle.frame.proofs.Reading.{meets}
 use Rattle.frame.proofs.FrameAllocator.allocated_frames as callee

@@ -1,7 +1,7 @@
 -- `as_answer`: met where the step came somewhere.
 use mathlib.Core.Path.{sym, ap}
 use borrow.Author.Needs.{needs}
-use Rattle.paging.specs.Calls.{asAnswer}
+use Rattle.answer.specs.Outcomes.{asAnswer}
 use Rattle.mapper.proofs.inner.as_answer.Statement.{statement}
 use Rattle.mapper.proofs.inner.as_answer.Tie as tie
 

@@ -7,7 +7,7 @@ use mathlib.Core.List.{_∷_}
 use native.Mathlib.Omega.{arith}
 use lib.ListN.{length, getD, take, drop}
 use Rattle.frame.specs.Frames.{frames as framesOf}
-use Rattle.paging.specs.Map.{memory, make, Roomy}
+use Rattle.paging.specs.Map.{memory, make, RoomToTake}
 use Rattle.paging.proofs.Walk.{next-upper, none-upper}
 use Rattle.paging.proofs.Map.{roomy-less, make-end}
 use Rattle.bits.proofs.Counter.{onward, fewer, level-fits, slot-fits}
@@ -18,7 +18,7 @@ use Rattle.mapper.proofs.inner.make_tables.Tie as tie
 
 abbrev Inv-loop : tie.InvT-loop
 Inv-loop words₀ bitmap₀ k user indices t₀ left₀ level₀ words bitmap t left level =
-    (level ≤ k) × (length words ≡ length words₀) × Roomy (memory words (framesOf bitmap left)) (3 - level)
+    (level ≤ k) × (length words ≡ length words₀) × RoomToTake (memory words (framesOf bitmap left)) (3 - level)
     × (make user (memory words₀ (framesOf bitmap₀ left₀)) t₀ (take k indices) ≡ make user (memory words (framesOf bitmap left)) t (drop level (take k indices)))
 
 abbrev μ-loop : tie.MeasureT-loop

@@ -4,10 +4,10 @@ use mir.Facts.{toZ-ofZ}
 use mir.Syntax.{w32}
 use mir.Val.{ofZ, toZ}
 use borrow.Author.Needs.{needs}
-use Rattle.mmap.specs.declared.Wish.{Wish}
-use Rattle.mmap.specs.Regions.{fixed}
-use Rattle.mmap.specs.List.{slotsOf}
-use Rattle.mmap.specs.Calls.{user, chosen}
+use Rattle.mmap.specs.declared.OptAddr.{OptAddr}
+use Rattle.mmap.specs.Flags.{fixed}
+use Rattle.mmap.specs.Calls.{chosen}
+use Rattle.mmap.specs.Packed.{userIn}
 use Rattle.mmap.proofs.Steps.{chosen-any, chosen-fixed, chosen-hint}
 use Rattle.mmap.proofs.inner.choose.Statement.{statement}
 use Rattle.mmap.proofs.inner.choose.Tie as tie
@@ -18,8 +18,8 @@ enum-told c = search needs
 find-free-region-requires : tie.Need-find-free-region-requires
 find-free-region-requires c κs = search needs
 
-enum-known-wish : tie.Need-enum-known-wish
-enum-known-wish c = search needs
+enum-known-hint : tie.Need-enum-known-hint
+enum-known-hint c = search needs
 
 is-fixed-requires : tie.Need-is-fixed-requires
 is-fixed-requires c κs = search needs
@@ -35,28 +35,28 @@ returns : tie.Need-returns
 returns c m =
     let f = c .before .before in
     let w = f .before .before in
-    let a = w .before .before .args in
-    c .fixed-at .ensures ∙ sym (chosen-fixed (user m (slotsOf (a .list)) (a .list .next)) (a .n) (a .flags) _
-    (sym (same (w .before .before)) ∙ sym (f .is-fixed .ensures) ∙ c .before .if1 .taken))
-    ∙ ap (λ (x : Wish). chosen (user m (slotsOf (a .list)) (a .list .next)) x (a .n) (a .flags)) (sym (w .wish .given .1))
+    let a = w .before .before .before .args in
+    c .fixed-at .ensures ∙ sym (chosen-fixed (userIn m (a .list .now)) (a .n) (a .flags) _
+    (sym (same (w .before .before .before)) ∙ sym (f .is-fixed .ensures) ∙ c .before .if1 .taken))
+    ∙ ap (λ (x : OptAddr). chosen (userIn m (a .list .now)) x (a .n) (a .flags)) (sym (w .hint .given .1))
 
 hinted-at-requires : tie.Need-hinted-at-requires
 hinted-at-requires c κs = search needs
 
 returns-2 : tie.Need-returns-2
 returns-2 c m =
-    let a = c .before .before .before .args in
-    c .find-free-region .ensures ∙ sym (chosen-any (user m (slotsOf (a .list)) (a .list .next)) (a .n) (a .flags))
-    ∙ ap (λ (x : Wish). chosen (user m (slotsOf (a .list)) (a .list .next)) x (a .n) (a .flags)) (sym (c .before .enum-told .given .1))
+    let a = c .before .before .before .before .args in
+    c .find-free-region .ensures ∙ sym (chosen-any (userIn m (a .list .now)) (a .n) (a .flags))
+    ∙ ap (λ (x : OptAddr). chosen (userIn m (a .list .now)) x (a .n) (a .flags)) (sym (c .before .enum-told .given .1))
 
 returns-3 : tie.Need-returns-3
 returns-3 c m =
     let f = c .before .before in
     let w = f .before .before in
-    let a = w .before .before .args in
-    c .hinted-at .ensures ∙ sym (chosen-hint (user m (slotsOf (a .list)) (a .list .next)) (a .n) (a .flags) _
-    (sym (same (w .before .before)) ∙ sym (f .is-fixed .ensures) ∙ c .before .if1 .left))
-    ∙ ap (λ (x : Wish). chosen (user m (slotsOf (a .list)) (a .list .next)) x (a .n) (a .flags)) (sym (w .wish .given .1))
+    let a = w .before .before .before .args in
+    c .hinted-at .ensures ∙ sym (chosen-hint (userIn m (a .list .now)) (a .n) (a .flags) _
+    (sym (same (w .before .before .before)) ∙ sym (f .is-fixed .ensures) ∙ c .before .if1 .left))
+    ∙ ap (λ (x : OptAddr). chosen (userIn m (a .list .now)) x (a .n) (a .flags)) (sym (w .hint .given .1))
 
 pub choose-spec : {M : Type 1} → statement M
 choose-spec =
@@ -64,7 +64,7 @@ choose-spec =
     (tie.spec
     enum-told
     find-free-region-requires
-    enum-known-wish
+    enum-known-hint
     is-fixed-requires
     fixed-at-requires
     returns

@@ -4,33 +4,33 @@ use mathlib.Core.Path.{sym, _∙_}
 use native.Mathlib.Omega.{arith}
 use Rattle.allocator.specs.Round.{lastPage}
 use Rattle.slots.specs.Slots.{listed}
-use Rattle.mmap.specs.List.{slotsOf}
+use Rattle.mappings.specs.Packed.{mmapIn, nextIn}
 use Rattle.mmap.proofs.Steps.{hint-odd, hint-high, hint-free, hint-taken}
 use Rattle.mmap.proofs.inner.hinted_at.Statement.{statement}
 use Rattle.mmap.proofs.inner.hinted_at.Tie as tie
 
 find-free-region-requires : tie.Need-find-free-region-requires
-find-free-region-requires c κs = c .before .pre .0
+find-free-region-requires c κs = c .before .before .pre .0
 
 returns : tie.Need-returns
 returns c =
-    let s = c .before .before .args in
-    c .find-free-region .ensures ∙ sym (hint-odd (s .a) (s .n) (listed (slotsOf (s .list))) (s .list .next) (c .before .if1 .taken))
+    let s = c .before .before .before .args in
+    c .find-free-region .ensures ∙ sym (hint-odd (s .a) (s .n) (listed (mmapIn (s .list .now))) (nextIn (s .list .now)) (c .before .if1 .taken))
 
 sub-if2 : tie.Need-sub-if2
-sub-if2 c = c .before .pre .1
+sub-if2 c = c .before .before .pre .1
 
 returns-2 : tie.Need-returns-2
 returns-2 c =
-    let s = c .before .before .args in
-    sym (hint-high (s .a) (s .n) (listed (slotsOf (s .list))) (s .list .next) (c .before .if1 .left) (omega (arith, c .if2 .taken)))
+    let s = c .before .before .before .args in
+    sym (hint-high (s .a) (s .n) (listed (mmapIn (s .list .now))) (nextIn (s .list .now)) (c .before .if1 .left) (omega (arith, c .if2 .taken)))
 
 -- it ends at most at the last page
-ends : (c : tie.Else2) → let s = c .before .before .args in s .a + s .n ≤ lastPage
+ends : (c : tie.Else2) → let s = c .before .before .before .args in s .a + s .n ≤ lastPage
 ends c = omega (arith, c .if2 .left)
 
 in-the-way-requires : tie.Need-in-the-way-requires
-in-the-way-requires c κs = (c .before .before .pre .0, ends c)
+in-the-way-requires c κs = (c .before .before .before .pre .0, ends c)
 
 enum-told : tie.Need-enum-told
 enum-told c = c .match .keys1
@@ -39,22 +39,22 @@ enum-told-2 : tie.Need-enum-told-2
 enum-told-2 c = c .match .keys2
 
 find-free-region-requires-2 : tie.Need-find-free-region-requires-2
-find-free-region-requires-2 c κs = c .before .before .before .before .before .pre .0
+find-free-region-requires-2 c κs = c .before .before .before .before .before .before .pre .0
 
 returns-3 : tie.Need-returns-3
 returns-3 c =
     let w = c .before .before in
-    let s = w .before .before .before .args in
-    sym (hint-free (s .a) (s .n) (listed (slotsOf (s .list))) (s .list .next) (w .before .before .if1 .left) (ends (w .before))
+    let s = w .before .before .before .before .args in
+    sym (hint-free (s .a) (s .n) (listed (mmapIn (s .list .now))) (nextIn (s .list .now)) (w .before .before .if1 .left) (ends (w .before))
     (sym (w .in-the-way .ensures) ∙ c .enum-told .given .1))
 
 returns-4 : tie.Need-returns-4
 returns-4 c =
     let t = c .before in
     let w = t .before .before in
-    let s = w .before .before .before .args in
+    let s = w .before .before .before .before .args in
     c .find-free-region2 .ensures
-    ∙ sym (hint-taken (s .a) (s .n) (listed (slotsOf (s .list))) (s .list .next) (w .before .before .if1 .left) (ends (w .before)) _
+    ∙ sym (hint-taken (s .a) (s .n) (listed (mmapIn (s .list .now))) (nextIn (s .list .now)) (w .before .before .if1 .left) (ends (w .before)) _
     (sym (w .in-the-way .ensures) ∙ t .enum-told2 .given .1))
 
 pub hinted-at-spec : {M : Type 1} → statement M

@@ -5,7 +5,7 @@ use native.Mathlib.Numerals.{unary-clauses}
 use lib.ListN.{length}
 use borrow.Author.Needs.{needs}
 use Rattle.frame.specs.Frames.{frames as framesOf}
-use Rattle.paging.specs.Map.{memory, Roomy}
+use Rattle.paging.specs.Map.{memory, RoomToTake}
 use Rattle.pages.specs.Freeing.{freeLeaves}
 use Rattle.bits.proofs.Counter.{onward, fewer, next-fits}
 use Rattle.pages.proofs.Leaves.{leaf-left, leaves-on, leaves-end}
@@ -14,7 +14,7 @@ use Rattle.pages.proofs.freeing.free_leaves.Tie as tie
 
 abbrev Inv-loop : tie.InvT-loop
 Inv-loop words₀ bitmap₀ t i n left₀ j₀ words bitmap left j =
-    (j ≤ n) × (length words ≡ length words₀) × Roomy (memory words (framesOf bitmap left)) 0
+    (j ≤ n) × (length words ≡ length words₀) × RoomToTake (memory words (framesOf bitmap left)) 0
     × (freeLeaves (memory words₀ (framesOf bitmap₀ left₀)) t i n ≡ freeLeaves (memory words (framesOf bitmap left)) t (i + j) (n - j))
 
 abbrev μ-loop : tie.MeasureT-loop

@@ -40,7 +40,7 @@ use denote.Triple.Walked.{says, needs, Stays, stay-slice, stay-none, walkOf, All
 use denote.Exit.{yes}
 use Rattle.slots.specs.Slots.{slotted, every, store}
 use Rattle.regions.specs.declared.VMRegion.{VMRegion}
-use Rattle.regions.specs.Regions.{noSlot, wellPlacedRegion, merge}
+use Rattle.regions.specs.Regions.{noVmRegion, wellPlacedVm, merge}
 use Rattle.regions.specs.List.{markedAt, freedAt}
 use Rattle.regions.proofs.Stored.{freed-lie, freed-stored}
 use Rattle.regions.proofs.Slot.{R, typed, scaled, ref, opens, closes, rec-out, rec-back}
@@ -65,24 +65,24 @@ stayed = (stay-slice (0 ∷ []) tt (plain (λ _. R)), (stay-none (λ _. usize) y
 
 -- what `merge_free_regions` requires, and what it answers and leaves; and what this function does
 abbrev Lies : List VMRegion → ℕ → Type 0
-Lies ys count = (length ys ≡ 256) × (count ≤ 256) × (every wellPlacedRegion (take count ys) ≡ true)
+Lies ys count = (length ys ≡ 256) × (count ≤ 256) × (every wellPlacedVm (take count ys) ≡ true)
 
 abbrev Merged : List VMRegion → ℕ → ℕ → List VMRegion → Type 0
-Merged ys count n zs = slotted zs n ≡ store noSlot (merge (take count ys)) (slotted ys count)
+Merged ys count n zs = slotted zs n ≡ store noVmRegion (merge (take count ys)) (slotted ys count)
 
 abbrev Freed : List VMRegion → ℕ → ℕ → ℕ → List VMRegion → Type 0
-Freed ys count i n zs = slotted zs n ≡ store noSlot (merge (freedAt i (take count ys))) (slotted ys count)
+Freed ys count i n zs = slotted zs n ≡ store noVmRegion (merge (freedAt i (take count ys))) (slotted ys count)
 
 -- zs is ys with region i free: its regions still lie well, and what merging them leaves is asked for
-module _ (ys : List VMRegion) (count i : ℕ) (lies : Lies ys count) (small : i < count) {zs : List VMRegion} (e : zs ≡ markedAt i (getD ys i noSlot .size) false ys) where
+module _ (ys : List VMRegion) (count i : ℕ) (lies : Lies ys count) (small : i < count) {zs : List VMRegion} (e : zs ≡ markedAt i (getD ys i noVmRegion .size) false ys) where
   enough : count ≤ length ys
   enough = omega (arith, lies .0, lies .1)
 
   lies-on : length zs ≡ length ys → Lies zs count
-  lies-on l = (l ∙ lies .0, lies .1, subst (λ (us : List VMRegion). every wellPlacedRegion (take count us) ≡ true) (sym e) (freed-lie (slotted ys count) enough i small (lies .2)))
+  lies-on l = (l ∙ lies .0, lies .1, subst (λ (us : List VMRegion). every wellPlacedVm (take count us) ≡ true) (sym e) (freed-lie (slotted ys count) enough i small (lies .2)))
 
   freed-on : (n : ℕ) {ws : List VMRegion} → Merged zs count n ws → Freed ys count i n ws
-  freed-on n m = m ∙ ap (λ (us : List VMRegion). store noSlot (merge (take count us)) (slotted us count)) e ∙ freed-stored (slotted ys count) enough i small
+  freed-on n m = m ∙ ap (λ (us : List VMRegion). store noVmRegion (merge (take count us)) (slotted us count)) e ∙ freed-stored (slotted ys count) enough i small
 
 module _ {M : Type 1} (𝓤 : URA M) (H : Heap 𝓤) (A : Atoms 𝓤) (mem : Memory → SProp 𝓤) (run : Routine → Fun 𝓤) where
   abbrev Merge : Contract 𝓤
@@ -135,12 +135,12 @@ module _ {M : Type 1} (𝓤 : URA M) (H : Heap 𝓤) (A : Atoms 𝓤) (W : Given
         assigns ! (bin ! (load ! (from ! (stop !)) (look ! 22 refl)) (lit ! tt) (record { fits = scaled within (room .1) })) (from ! (stop !)) (init ! 18 refl (tt, record { fits = scaled within (room .1) })) $
         assigns ! (bin ! (load ! (from ! (fld ! refl (stop !))) (look-in ! 26 (sub ! 0 refl (whole !)))) (load ! (from ! (stop !)) (look ! 18 refl)) tt) (from ! (stop !)) (init ! 16 refl (tt, tt)) $
         rewrite ! 16 (λ (p : ℕ). ‵ (fat fullShare tyPtr l₆ 0 (vptr b p))) (sym (place-is 24 o i)) refl $ rec-out ! ys i b o within (λ g.
-        assigns ! (of-opd ! (load ! (from ! (hop ! (look ! 18 refl) (stop !))) (look-raw ! 0 refl))) (from ! (stop !)) (init ! 16 refl (typed W (getD ys i noSlot) g)) $ rec-back ! ys i b o within $
-        assigns ! (of-opd ! (load ! (from ! (stop !)) (look ! 14 refl))) (from ! (stop !)) (init ! 20 refl (typed W (getD ys i noSlot) g)) $
+        assigns ! (of-opd ! (load ! (from ! (hop ! (look ! 18 refl) (stop !))) (look-raw ! 0 refl))) (from ! (stop !)) (init ! 16 refl (typed W (getD ys i noVmRegion) g)) $ rec-back ! ys i b o within $
+        assigns ! (of-opd ! (load ! (from ! (stop !)) (look ! 14 refl))) (from ! (stop !)) (init ! 20 refl (typed W (getD ys i noVmRegion) g)) $
         -- the slice is lent to `mark`
         assigns ! (addr ! (from ! (fld ! refl (hop ! (look-in ! 26 (sub ! 0 refl (whole !))) (stop !))))) (from ! (stop !)) (init ! 10 refl (tt, tt)) $
         assigns ! (agg ! (and-then ! (load ! (from ! (stop !)) (look ! 10 refl)) (and-then ! (load ! (from ! (fld ! refl (stop !))) (look-in ! 26 (sub ! 1 refl (whole !)))) (no-more !)))) (from ! (stop !)) (init ! 8 refl (tt, (tt, (record { fits = room .0 }, tt)))) $
-        lends ! fm ys refl room (marking 𝓤 H A mem run W b o ys i (getD ys i noSlot .size) false gi (typed W (getD ys i noSlot) g .1 .1 .0 .fits) within) known-mark
+        lends ! fm ys refl room (marking 𝓤 H A mem run W b o ys i (getD ys i noVmRegion .size) false gi (typed W (getD ys i noVmRegion) g .1 .1 .0 .fits) within) known-mark
         (λ ν _ _. and-then ! (load ! (from ! (stop !)) (look ! 9 refl)) (and-then ! (load ! (from ! (stop !)) (look ! 23 refl)) (and-then ! (load ! (from ! (fld ! refl (stop !))) (look-in ! 21 (sub ! 1 refl (whole !)))) (and-then ! (false-lit !) (no-more !)))))
         (λ w u zs is l e. land ! (from ! (stop !)) (init ! 12 refl (nothing-lawful 𝓤 H A W .typed u _ is .0)) $
         -- and to `merge_free_regions`

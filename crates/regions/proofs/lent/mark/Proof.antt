@@ -37,7 +37,7 @@ use denote.Triple.Table.{entered}
 use denote.Triple.Walked.{says, needs, Stays, stay-slice, stay-none, walkOf, AllGo, goes-none, goes-slice, Walks, ends-at, walked, walk-meets}
 use denote.Exit.{yes}
 use Rattle.regions.specs.declared.VMRegion.{VMRegion}
-use Rattle.regions.specs.Regions.{region, noSlot}
+use Rattle.regions.specs.Regions.{vmRegion, noVmRegion}
 use Rattle.regions.specs.List.{markedAt}
 use Rattle.regions.proofs.Slot.{R, Good, made, start-fits, typed, scaled, ref, opens, closes, rec-out, rec-back, rec-put}
 use Rattle.regions.proofs.lent.mark.Key.{name as #self}
@@ -63,10 +63,10 @@ module _ {M : Type 1} (𝓤 : URA M) (H : Heap 𝓤) (A : Atoms 𝓤) (W : Given
 
   -- the record that was there, and the one that is made of it
   abbrev was : VMRegion
-  was = getD ys i noSlot
+  was = getD ys i noVmRegion
 
   abbrev new : VMRegion
-  new = region (was .start) size used
+  new = vmRegion (was .start) size used
 
   new-good : Good was → Good new
   new-good g = made (start-fits g) gs

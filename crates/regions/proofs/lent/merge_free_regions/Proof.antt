@@ -48,7 +48,7 @@ use denote.Triple.Walked.{says, needs, Stays, stay-slice, stay-none, walkOf, All
 use denote.Exit.{yes}
 use Rattle.slots.specs.Slots.{Slots, slotted, every, store as stored}
 use Rattle.regions.specs.declared.VMRegion.{VMRegion}
-use Rattle.regions.specs.Regions.{noSlot, wellPlacedRegion, joins as joinsOf, merge}
+use Rattle.regions.specs.Regions.{noVmRegion, wellPlacedVm, joins as joinsOf, merge}
 use Rattle.slots.specs.Shifts.{shiftedDown}
 use Rattle.regions.specs.List.{markedAt}
 use Rattle.regions.proofs.Slot.{R, word, slice, mach, Good, typed, ref, opens, closes, rec-out, rec-back}
@@ -56,10 +56,10 @@ use Rattle.regions.proofs.Lends.{pointerTy, lentTy, Taking, lends, answ
 use Rattle.regions.proofs.Merging.{Merging, merge-start, lies, joined-lies, marked-join, merge-on, merge-joined, merge-end}
 use Rattle.regions.proofs.VMRegion as T
 use Rattle.regions.proofs.VMRegion.Laws as T′
-use Rattle.regions.proofs.list.joins as joins
-use Rattle.regions.proofs.list.joins.Symbol as joins-def
-use Rattle.regions.proofs.list.joins.Symbol.{name as #joins}
-use Rattle.regions.proofs.list.joins.Met as joins-thm
+use Rattle.regions.proofs.lent.joins as joins
+use Rattle.regions.proofs.lent.joins.Symbol as joins-def
+use Rattle.regions.proofs.lent.joins.Symbol.{name as #joins}
+use Rattle.regions.proofs.lent.joins.Met as joins-thm
 use Rattle.regions.proofs.lent.shift_down as down
 use Rattle.regions.proofs.lent.shift_down.Symbol as down-def
 use Rattle.regions.proofs.lent.shift_down.Symbol.{name as #down}
@@ -114,7 +114,7 @@ module _ {M : Type 1} (𝓤 : URA M) (H : Heap 𝓤) (A : Atoms 𝓤) (mem : Mem
     ghost = λ _ _. tt;
     had = λ _. qed W [] ∵ nothing ! $ owned ! usize (Is usize) (uint-makes 𝓤 H A W w64) n _ (refl, gn) $ fjoin ! $ owned ! usize (Is usize) (uint-makes 𝓤 H A W w64) i _ (refl, gi) $ fjoin ! $ done !;
     asked = λ _ _. factI 𝓤 ((i < n) × (n ≤ length ys)) (emp 𝓤) pre;
-    Said = λ _ zs. zs ≡ shiftedDown noSlot ys i n;
+    Said = λ _ zs. zs ≡ shiftedDown noVmRegion ys i n;
     said = λ _ _ _ _. id⊢ 𝓤 _;
   }
 
@@ -147,7 +147,7 @@ module _ {M : Type 1} (𝓤 : URA M) (H : Heap 𝓤) (A : Atoms 𝓤) (W : Given
     abbrev entry : Slots VMRegion
     entry = slotted ys count
 
-    exits : (n : ℕ) (zs : List VMRegion) → n < 2 ^ 64 → length zs ≡ length ys → slotted zs n ≡ stored noSlot (merge (take count ys)) entry → Room R (length ys)
+    exits : (n : ℕ) (zs : List VMRegion) → n < 2 ^ 64 → length zs ≡ length ys → slotted zs n ≡ stored noVmRegion (merge (take count ys)) entry → Room R (length ys)
         → ent 𝓤 (⋆ 𝓤 H A (‵ (fobs γ (codedHoleys R .code (heres R zs))) ∷ ‵ (fbor κ (Held R (length zs) b o γ)) ∷ ‵ (flft κ q) ∷ [])) (Post (vint w64 n))
     exits n zs gn e is room =
         qed W (‵ (fobs γ (codedHoleys R .code (heres R zs))) ∷ ‵ (fbor κ (Held R (length zs) b o γ)) ∷ ‵ (flft κ q) ∷ []) ∵
@@ -234,10 +234,10 @@ module _ {M : Type 1} (𝓤 : URA M) (H : Heap 𝓤) (A : Atoms 𝓤) (W : Given
 
         module _ (less : i + 1 < n) where
           abbrev this : VMRegion
-          this = getD zs i noSlot
+          this = getD zs i noVmRegion
 
           abbrev that : VMRegion
-          that = getD zs (i + 1) noSlot
+          that = getD zs (i + 1) noVmRegion
 
           i-fits : i < 2 ^ 64
           i-fits = omega (arith, next-fits)
@@ -270,7 +270,7 @@ module _ {M : Type 1} (𝓤 : URA M) (H : Heap 𝓤) (A : Atoms 𝓤) (W : Given
             n-less = omega (arith, n-fits)
 
             -- the slots behind i + 1 have moved down: `mark` is called, and n falls
-            marks-it : (us : List VMRegion) → length us ≡ length ys → us ≡ shiftedDown noSlot zs (i + 1) n → Seq (Go {0}) W (Paired us n i this that true) (runs C Λ En marks (anyQ (Turned here)))
+            marks-it : (us : List VMRegion) → length us ≡ length ys → us ≡ shiftedDown noVmRegion zs (i + 1) n → Seq (Go {0}) W (Paired us n i this that true) (runs C Λ En marks (anyQ (Turned here)))
             unfolding afterTurn
             marks-it us l struck =
                 assigns ! (addr ! (from ! (fld ! refl (hop ! (look-in ! 42 (sub ! 0 refl (whole !))) (stop !))))) (from ! (stop !)) (init ! 8 refl (tt, tt)) $
@@ -340,7 +340,7 @@ module _ {M : Type 1} (𝓤 : URA M) (H : Heap 𝓤) (A : Atoms 𝓤) (W : Given
       turns : (s : State) → Seq (Go {0}) W (At s) (runs C Λ En piece.turn-1 (anyQ (Turned s)))
       turns (n, (i, (zs, m))) = by-test n i zs m (ltb (i + 1) n) refl
 
-    walk : (𝓣 : Tables 𝓤 H) → Triple 𝓤 (𝓣 .C #joins) Joins → Triple 𝓤 (𝓣 .C #down) (Down 𝓤 H A mem run) → Triple 𝓤 (𝓣 .C #mark) (Mark 𝓤 H A mem run) → Room R (length ys) → (length ys ≡ 256) × (count ≤ 256) × (every wellPlacedRegion (take count ys) ≡ true)
+    walk : (𝓣 : Tables 𝓤 H) → Triple 𝓤 (𝓣 .C #joins) Joins → Triple 𝓤 (𝓣 .C #down) (Down 𝓤 H A mem run) → Triple 𝓤 (𝓣 .C #mark) (Mark 𝓤 H A mem run) → Room R (length ys) → (length ys ≡ 256) × (count ≤ 256) × (every wellPlacedVm (take count ys) ≡ true)
         → ent 𝓤 (onEntry 𝓤 H A self.signature (κ, tt) (q, tt) args at) (WpFn 𝓤 H (𝓣 .C) (𝓣 .Λ) code.function (sliceVal (b, o) (length ys) ∷ vint w64 count ∷ []) Post)
     walk 𝓣 known-joins known-down known-mark room pre =
         qed W ((‵ (flft κ q) ⊛ ‵ ftrue) ∷ ‵ (owns (MutSlice (named 0) κ R ∷ usize ∷ []) args at) ∷ []) ∵ enter ! (𝓣 .C) (𝓣 .Λ) code.function (sliceVal (b, o) (length ys) ∷ vint w64 count ∷ []) _ $
@@ -356,7 +356,7 @@ module _ {M : Type 1} (𝓤 : URA M) (H : Heap 𝓤) (A : Atoms 𝓤) (W : Given
   walks : (𝓣 : Tables 𝓤 H) → Triple 𝓤 (𝓣 .C #joins) Joins → Triple 𝓤 (𝓣 .C #down) (Down 𝓤 H A mem run) → Triple 𝓤 (𝓣 .C #mark) (Mark 𝓤 H A mem run) → Walks 𝓤 H A self.ended stayed (WpFn 𝓤 H (𝓣 .C) (𝓣 .Λ) code.function) (self.clauses 𝓤 H A mem run)
   walks 𝓣 known-joins known-down known-mark = walked 𝓤 H A self.ended stayed (self.clauses 𝓤 H A mem run) (WpFn 𝓤 H (𝓣 .C) (𝓣 .Λ) code.function) (λ κs. (slice-vals, (uint-vals w64, tt)))
       (λ κs. (mut-slice-tells (named 0) (κs .0) R, (uint-tells w64, tt)))
-      (λ κs qs bounds a g are. needs 𝓤 ((length (a .0 .now) ≡ 256) × (a .1 .0 ≤ 256) × (every wellPlacedRegion (take (a .1 .0) (a .0 .now)) ≡ true)) _
+      (λ κs qs bounds a g are. needs 𝓤 ((length (a .0 .now) ≡ 256) × (a .1 .0 ≤ 256) × (every wellPlacedVm (take (a .1 .0) (a .0 .now)) ≡ true)) _
       (walk (κs .0) (qs .0) (a .0 .ptr .0) (a .0 .ptr .1) (a .0 .name) (a .0 .now) (a .1 .0) (are .1 .0 .1) 𝓣 known-joins known-down known-mark (are .0 .0 .1)))
 
   goes-all : AllGo 𝓤 H A W 1 (self.signature .params) (self.ended .kept) stayed
@@ -373,6 +373,6 @@ merge-free-regions-spec 𝓤 H 𝓜 𝓖 𝓡 =
     entered 𝓤 H (tripleOf 𝓤 H (𝓖 .A) self.signature (self.spec 𝓤 H (𝓖 .A) (𝓜 .mem) (𝓡 .run)))
     (tables 𝓤 H 𝓜 𝓡 code.env .C) (tables 𝓤 H 𝓜 𝓡 code.env .Λ) #self code.function (code.unfolded 𝓤 H 𝓜 𝓡)
     (meets 𝓤 H (𝓖 .A) W (𝓜 .mem) (𝓡 .run) (tablesOf 𝓤 H 𝓜 (tables 𝓤 H 𝓜 𝓡 code.env))
-    (cited 𝓤 H (Joins 𝓤 H (𝓖 .A) W (𝓜 .mem) (𝓡 .run)) 𝓜 𝓡 code.env #joins joins-def.routine code.calls-regions·list·joins (joins-thm.met 𝓤 H 𝓜 𝓖 𝓡))
+    (cited 𝓤 H (Joins 𝓤 H (𝓖 .A) W (𝓜 .mem) (𝓡 .run)) 𝓜 𝓡 code.env #joins joins-def.routine code.calls-regions·lent·joins (joins-thm.met 𝓤 H 𝓜 𝓖 𝓡))
     (cited 𝓤 H (Down 𝓤 H (𝓖 .A) (𝓜 .mem) (𝓡 .run)) 𝓜 𝓡 code.env #down down-def.routine code.calls-regions·lent·shift-down (down-thm.met 𝓤 H 𝓜 𝓖 𝓡))
     (cited 𝓤 H (Mark 𝓤 H (𝓖 .A) (𝓜 .mem) (𝓡 .run)) 𝓜 𝓡 code.env #mark mark-def.routine code.calls-regions·lent·mark (mark-thm.met 𝓤 H 𝓜 𝓖 𝓡)))

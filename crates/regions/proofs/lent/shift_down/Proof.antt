@@ -44,7 +44,7 @@ use denote.Triple.Table.{entered}
 use denote.Triple.Walked.{says, needs, Stays, stay-slice, stay-none, walkOf, AllGo, goes-none, goes-slice, Walks, ends-at, walked, walk-meets}
 use denote.Exit.{yes}
 use Rattle.regions.specs.declared.VMRegion.{VMRegion}
-use Rattle.regions.specs.Regions.{noSlot}
+use Rattle.regions.specs.Regions.{noVmRegion}
 use Rattle.slots.specs.Shifts.{shiftedDown}
 use Rattle.slots.proofs.Slices.{downTo, down-start, down-on, down-end}
 use Rattle.regions.proofs.Slot.{R, word, slice, blank-good, typed, scaled, ref, opens, closes, rec-out, rec-back, rec-put}
@@ -71,7 +71,7 @@ module _ {M : Type 1} (𝓤 : URA M) (H : Heap 𝓤) (A : Atoms 𝓤) (W : Given
   abbrev Post : Val → SProp 𝓤
   Post = walkOf 𝓤 H A self.ended stayed (self.clauses 𝓤 H A mem run) .post (((κ, tt), (q, tt), tt, x, at), tt)
 
-  exits : (zs : List VMRegion) → length zs ≡ length ys → zs ≡ shiftedDown noSlot ys i end → Room R (length ys) → ent 𝓤 (⋆ 𝓤 H A (‵ (fobs γ (codedHoleys R .code (heres R zs))) ∷ ‵ (fbor κ (Held R (length zs) b o γ)) ∷ ‵ (flft κ q) ∷ [])) (Post vunit)
+  exits : (zs : List VMRegion) → length zs ≡ length ys → zs ≡ shiftedDown noVmRegion ys i end → Room R (length ys) → ent 𝓤 (⋆ 𝓤 H A (‵ (fobs γ (codedHoleys R .code (heres R zs))) ∷ ‵ (fbor κ (Held R (length zs) b o γ)) ∷ ‵ (flft κ q) ∷ [])) (Post vunit)
   exits zs e is room =
       qed W (‵ (fobs γ (codedHoleys R .code (heres R zs))) ∷ ‵ (fbor κ (Held R (length zs) b o γ)) ∷ ‵ (flft κ q) ∷ []) ∵
       suffices ! _ (ends-at 𝓤 H A self.ended stayed (self.clauses 𝓤 H A mem run) W (((κ, tt), (q, tt), tt, x, at), tt) vunit tt (zs, (tt, (tt, tt))) (e, (tt, (tt, tt)))) $ says ! is $
@@ -84,7 +84,7 @@ module _ {M : Type 1} (𝓤 : URA M) (H : Heap 𝓤) (A : Atoms 𝓤) (W : Given
 
   -- the loop's state, and its measure
   abbrev Facts : ℕ → List VMRegion → Type 0
-  Facts j zs = (i ≤ j) × ((j ≤ last) × ((length zs ≡ length ys) × (zs ≡ downTo noSlot ys i j)))
+  Facts j zs = (i ≤ j) × ((j ≤ last) × ((length zs ≡ length ys) × (zs ≡ downTo noVmRegion ys i j)))
 
   abbrev State : Type 0
   State = (j : ℕ) × ((zs : List VMRegion) × Facts j zs)
@@ -138,10 +138,10 @@ module _ {M : Type 1} (𝓤 : URA M) (H : Heap 𝓤) (A : Atoms 𝓤) (W : Given
         assigns ! (of-opd ! (load ! (from ! (stop !)) (look ! 16 refl))) (from ! (hop ! (look ! 12 refl) (stop !))) (store-raw ! 0 refl (typed W moved g)) $ rec-put ! zs j b o moved j-here g $
         assigns-last ! (bin ! (load ! (from ! (stop !)) (look ! 24 refl)) (lit ! tt) (record { fits = next-fits })) (from ! (stop !)) (store ! 24 refl (tt, record { fits = next-fits })) $
         forget ! 10 refl $ forget ! 12 refl $ forget ! 14 refl $ forget ! 16 refl $ forget ! 18 refl $ forget ! 20 refl $ forget ! 22 refl $
-        again ! Nearer At (j, (zs, f)) (j + 1, (set zs j moved, (omega (arith, f .0), (omega (arith, less), (length-set zs j moved ∙ f .1 .1 .0, down-on noSlot ys i j (f .0) j-in next-in (f .1 .1 .1)))))) (omega (arith, less))))
+        again ! Nearer At (j, (zs, f)) (j + 1, (set zs j moved, (omega (arith, f .0), (omega (arith, less), (length-set zs j moved ∙ f .1 .1 .0, down-on noVmRegion ys i j (f .0) j-in next-in (f .1 .1 .1)))))) (omega (arith, less))))
       where
         moved : VMRegion
-        moved = getD zs (j + 1) noSlot
+        moved = getD zs (j + 1) noVmRegion
 
         less : j < last
         less = ltb-true j last t
@@ -168,18 +168,18 @@ module _ {M : Type 1} (𝓤 : URA M) (H : Heap 𝓤) (A : Atoms 𝓤) (W : Given
         assigns ! (bin ! (load ! (from ! (stop !)) (look ! 24 refl)) (load ! (from ! (stop !)) (look ! 26 refl)) tt) (from ! (stop !)) (init ! 22 refl (tt, tt)) $
         rewrite ! 22 (λ (y : Bool). ‵ (fat fullShare tyBool l₆ 0 (vbool y))) t refl $
         leaves-loop ! (load ! (from ! (stop !)) (look ! 22 refl)) $ exec ! C Λ En piece.t-4 (atRet En Post) $
-        assigns ! (agg ! (and-then ! (lit ! tt) (and-then ! (lit ! tt) (and-then ! (false-lit !) (no-more !))))) (from ! (stop !)) (init ! 8 refl (typed W noSlot blank-good)) $
+        assigns ! (agg ! (and-then ! (lit ! tt) (and-then ! (lit ! tt) (and-then ! (false-lit !) (no-more !))))) (from ! (stop !)) (init ! 8 refl (typed W noVmRegion blank-good)) $
         assigns ! (bin ! (load ! (from ! (stop !)) (look ! 26 refl)) (lit ! tt) (record { fits = scaled last-in (room .1) })) (from ! (stop !)) (init ! 6 refl (tt, record { fits = scaled last-in (room .1) })) $
         assigns ! (bin ! (load ! (from ! (fld ! refl (stop !))) (look-in ! 32 (sub ! 0 refl (whole !)))) (load ! (from ! (stop !)) (look ! 6 refl)) tt) (from ! (stop !)) (init ! 4 refl (tt, tt)) $
         rewrite ! 4 (λ (p : ℕ). ‵ (fat fullShare tyPtr l₁₅ 0 (vptr b p))) (sym (place-is 24 o last)) refl $ rec-out ! zs last b o last-here (λ _.
-        assigns ! (of-opd ! (load ! (from ! (stop !)) (look ! 10 refl))) (from ! (hop ! (look ! 6 refl) (stop !))) (store-raw ! 0 refl (typed W noSlot blank-good)) $ rec-put ! zs last b o noSlot last-here blank-good $
+        assigns ! (of-opd ! (load ! (from ! (stop !)) (look ! 10 refl))) (from ! (hop ! (look ! 6 refl) (stop !))) (store-raw ! 0 refl (typed W noVmRegion blank-good)) $ rec-put ! zs last b o noVmRegion last-here blank-good $
         assigns ! (of-opd ! (unit-lit !)) (from ! (stop !)) (init ! 34 refl (tt, tt)) $
-        closes-slice ! tt R ys (set zs last noSlot) as-long b o $
+        closes-slice ! tt R ys (set zs last noVmRegion) as-long b o $
         -- [obs; the borrow; the token; _15 at 3; …; _0 at 33; …]
         returns ! (look ! 33 refl) $ forget ! 3 refl $ forget ! 5 refl $ forget ! 7 refl $ forget ! 21 refl $ forget ! 23 refl $ forget ! 25 refl $ forget ! 27 refl $ forget ! 29 refl $ forget ! 31 refl $ forget ! 33 refl $
         move ! (33 ∷ 34 ∷ []) $ free1 ! $ move ! (31 ∷ 32 ∷ []) $ free1 ! $ move ! (29 ∷ 30 ∷ []) $ free1 ! $ move ! (27 ∷ 28 ∷ []) $ free1 ! $ move ! (25 ∷ 26 ∷ []) $ free1 ! $ move ! (23 ∷ 24 ∷ []) $ free1 ! $ move ! (21 ∷ 22 ∷ []) $ free1 ! $ move ! (19 ∷ 20 ∷ []) $ free1 ! $
         move ! (17 ∷ 18 ∷ []) $ free1 ! $ move ! (15 ∷ 16 ∷ []) $ free1 ! $ move ! (13 ∷ 14 ∷ []) $ free1 ! $ move ! (11 ∷ 12 ∷ []) $ free1 ! $ move ! (9 ∷ 10 ∷ []) $ free1 ! $ move ! (7 ∷ 8 ∷ []) $ free1 ! $ move ! (5 ∷ 6 ∷ []) $ free1 ! $ move ! (3 ∷ 4 ∷ []) $ free1 ! $ free0 ! $
-        keep ! (0 ∷ 1 ∷ 2 ∷ []) $ by ! (exits (set zs last noSlot) as-long (down-end noSlot ys i j (f .0) j-in noSlot end done-at (f .1 .1 .1)) room))
+        keep ! (0 ∷ 1 ∷ 2 ∷ []) $ by ! (exits (set zs last noVmRegion) as-long (down-end noVmRegion ys i j (f .0) j-in noVmRegion end done-at (f .1 .1 .1)) room))
       where
         done-at : end ≡ j + 1
         done-at = omega (arith, some, f .1 .0, ltb-false j last t)
@@ -193,8 +193,8 @@ module _ {M : Type 1} (𝓤 : URA M) (H : Heap 𝓤) (A : Atoms 𝓤) (W : Given
         last-here : last < length zs
         last-here = omega (arith, last-in, f .1 .1 .0)
 
-        as-long : length (set zs last noSlot) ≡ length ys
-        as-long = length-set zs last noSlot ∙ f .1 .1 .0
+        as-long : length (set zs last noVmRegion) ≡ length ys
+        as-long = length-set zs last noVmRegion ∙ f .1 .1 .0
 
     by-test : (s : State) (y : Bool) → ltb (s .0) last ≡ y → Seq (Go {0}) W (At s) (runs C Λ En piece.turn-1 (anyQ (Turned s)))
     by-test s true t = more s t
@@ -210,7 +210,7 @@ module _ {M : Type 1} (𝓤 : URA M) (H : Heap 𝓤) (A : Atoms 𝓤) (W : Given
       assigns ! (of-opd ! (load ! (from ! (stop !)) (look ! 26 refl))) (from ! (stop !)) (init ! 20 refl (tt, record { fits = gi })) $
       -- [_15; …; _0 at 30; …; the token; what the parameters own]
       move ! (33 ∷ 32 ∷ []) $ opens ! tt ys b o $
-      first ! $ blocks ! $ loops ! 𝓣 Nearer Nearer-wf (At 𝓣 room (pre .0) (pre .1) l₀ l₁ l₂ l₃ l₄ l₅ l₆ l₇ l₈ l₉ l₁₀ l₁₁ l₁₂ l₁₃ l₁₄ l₁₅) (λ s. by-test 𝓣 room (pre .0) (pre .1) l₀ l₁ l₂ l₃ l₄ l₅ l₆ l₇ l₈ l₉ l₁₀ l₁₁ l₁₂ l₁₃ l₁₄ l₁₅ s (ltb (s .0) last) refl) (i, (ys, (le-refl i, (below, (refl, down-start noSlot ys i)))))))))))))))))))))
+      first ! $ blocks ! $ loops ! 𝓣 Nearer Nearer-wf (At 𝓣 room (pre .0) (pre .1) l₀ l₁ l₂ l₃ l₄ l₅ l₆ l₇ l₈ l₉ l₁₀ l₁₁ l₁₂ l₁₃ l₁₄ l₁₅) (λ s. by-test 𝓣 room (pre .0) (pre .1) l₀ l₁ l₂ l₃ l₄ l₅ l₆ l₇ l₈ l₉ l₁₀ l₁₁ l₁₂ l₁₃ l₁₄ l₁₅ s (ltb (s .0) last) refl) (i, (ys, (le-refl i, (below, (refl, down-start noVmRegion ys i)))))))))))))))))))))
     where
       above : 0 < end
       above = omega (arith, pre .0)

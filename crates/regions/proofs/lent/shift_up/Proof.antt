@@ -45,7 +45,7 @@ use denote.Triple.Table.{entered}
 use denote.Triple.Walked.{says, needs, Stays, stay-slice, stay-none, walkOf, AllGo, goes-none, goes-slice, Walks, ends-at, walked, walk-meets}
 use denote.Exit.{yes}
 use Rattle.regions.specs.declared.VMRegion.{VMRegion}
-use Rattle.regions.specs.Regions.{noSlot}
+use Rattle.regions.specs.Regions.{noVmRegion}
 use Rattle.slots.specs.Shifts.{shiftedUp}
 use Rattle.slots.proofs.Slices.{up-start, up-on}
 use Rattle.regions.proofs.Slot.{R, word, slice, mach, Good, typed, scaled, ref, opens, closes, rec-out, rec-back, rec-put}
@@ -138,10 +138,10 @@ module _ {M : Type 1} (𝓤 : URA M) (H : Heap 𝓤) (A : Atoms 𝓤) (W : Given
         assigns ! (of-opd ! (load ! (from ! (stop !)) (look ! 14 refl))) (from ! (hop ! (look ! 10 refl) (stop !))) (store-raw ! 0 refl (typed W moved g)) $ rec-put ! zs j b o moved j-here g $
         assigns-last ! (bin ! (load ! (from ! (stop !)) (look ! 22 refl)) (lit ! tt) above) (from ! (stop !)) (store ! 22 refl (tt, record { fits = prev-fits })) $
         forget ! 8 refl $ forget ! 10 refl $ forget ! 12 refl $ forget ! 14 refl $ forget ! 16 refl $ forget ! 18 refl $ forget ! 20 refl $
-        again ! Nearer At (j, (zs, f)) (j - 1, (set zs j moved, (omega (arith, less), (omega (arith, f .1 .0), (length-set zs j moved ∙ f .1 .1 .0, up-on noSlot ys j end above (f .1 .0) within (f .1 .1 .1)))))) (omega (arith, less))))
+        again ! Nearer At (j, (zs, f)) (j - 1, (set zs j moved, (omega (arith, less), (omega (arith, f .1 .0), (length-set zs j moved ∙ f .1 .1 .0, up-on noVmRegion ys j end above (f .1 .0) within (f .1 .1 .1)))))) (omega (arith, less))))
       where
         moved : VMRegion
-        moved = getD zs (j - 1) noSlot
+        moved = getD zs (j - 1) noVmRegion
 
         less : i < j
         less = ltb-true i j t
@@ -208,7 +208,7 @@ module _ {M : Type 1} (𝓤 : URA M) (H : Heap 𝓤) (A : Atoms 𝓤) (W : Given
       assigns ! (of-opd ! (load ! (from ! (stop !)) (look ! 22 refl))) (from ! (stop !)) (init ! 18 refl (tt, record { fits = ge })) $
       -- [_14; …; _0 at 28; …; the token; what the parameters own]
       move ! (31 ∷ 30 ∷ []) $ opens ! tt ys b o $
-      first ! $ blocks ! $ loops ! 𝓣 Nearer Nearer-wf (At 𝓣 room (pre .1) l₀ l₁ l₂ l₃ l₄ l₅ l₆ l₇ l₈ l₉ l₁₀ l₁₁ l₁₂ l₁₃ l₁₄) (λ s. by-test 𝓣 room (pre .1) l₀ l₁ l₂ l₃ l₄ l₅ l₆ l₇ l₈ l₉ l₁₀ l₁₁ l₁₂ l₁₃ l₁₄ s (ltb i (s .0)) refl) (end, (ys, (pre .0, (le-refl end, (refl, up-start noSlot ys end))))))))))))))))))))
+      first ! $ blocks ! $ loops ! 𝓣 Nearer Nearer-wf (At 𝓣 room (pre .1) l₀ l₁ l₂ l₃ l₄ l₅ l₆ l₇ l₈ l₉ l₁₀ l₁₁ l₁₂ l₁₃ l₁₄) (λ s. by-test 𝓣 room (pre .1) l₀ l₁ l₂ l₃ l₄ l₅ l₆ l₇ l₈ l₉ l₁₀ l₁₁ l₁₂ l₁₃ l₁₄ s (ltb i (s .0)) refl) (end, (ys, (pre .0, (le-refl end, (refl, up-start noVmRegion ys end))))))))))))))))))))
 
 module _ {M : Type 1} (𝓤 : URA M) (H : Heap 𝓤) (A : Atoms 𝓤) (W : Given 𝓤 H A) (mem : Memory → SProp 𝓤) (run : Routine → Fun 𝓤) where
   walks : (𝓣 : Tables 𝓤 H) → Walks 𝓤 H A self.ended stayed (WpFn 𝓤 H (𝓣 .C) (𝓣 .Λ) code.function) (self.clauses 𝓤 H A mem run)

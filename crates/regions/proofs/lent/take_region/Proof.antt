@@ -47,7 +47,7 @@ use Rattle.bits.specs.Bit.{both}
 use Rattle.bits.proofs.Choice.{both-true}
 use Rattle.slots.specs.Slots.{slotted, every, firstAt}
 use Rattle.regions.specs.declared.VMRegion.{VMRegion}
-use Rattle.regions.specs.Regions.{region, noSlot, wellPlacedRegion, fits, takenSlots}
+use Rattle.regions.specs.Regions.{vmRegion, noVmRegion, wellPlacedVm, fits, takenSlots}
 use Rattle.slots.specs.Shifts.{shiftedUp}
 use Rattle.regions.proofs.Placed.{placed-at}
 use Rattle.regions.proofs.Stored.{whole-steps, split-steps}
@@ -55,10 +55,10 @@ use Rattle.regions.proofs.Slot.{R, word, slice, mach, Good, typed, scal
 use Rattle.regions.proofs.Lends.{pointerTy, lentTy, Taking, lends, answers, Mark, marking}
 use Rattle.regions.proofs.VMRegion as T
 use Rattle.regions.proofs.VMRegion.Laws as T′
-use Rattle.regions.proofs.list.keeps_tail as keeps
-use Rattle.regions.proofs.list.keeps_tail.Symbol as keeps-def
-use Rattle.regions.proofs.list.keeps_tail.Symbol.{name as #keeps}
-use Rattle.regions.proofs.list.keeps_tail.Met as keeps-thm
+use Rattle.regions.proofs.lent.keeps_tail as keeps
+use Rattle.regions.proofs.lent.keeps_tail.Symbol as keeps-def
+use Rattle.regions.proofs.lent.keeps_tail.Symbol.{name as #keeps}
+use Rattle.regions.proofs.lent.keeps_tail.Met as keeps-thm
 use Rattle.regions.proofs.lent.tail as tail
 use Rattle.regions.proofs.lent.tail.Symbol as tail-def
 use Rattle.regions.proofs.lent.tail.Symbol.{name as #tail}
@@ -83,7 +83,7 @@ abbrev stayed : Stays (self.ended .signature .params) (self.ended .kept)
 stayed = (stay-slice (0 ∷ []) tt (plain (λ _. R)), (stay-none (λ _. usize) yes, (stay-none (λ _. usize) yes, (stay-none (λ _. u64) yes, (stay-none (λ _. bool) yes, tt)))))
 
 abbrev Pre : List VMRegion → ℕ → ℕ → ℕ → Type 0
-Pre ys count i size = (length ys ≡ 256) × (count ≤ 256) × (every wellPlacedRegion (take count ys) ≡ true) × (i ≡ firstAt (fits size) (take count ys)) × (i < count)
+Pre ys count i size = (length ys ≡ 256) × (count ≤ 256) × (every wellPlacedVm (take count ys) ≡ true) × (i ≡ firstAt (fits size) (take count ys)) × (i < count)
 
 -- how the test of `!y` came out
 off : (y : Bool) → Holds (not y) → y ≡ false
@@ -137,7 +137,7 @@ module _ {M : Type 1} (𝓤 : URA M) (H : Heap 𝓤) (A : Atoms 𝓤) (W : Given
 
   -- region i, and whether its tail is kept
   abbrev there : VMRegion
-  there = getD ys i noSlot
+  there = getD ys i noVmRegion
 
   abbrev keep : Bool
   keep = both (ltb count 256) (ltb size (there .size))
@@ -230,7 +230,7 @@ module _ {M : Type 1} (𝓤 : URA M) (H : Heap 𝓤) (A : Atoms 𝓤) (W : Given
         assigns ! (agg ! (and-then ! (load ! (from ! (stop !)) (look ! 10 refl)) (and-then ! (load ! (from ! (fld ! refl (stop !))) (look-in ! 40 (sub ! 1 refl (whole !)))) (no-more !)))) (from ! (stop !)) (init ! 8 refl (tt, (tt, (record { fits = room .0 }, tt)))) $
         assigns ! (bin ! (load ! (from ! (stop !)) (look ! 36 refl)) (lit ! tt) (record { fits = next-fits pre })) (from ! (stop !)) (store ! 28 refl (tt, record { fits = next-fits pre })) $
         use0 W (raw (Tail 𝓤 H A mem run .pre to-tail)) (goes-tail g (tail-fits pre (on keep kept))) $ calls-at ! fm (Tail 𝓤 H A mem run) known-tail to-tail (and-then ! (load ! (from ! (stop !)) (look ! 31 refl)) (and-then ! (load ! (from ! (stop !)) (look ! 35 refl)) (no-more !))) (λ w′.
-        answers ! tt R (lasts tail.ended tt (there, (size, tt))) (λ t. t ≡ region (there .start + size) (there .size - size) false) w′ (λ t is′ made. land ! (from ! (stop !)) (store ! 24 refl (LL.lawful T.the-type T′.the-laws 𝓤 H A W .typed t _ is′ .0)) $
+        answers ! tt R (lasts tail.ended tt (there, (size, tt))) (λ t. t ≡ vmRegion (there .start + size) (there .size - size) false) w′ (λ t is′ made. land ! (from ! (stop !)) (store ! 24 refl (LL.lawful T.the-type T′.the-laws 𝓤 H A W .typed t _ is′ .0)) $
         rewrite ! 24 (λ (v : Val). ‵ (fat fullShare T′.mir l₉ 0 v)) (ap only (tells t w′ is′)) refl $
         -- the slice is lent to `shift_up`
         lends ! fm ys refl room (shifting 𝓤 H A mem run W b o ys (i + 1) count t (next-fits pre) gc (subst (Is R t) (tells t w′ is′) is′) (spare pre (on keep kept))) known-up
@@ -270,7 +270,7 @@ take-region-spec 𝓤 H 𝓜 𝓖 𝓡 =
     entered 𝓤 H (tripleOf 𝓤 H (𝓖 .A) self.signature (self.spec 𝓤 H (𝓖 .A) (𝓜 .mem) (𝓡 .run)))
     (tables 𝓤 H 𝓜 𝓡 code.env .C) (tables 𝓤 H 𝓜 𝓡 code.env .Λ) #self code.function (code.unfolded 𝓤 H 𝓜 𝓡)
     (meets 𝓤 H (𝓖 .A) (givenOf 𝓤 H 𝓜 𝓖) (𝓜 .mem) (𝓡 .run) (tablesOf 𝓤 H 𝓜 (tables 𝓤 H 𝓜 𝓡 code.env))
-    (cited 𝓤 H (Keeps 𝓤 H (𝓖 .A) (𝓜 .mem) (𝓡 .run)) 𝓜 𝓡 code.env #keeps keeps-def.routine code.calls-regions·list·keeps-tail (keeps-thm.met 𝓤 H 𝓜 𝓖 𝓡))
+    (cited 𝓤 H (Keeps 𝓤 H (𝓖 .A) (𝓜 .mem) (𝓡 .run)) 𝓜 𝓡 code.env #keeps keeps-def.routine code.calls-regions·lent·keeps-tail (keeps-thm.met 𝓤 H 𝓜 𝓖 𝓡))
     (cited 𝓤 H (Tail 𝓤 H (𝓖 .A) (𝓜 .mem) (𝓡 .run)) 𝓜 𝓡 code.env #tail tail-def.routine code.calls-regions·lent·tail (tail-thm.met 𝓤 H 𝓜 𝓖 𝓡))
     (cited 𝓤 H (Up 𝓤 H (𝓖 .A) (𝓜 .mem) (𝓡 .run)) 𝓜 𝓡 code.env #up up-def.routine code.calls-regions·lent·shift-up (up-thm.met 𝓤 H 𝓜 𝓖 𝓡))
     (cited 𝓤 H (Mark 𝓤 H (𝓖 .A) (𝓜 .mem) (𝓡 .run)) 𝓜 𝓡 code.env #mark mark-def.routine code.calls-regions·lent·mark (mark-thm.met 𝓤 H 𝓜 𝓖 𝓡)))

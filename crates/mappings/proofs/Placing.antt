@@ -1,0 +1,45 @@
+-- A region r in its place k: over the one with its start, or put in there.
+use Prim.Native.Nat.{ℕ, _<_, _≤_}
+use mathlib.Core.Path.{_≡_, sym, _∙_, ap}
+use mathlib.Core.Bool.{true, false, true≢false}
+use mathlib.Core.List.{List}
+use mathlib.Core.Logic.{_⊎_, ⊎-elim}
+use native.Mathlib.Omega.{arith}
+use lib.ListN.{length, set}
+use lib.Seq.{set-split}
+use Rattle.slots.specs.Slots.{Slots, slotted, listed, store}
+use Rattle.slots.specs.Shifts.{putIn}
+use Rattle.slots.specs.Sorted.{placeOf}
+use Rattle.slots.proofs.Sorted.{place-le, place-under, insert-new, insert-there}
+use Rattle.slots.proofs.Stored.{stored-over}
+use Rattle.mappings.specs.declared.MappedRegion.{MappedRegion}
+use Rattle.mappings.specs.Regions.{noMappedRegion, startKey, starts, insert}
+use Rattle.mappings.specs.Packed.{mmapIn, soundList}
+use Rattle.mappings.proofs.Stores.{slots-long}
+use Rattle.mappings.proofs.Sound.{sound-few, sound-rising, listed-long}
+
+module _ (bs : List ℕ) (sound : soundList bs ≡ true) (a k : ℕ) (e : k ≡ placeOf startKey a (listed (mmapIn bs))) where
+  pub place-within : k ≤ mmapIn bs .count
+  place-within = omega (arith, place-le startKey a (listed (mmapIn bs)), listed-long bs sound)
+
+  pub place-below : starts a (listed (mmapIn bs)) ≡ true → k < mmapIn bs .count
+  place-below h = omega (arith, place-under startKey a (listed (mmapIn bs)) h, listed-long bs sound)
+
+  -- where none starts at a there is room for one more
+  pub place-room : starts a (listed (mmapIn bs)) ≡ false → (length (listed (mmapIn bs)) < 256) ⊎ (starts a (listed (mmapIn bs)) ≡ true) → mmapIn bs .count < 256
+  place-room h = ⊎-elim (λ x. omega (arith, listed-long bs sound)) (λ x. absurd (true≢false (sym x ∙ h)))
+
+module _ (bs : List ℕ) (sound : soundList bs ≡ true) (r : MappedRegion) (k : ℕ) (e : k ≡ placeOf startKey (r .start) (listed (mmapIn bs))) where
+  abbrev l : List MappedRegion
+  l = listed (mmapIn bs)
+
+  pub placed-over : starts (r .start) l ≡ true → {t : Slots MappedRegion} → t ≡ slotted (set (mmapIn bs .slots) k r) (mmapIn bs .count) → t ≡ store noMappedRegion (insert r l) (mmapIn bs)
+  placed-over h z =
+      let below = place-below bs sound (r .start) k e h in
+      let few = sound-few bs sound in
+      z ∙ stored-over noMappedRegion (mmapIn bs .slots) (mmapIn bs .count) k below (omega (arith, slots-long bs)) r
+      ∙ ap (λ (x : List MappedRegion). store noMappedRegion x (mmapIn bs))
+      (sym (insert-there startKey r 0 l (sound-rising bs sound .0) h ∙ ap (λ (i : ℕ). set l i r) (sym e) ∙ set-split l k r (omega (arith, listed-long bs sound))))
+
+  pub placed-new : starts (r .start) l ≡ false → {t : Slots MappedRegion} → t ≡ store noMappedRegion (putIn k r l) (mmapIn bs) → t ≡ store noMappedRegion (insert r l) (mmapIn bs)
+  placed-new h z = z ∙ ap (λ (x : List MappedRegion). store noMappedRegion x (mmapIn bs)) (ap (λ (i : ℕ). putIn i r l) e ∙ sym (insert-new startKey r l h))

@@ -1,0 +1,103 @@
+-- `in_the_way`: what is in the way among the regions left is what is in the way among all.
+use Prim.Native.Nat.{ℕ, _+_, _-_, _<_, _≤_}
+use mathlib.Core.Path.{_≡_, refl, sym, _∙_}
+use mathlib.Core.Bool.{true}
+use mathlib.Core.List.{List, _∷_}
+use native.Mathlib.Omega.{arith}
+use borrow.Author.Needs.{needs}
+use Rattle.slots.specs.Slots.{listed}
+use Rattle.regions.proofs.Placed.{Placed}
+use Rattle.mappings.specs.Regions.{inTheWay}
+use Rattle.mappings.specs.Packed.{mmapIn, mmapFit}
+use Rattle.mappings.proofs.Scan.{left, more, no-more, placed-slot, way-end, way-here, way-on}
+use Rattle.mappings.proofs.Sound.{sound-fit, sound-few}
+use Rattle.mappings.proofs.list.in_the_way.Statement.{statement}
+use Rattle.mappings.proofs.list.in_the_way.Tie as tie
+
+abbrev Inv-loop : tie.InvT-loop
+Inv-loop list a n count i₀ i = (i ≤ count) × (inTheWay a n (left list i) ≡ inTheWay a n (listed (mmapIn list)))
+
+abbrev μ-loop : tie.MeasureT-loop
+μ-loop list a n count i₀ i = count - i
+
+-- the list is sound
+module _ (s : tie.Start Inv-loop μ-loop) where
+  abbrev bytes : List ℕ
+  bytes = s .args .list .now
+
+  fit : mmapFit bytes ≡ true
+  fit = sound-fit bytes (s .pre .0)
+
+  few : mmapIn bytes .count ≤ 256
+  few = sound-few bytes (s .pre .0)
+
+count-requires : tie.Need-count-requires Inv-loop μ-loop
+count-requires c κs = fit (c .before)
+
+loop-holds : tie.Need-loop-holds Inv-loop μ-loop
+loop-holds c = (search needs, refl)
+
+-- the slot is one of the regions
+below : (c : tie.In-loop Inv-loop μ-loop) → c .before .loop .i < mmapIn (c .before .before .before .before .args .list .now) .count
+below c = omega (arith, c .loop-test .taken, c .before .before .count .ensures)
+
+slot-requires : tie.Need-slot-requires Inv-loop μ-loop
+slot-requires c κs =
+    let s = c .before .before .before .before in
+    (fit s, omega (arith, below c, few s))
+
+-- one more region is left, and it is well placed
+module _ (c : tie.After-slot Inv-loop μ-loop) where
+  abbrev s : tie.Start Inv-loop μ-loop
+  s = c .before .before .before .before .before
+
+  one : left (s .args .list .now) (c .before .before .loop .i) ≡ c .slot .result ∷ left (s .args .list .now) (c .before .before .loop .i + 1)
+  one = more (s .args .list .now) (few s) _ (below (c .before)) (c .slot .ensures)
+
+  placed : Placed (c .slot .result .start) (c .slot .result .size)
+  placed = placed-slot (s .args .list .now) (s .pre .0) _ (below (c .before)) (c .slot .ensures)
+
+is-over-requires : tie.Need-is-over-requires Inv-loop μ-loop
+is-over-requires c κs = (placed c .end, c .before .before .before .before .before .pre .1)
+
+add-t9 : tie.Need-add-t9 Inv-loop μ-loop
+add-t9 c = let p = placed (c .before .before .before) in omega (arith, p .end)
+
+returns : tie.Need-returns Inv-loop μ-loop
+returns c =
+    let o = c .before .before in
+    sym (way-here _ _ (one (o .before)) (sym (o .is-over .ensures) ∙ c .before .if1 .taken)) ∙ o .before .before .before .loop .inv .1
+
+add-i : tie.Need-add-i Inv-loop μ-loop
+add-i c = search needs
+
+loop-less : tie.Need-loop-less Inv-loop μ-loop
+loop-less c = search needs
+
+loop-again : tie.Need-loop-again Inv-loop μ-loop
+loop-again c =
+    let o = c .before in
+    (search needs, sym (way-on _ _ (one (o .before)) (sym (o .is-over .ensures) ∙ c .if1 .left)) ∙ o .before .before .before .loop .inv .1)
+
+returns-2 : tie.Need-returns-2 Inv-loop μ-loop
+returns-2 c =
+    let l = c .before in
+    let s = l .before .before .before in
+    sym (way-end _ _ (no-more (s .args .list .now) (few s) (l .loop .i) (omega (arith, c .loop-test .left, l .before .count .ensures)))) ∙ l .loop .inv .1
+
+pub in-the-way-spec : {M : Type 1} → statement M
+in-the-way-spec =
+    tie.close
+    (tie.spec
+    Inv-loop
+    μ-loop
+    count-requires
+    loop-holds
+    slot-requires
+    is-over-requires
+    add-t9
+    returns
+    add-i
+    loop-less
+    loop-again
+    returns-2)

@@ -1,0 +1,3 @@
+pub mod RoundTrip
+mod Places
+mod Live
