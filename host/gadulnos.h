@@ -1,26 +1,28 @@
 /* Gadulnos: the rinux memory manager as C functions. Link libdesk.a, which `host/library.sh` makes
  * (x86-64, System V calling convention). docs/LAYOUT.md explains the layout at length.
  *
- * What is asked of the arguments: each pointer lends as many elements as its length says, no two lent parts
- * overlap, a pointer to words or numbers (uint64_t, size_t) is aligned to 8 bytes as C asks (a pointer to
- * bytes may be odd), and a bool holds 0 or 1, as every C compiler makes it. A length may be 0; the pointer is
- * then not read, and may be null. Nothing else is asked. A function touches what it is lent and nothing else,
- * keeps no state and always ends. A call that cannot be met answers with a number of docs/NUMBERS.md and
- * changes nothing but the leftovers listed there.
+ * What is asked of the arguments: each pointer lends as many elements as its length says, one without a
+ * length (bits, table, out, root) as many as is said of it here; no two lent parts overlap, a pointer to
+ * words or numbers (uint64_t, size_t) is aligned to 8 bytes as C asks (a pointer to bytes may be odd), and a
+ * bool holds 0 or 1, as every C compiler makes it. A length may be 0; the pointer is then not read, and may
+ * be null. Nothing else is asked. A function touches what it is lent and nothing else, keeps no state and
+ * always ends. A call that cannot be met answers with a number of docs/NUMBERS.md and changes nothing but
+ * the leftovers listed there.
  *
  * The parts of a board's state. All numbers are little-endian, 64 bits unless said otherwise.
  *
  *   words    the lent frames: frame number n is the 512 words from (n - start_frame) * 512 on. The length
  *            counts words. Words past the frames are not touched.
  *   fields   24 bytes: start_frame, total, allocated
- *   bits     1024 bytes, 128 words: frame start_frame + i is marked if bit i % 64 of word i / 64 is 1
+ *   bits     1024 bytes, 128 words: frame start_frame + i is marked if bit i % 64 of word i / 64 is 1.
+ *            Lent without a length.
  *   root     the root's frame number
  *   kernel   6152 bytes, the vmalloc list: count, then 256 slots of start, size, used (0 or 1)
  *   user     6160 bytes, the mmap list: count, next_addr, then 256 slots of start, size,
  *            prot (signed, 32 bits), flags (signed, 32 bits)
  *   marked   2056 bytes, the copy-on-write pages: count, then 256 page addresses
  *
- * A part of any other length, a `used` other than 0 and 1, or a record that document 01 calls broken is
+ * A length other than its part's, a `used` other than 0 and 1, or a record that document 01 calls broken is
  * answered with 10, before every other check, and nothing is changed.
  */
 #ifndef GADULNOS_H
@@ -106,24 +108,24 @@ struct gadulnos_line gadulnos_mprotect(uint64_t addr, uint64_t size, int32_t pro
 /* ---- The frame record and its bitmap */
 
 /* A record for the frames of memory `from` to `to`, all free; 10 if `from` is above `to` or `to` above 2^52. */
-struct gadulnos_line gadulnos_init(uint8_t *fields, size_t fields_len, uint8_t *bits, size_t bits_len,
+struct gadulnos_line gadulnos_init(uint8_t *fields, size_t fields_len, uint8_t bits[GADULNOS_BITS_BYTES],
                                    uint64_t from, uint64_t to);
 /* 1 if a frame is marked or not on the board, else 0. */
-struct gadulnos_line gadulnos_is_allocated(const uint8_t *fields, size_t fields_len, const uint8_t *bits,
-                                           size_t bits_len, uint64_t frame);
-struct gadulnos_line gadulnos_mark_allocated(uint8_t *fields, size_t fields_len, uint8_t *bits,
-                                             size_t bits_len, uint64_t frame);
+struct gadulnos_line gadulnos_is_allocated(const uint8_t *fields, size_t fields_len,
+                                           const uint8_t bits[GADULNOS_BITS_BYTES], uint64_t frame);
+struct gadulnos_line gadulnos_mark_allocated(uint8_t *fields, size_t fields_len,
+                                             uint8_t bits[GADULNOS_BITS_BYTES], uint64_t frame);
 /* The number of the lowest free frame, which is marked; 11 if there is none. */
-struct gadulnos_line gadulnos_allocate_frame(uint8_t *fields, size_t fields_len, uint8_t *bits,
-                                             size_t bits_len);
-struct gadulnos_line gadulnos_deallocate_frame(uint8_t *fields, size_t fields_len, uint8_t *bits,
-                                               size_t bits_len, uint64_t frame);
-struct gadulnos_line gadulnos_free_frames(const uint8_t *fields, size_t fields_len, const uint8_t *bits,
-                                          size_t bits_len);
+struct gadulnos_line gadulnos_allocate_frame(uint8_t *fields, size_t fields_len,
+                                             uint8_t bits[GADULNOS_BITS_BYTES]);
+struct gadulnos_line gadulnos_deallocate_frame(uint8_t *fields, size_t fields_len,
+                                               uint8_t bits[GADULNOS_BITS_BYTES], uint64_t frame);
+struct gadulnos_line gadulnos_free_frames(const uint8_t *fields, size_t fields_len,
+                                          const uint8_t bits[GADULNOS_BITS_BYTES]);
 struct gadulnos_line gadulnos_allocated_frames(const uint8_t *fields, size_t fields_len,
-                                               const uint8_t *bits, size_t bits_len);
-struct gadulnos_line gadulnos_total_frames(const uint8_t *fields, size_t fields_len, const uint8_t *bits,
-                                           size_t bits_len);
+                                               const uint8_t bits[GADULNOS_BITS_BYTES]);
+struct gadulnos_line gadulnos_total_frames(const uint8_t *fields, size_t fields_len,
+                                           const uint8_t bits[GADULNOS_BITS_BYTES]);
 
 /* ---- The page tables. The walks are lent start_frame and total as numbers. */
 
@@ -135,11 +137,11 @@ struct gadulnos_line gadulnos_user_may(const uint64_t *words, size_t words_len, 
                                        uint64_t total, uint64_t root, uint64_t virt, bool write);
 /* 11, 12 if mapped already, 19. */
 struct gadulnos_line gadulnos_map_page(uint64_t *words, size_t words_len, uint8_t *fields,
-                                       size_t fields_len, uint8_t *bits, size_t bits_len, uint64_t root,
+                                       size_t fields_len, uint8_t bits[GADULNOS_BITS_BYTES], uint64_t root,
                                        uint64_t virt, uint64_t phys, bool writable, bool user);
 /* 1 GiB if `gigabyte`, else 2 MiB; 4 if an address is not aligned to that, 11, 12, 19. */
 struct gadulnos_line gadulnos_map_huge_page(uint64_t *words, size_t words_len, uint8_t *fields,
-                                            size_t fields_len, uint8_t *bits, size_t bits_len,
+                                            size_t fields_len, uint8_t bits[GADULNOS_BITS_BYTES],
                                             uint64_t root, uint64_t virt, uint64_t phys, bool gigabyte,
                                             bool writable, bool user);
 /* The number of the frame that `virt` was mapped to, which is not freed; 14, 19. */
@@ -149,21 +151,21 @@ struct gadulnos_line gadulnos_unmap_page(uint64_t *words, size_t words_len, uint
 /* ---- vmalloc and mmap */
 
 /* The new region's address; 1 for size 0, 3 above 2^64 - 4096, 15 if no region is large enough, 11, 13. */
-struct gadulnos_line gadulnos_vmalloc(uint64_t *words, size_t words_len, uint8_t *fields,
-                                      size_t fields_len, uint8_t *bits, size_t bits_len, uint64_t root,
-                                      uint8_t *kernel, size_t kernel_len, uint64_t size);
+struct gadulnos_line gadulnos_vmalloc(uint64_t *words, size_t words_len, uint8_t *fields, size_t fields_len,
+                                      uint8_t bits[GADULNOS_BITS_BYTES], uint64_t root, uint8_t *kernel,
+                                      size_t kernel_len, uint64_t size);
 /* 16 for an address that is 0 or starts no used region. */
 struct gadulnos_line gadulnos_vfree(uint64_t *words, size_t words_len, uint8_t *fields, size_t fields_len,
-                                    uint8_t *bits, size_t bits_len, uint64_t root, uint8_t *kernel,
+                                    uint8_t bits[GADULNOS_BITS_BYTES], uint64_t root, uint8_t *kernel,
                                     size_t kernel_len, uint64_t addr);
 /* The new region's address; 1, 3, 2, 3, 15, 20 in this order, then 11, 13. `addr` counts if `given`. */
 struct gadulnos_line gadulnos_mmap(uint64_t *words, size_t words_len, uint8_t *fields, size_t fields_len,
-                                   uint8_t *bits, size_t bits_len, uint64_t root, uint8_t *user,
+                                   uint8_t bits[GADULNOS_BITS_BYTES], uint64_t root, uint8_t *user,
                                    size_t user_len, bool given, uint64_t addr, uint64_t size, int32_t prot,
                                    int32_t flags);
 /* 1, 2, 3, 16 in this order. */
 struct gadulnos_line gadulnos_munmap(uint64_t *words, size_t words_len, uint8_t *fields, size_t fields_len,
-                                     uint8_t *bits, size_t bits_len, uint64_t root, uint8_t *user,
+                                     uint8_t bits[GADULNOS_BITS_BYTES], uint64_t root, uint8_t *user,
                                      size_t user_len, uint64_t addr, uint64_t size);
 
 /* ---- Copy-on-write pages and faults */
@@ -175,12 +177,12 @@ struct gadulnos_line gadulnos_unmark_cow(uint8_t *marked, size_t marked_len, uin
 struct gadulnos_line gadulnos_is_cow(const uint8_t *marked, size_t marked_len, uint64_t addr);
 /* The first path (page_fault.rs): 5, 6, 7, 8, 11, 17, 18. */
 struct gadulnos_line gadulnos_handle_page_fault(uint64_t *words, size_t words_len, uint8_t *fields,
-                                                size_t fields_len, uint8_t *bits, size_t bits_len,
+                                                size_t fields_len, uint8_t bits[GADULNOS_BITS_BYTES],
                                                 uint64_t root, uint8_t *marked, size_t marked_len,
                                                 uint64_t addr, uint64_t code);
 /* The second path (page_handler.rs): 5, 7, 8, 11, 17, 19. */
 struct gadulnos_line gadulnos_handle_page_fault_second(uint64_t *words, size_t words_len, uint8_t *fields,
-                                                       size_t fields_len, uint8_t *bits, size_t bits_len,
+                                                       size_t fields_len, uint8_t bits[GADULNOS_BITS_BYTES],
                                                        uint64_t root, uint64_t addr, uint64_t code);
 
 /* ---- The start */
@@ -189,7 +191,7 @@ struct gadulnos_line gadulnos_handle_page_fault_second(uint64_t *words, size_t w
  * *root. 10 as for init or if there are fewer than total * 512 words, 11 if total is 0; a refused start
  * changes nothing. */
 struct gadulnos_line gadulnos_start(uint64_t *words, size_t words_len, uint8_t *fields, size_t fields_len,
-                                    uint8_t *bits, size_t bits_len, uint64_t *root, uint8_t *kernel,
+                                    uint8_t bits[GADULNOS_BITS_BYTES], uint64_t *root, uint8_t *kernel,
                                     size_t kernel_len, uint8_t *user, size_t user_len, uint8_t *marked,
                                     size_t marked_len, uint64_t from, uint64_t to);
 

@@ -128,15 +128,15 @@ functions! {
 // The frame record and its bitmap.
 functions! {
     /// A record for the frames of memory `from` to `to`, all free.
-    fn init = gadulnos_init(fields: &mut [u8], bits: &mut [u8], from: u64, to: u64) -> Line;
-    fn is_allocated = gadulnos_is_allocated(fields: &[u8], bits: &[u8], frame: u64) -> Line;
-    fn mark_allocated = gadulnos_mark_allocated(fields: &mut [u8], bits: &mut [u8], frame: u64) -> Line;
+    fn init = gadulnos_init(fields: &mut [u8], bits: &mut Marks, from: u64, to: u64) -> Line;
+    fn is_allocated = gadulnos_is_allocated(fields: &[u8], bits: &Marks, frame: u64) -> Line;
+    fn mark_allocated = gadulnos_mark_allocated(fields: &mut [u8], bits: &mut Marks, frame: u64) -> Line;
     /// The number of the lowest free frame, which is marked.
-    fn allocate_frame = gadulnos_allocate_frame(fields: &mut [u8], bits: &mut [u8]) -> Line;
-    fn deallocate_frame = gadulnos_deallocate_frame(fields: &mut [u8], bits: &mut [u8], frame: u64) -> Line;
-    fn free_frames = gadulnos_free_frames(fields: &[u8], bits: &[u8]) -> Line;
-    fn allocated_frames = gadulnos_allocated_frames(fields: &[u8], bits: &[u8]) -> Line;
-    fn total_frames = gadulnos_total_frames(fields: &[u8], bits: &[u8]) -> Line;
+    fn allocate_frame = gadulnos_allocate_frame(fields: &mut [u8], bits: &mut Marks) -> Line;
+    fn deallocate_frame = gadulnos_deallocate_frame(fields: &mut [u8], bits: &mut Marks, frame: u64) -> Line;
+    fn free_frames = gadulnos_free_frames(fields: &[u8], bits: &Marks) -> Line;
+    fn allocated_frames = gadulnos_allocated_frames(fields: &[u8], bits: &Marks) -> Line;
+    fn total_frames = gadulnos_total_frames(fields: &[u8], bits: &Marks) -> Line;
 }
 
 // The page tables, in the lent frames' words.
@@ -148,12 +148,12 @@ functions! {
         words: &[u64], start: u64, total: u64, root: u64, virt: u64, write: bool
     ) -> Line;
     fn map_page = gadulnos_map_page(
-        words: &mut [u64], fields: &mut [u8], bits: &mut [u8], root: u64,
+        words: &mut [u64], fields: &mut [u8], bits: &mut Marks, root: u64,
         virt: u64, phys: u64, writable: bool, user: bool
     ) -> Line;
     /// 1 GiB if `gigabyte`, else 2 MiB.
     fn map_huge_page = gadulnos_map_huge_page(
-        words: &mut [u64], fields: &mut [u8], bits: &mut [u8], root: u64,
+        words: &mut [u64], fields: &mut [u8], bits: &mut Marks, root: u64,
         virt: u64, phys: u64, gigabyte: bool, writable: bool, user: bool
     ) -> Line;
     /// The number of the frame that `virt` was mapped to.
@@ -164,18 +164,18 @@ functions! {
 functions! {
     /// The new region's address.
     fn vmalloc = gadulnos_vmalloc(
-        words: &mut [u64], fields: &mut [u8], bits: &mut [u8], root: u64, kernel: &mut [u8], size: u64
+        words: &mut [u64], fields: &mut [u8], bits: &mut Marks, root: u64, kernel: &mut [u8], size: u64
     ) -> Line;
     fn vfree = gadulnos_vfree(
-        words: &mut [u64], fields: &mut [u8], bits: &mut [u8], root: u64, kernel: &mut [u8], addr: u64
+        words: &mut [u64], fields: &mut [u8], bits: &mut Marks, root: u64, kernel: &mut [u8], addr: u64
     ) -> Line;
     /// The new region's address. `addr` counts if it is `given`.
     fn mmap = gadulnos_mmap(
-        words: &mut [u64], fields: &mut [u8], bits: &mut [u8], root: u64, user: &mut [u8],
+        words: &mut [u64], fields: &mut [u8], bits: &mut Marks, root: u64, user: &mut [u8],
         given: bool, addr: u64, size: u64, prot: i32, flags: i32
     ) -> Line;
     fn munmap = gadulnos_munmap(
-        words: &mut [u64], fields: &mut [u8], bits: &mut [u8], root: u64, user: &mut [u8], addr: u64, size: u64
+        words: &mut [u64], fields: &mut [u8], bits: &mut Marks, root: u64, user: &mut [u8], addr: u64, size: u64
     ) -> Line;
     fn mark_cow = gadulnos_mark_cow(marked: &mut [u8], addr: u64) -> Line;
     fn unmark_cow = gadulnos_unmark_cow(marked: &mut [u8], addr: u64) -> Line;
@@ -183,15 +183,15 @@ functions! {
     fn is_cow = gadulnos_is_cow(marked: &[u8], addr: u64) -> Line;
     /// The first fault path (page_fault.rs).
     fn handle_page_fault = gadulnos_handle_page_fault(
-        words: &mut [u64], fields: &mut [u8], bits: &mut [u8], root: u64, marked: &mut [u8], addr: u64, code: u64
+        words: &mut [u64], fields: &mut [u8], bits: &mut Marks, root: u64, marked: &mut [u8], addr: u64, code: u64
     ) -> Line;
     /// The second fault path (page_handler.rs).
     fn handle_page_fault_second = gadulnos_handle_page_fault_second(
-        words: &mut [u64], fields: &mut [u8], bits: &mut [u8], root: u64, addr: u64, code: u64
+        words: &mut [u64], fields: &mut [u8], bits: &mut Marks, root: u64, addr: u64, code: u64
     ) -> Line;
     /// A fresh board on memory `from` to `to`, whatever its parts held before.
     fn start = gadulnos_start(
-        words: &mut [u64], fields: &mut [u8], bits: &mut [u8], root: &mut u64,
+        words: &mut [u64], fields: &mut [u8], bits: &mut Marks, root: &mut u64,
         kernel: &mut [u8], user: &mut [u8], marked: &mut [u8], from: u64, to: u64
     ) -> Line;
 }
@@ -201,6 +201,11 @@ pub const SLOTS: usize = 256;
 
 /// One bit for each of 8192 frames: frame start_frame + i is bit i % 64 of word i / 64.
 pub type Bitmap = [u64; 128];
+
+pub const BITMAP_BYTES: usize = 1024;
+
+/// The packed bitmap, as the calls are lent it. It has its length by its type.
+pub type Marks = [u8; BITMAP_BYTES];
 
 /// The frame record.
 #[derive(Clone, Copy, Debug, PartialEq, Eq)]
@@ -280,14 +285,13 @@ impl Frames {
     }
 }
 
-pub const BITMAP_BYTES: usize = 1024;
-
-pub fn pack_bitmap(bitmap: &Bitmap) -> Vec<u8> {
-    pack_words(*bitmap)
+pub fn pack_bitmap(bitmap: &Bitmap) -> Marks {
+    std::array::from_fn(|i| bitmap[i / 8].to_le_bytes()[i % 8])
 }
 
-pub fn unpack_bitmap(bytes: &[u8]) -> Option<Bitmap> {
-    (bytes.len() == BITMAP_BYTES).then(|| std::array::from_fn(|i| word(bytes, 8 * i)))
+/// Any bytes are a bitmap's.
+pub fn unpack_bitmap(bits: &Marks) -> Bitmap {
+    std::array::from_fn(|i| word(bits, 8 * i))
 }
 
 impl Kernel {
@@ -350,12 +354,12 @@ impl Marked {
     }
 }
 
-/// All that the calls are lent. The parts may stand in vectors or in memory of the host's own.
-pub struct Board<W = Vec<u64>, B = Vec<u8>> {
+/// All that the calls are lent. The parts may stand in vectors and a box or in memory of the host's own.
+pub struct Board<W = Vec<u64>, B = Vec<u8>, M = Box<Marks>> {
     /// Frame number n sits at word (n - start_frame) * 512.
     pub words: W,
     pub fields: B,
-    pub bits: B,
+    pub bits: M,
     /// The root's frame number.
     pub root: u64,
     pub kernel: B,
@@ -369,7 +373,7 @@ impl Board {
         Board {
             words: vec![0; frames * 512],
             fields: vec![0; Frames::BYTES],
-            bits: vec![0; BITMAP_BYTES],
+            bits: Box::new([0; BITMAP_BYTES]),
             root: 0,
             kernel: vec![0; Kernel::BYTES],
             user: vec![0; User::BYTES],
@@ -379,7 +383,12 @@ impl Board {
 }
 
 /// Each call, lent the parts that it needs. The free function of the same name says what it answers.
-impl<W: DerefMut<Target = [u64]>, B: DerefMut<Target = [u8]>> Board<W, B> {
+impl<W, B, M> Board<W, B, M>
+where
+    W: DerefMut<Target = [u64]>,
+    B: DerefMut<Target = [u8]>,
+    M: DerefMut<Target = Marks>,
+{
     pub fn start(&mut self, from: u64, to: u64) -> Line {
         let Board { words, fields, bits, root, kernel, user, marked } = self;
         start(words, fields, bits, root, kernel, user, marked, from, to)

@@ -5,14 +5,14 @@ set -euo pipefail
 cd "$(dirname "$0")/.."
 host/library.sh
 host/build.sh
-log=$(mktemp)
-trap 'rm -f "$log"' EXIT
+room=$(mktemp -d)
+trap 'rm -rf "$room"' EXIT
 passed=0
 failed=0
 
 # Runs a program and adds up the counts on its last line. One that ends otherwise is one failure more.
 counted() {
-    local status=0
+    local status=0 log=$room/$list.log
     "$@" | tee "$log" || status=$?
     if [[ $(tail -n 1 "$log") =~ ^([0-9]+)\ passed,\ ([0-9]+)\ failed$ ]]; then
         passed=$((passed + BASH_REMATCH[1]))
@@ -24,14 +24,37 @@ counted() {
     fi
 }
 
-for program in oracle-self layers header beside release anything keys; do
-    counted target/host/$program
-done
+# Only one at a time: it writes files of its own, and asks rt, of which two runs would read each other's verdicts.
+keys() {
+    flock "$room/keys.lock" target/host/keys "$@"
+}
 
-# Besides their fixed seed the programs get one drawn from the commit. Each prints it: the same seed repeats a run.
-seed=$((16#$(git rev-parse --short=12 HEAD 2>/dev/null || echo 5eed)))
-for program in layers beside release anything keys; do
-    counted target/host/$program --seed $seed
+# Two lists, one for each core. The programs have a fixed seed, and in the second list one drawn from the commit. Each prints it: the same seed repeats a run.
+fixed() {
+    for program in oracle-self layers header beside release anything; do
+        counted target/host/$program
+    done
+    counted keys
+}
+
+drawn() {
+    local seed
+    seed=$((16#$(git rev-parse --short=12 HEAD 2>/dev/null || echo 5eed)))
+    counted keys --seed $seed
+    for program in layers beside release anything; do
+        counted target/host/$program --seed $seed
+    done
+}
+
+for list in fixed drawn; do
+    ($list; echo "$passed $failed" >"$room/$list.counts") >"$room/$list" 2>&1 &
+done
+wait
+for list in fixed drawn; do
+    cat "$room/$list"
+    read -r more_passed more_failed <"$room/$list.counts"
+    passed=$((passed + more_passed))
+    failed=$((failed + more_failed))
 done
 echo "$passed passed, $failed failed"
 [ "$failed" -eq 0 ]

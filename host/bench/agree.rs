@@ -196,7 +196,7 @@ fn set(board: &mut Board, parts: &Parts) {
         board.words[index] = word;
     }
     board.fields = Frames { allocated: parts.allocated, ..board.frames() }.pack();
-    board.bits = gadulnos::pack_bitmap(&parts.bitmap);
+    *board.bits = gadulnos::pack_bitmap(&parts.bitmap);
     board.root = parts.root;
     let none = Slot { start: 0, size: 0, used: false };
     let mut kernel = Kernel { count: parts.slots.len() as u64, slots: [none; 256] };
@@ -217,7 +217,7 @@ fn set(board: &mut Board, parts: &Parts) {
 }
 
 /// Another root or other frames, a root that leads to itself, or a byte or a length that is another
-/// than it was, whatever that makes of the part.
+/// than it was, whatever that makes of the part. The bitmap has its length by its type.
 fn damage(random: &mut Random, board: &mut Board) {
     let Frames { start_frame, total, allocated } = board.frames();
     let Board { words, fields, bits, root, kernel, user, marked } = board;
@@ -237,7 +237,7 @@ fn damage(random: &mut Random, board: &mut Board) {
             return on_the_way.for_each(|(_, entry)| *entry = root.wrapping_mul(PAGE) | 7);
         }
         4 | 5 => fields,
-        6 => bits,
+        6 => return any_byte(random, &mut bits[..]),
         7 => kernel,
         8 => user,
         _ => marked,
@@ -246,12 +246,15 @@ fn damage(random: &mut Random, board: &mut Board) {
         0 => part.push(0),
         1 => part.truncate(part.len().saturating_sub(1 + random.below(8) as usize)),
         2 => part.clear(),
-        _ => {
-            let most = random.one_of(&[32, 72, part.len() as u64]).min(part.len() as u64);
-            if let Some(byte) = part.get_mut(random.below(most) as usize) {
-                let any = random.word() as u8;
-                *byte = random.one_of(&[0, 1, 2, *byte ^ 1, *byte ^ 16, any]);
-            }
-        }
+        _ => any_byte(random, part),
+    }
+}
+
+/// Another byte, mostly near the front.
+fn any_byte(random: &mut Random, part: &mut [u8]) {
+    let most = random.one_of(&[32, 72, part.len() as u64]).min(part.len() as u64);
+    if let Some(byte) = part.get_mut(random.below(most) as usize) {
+        let any = random.word() as u8;
+        *byte = random.one_of(&[0, 1, 2, *byte ^ 1, *byte ^ 16, any]);
     }
 }

@@ -158,7 +158,7 @@ macro_rules! packed_side {
             }
 
             fn set_frames(&mut self, marked: u64) {
-                self.board.bits = gadulnos::pack_bitmap(&lowest(marked));
+                *self.board.bits = gadulnos::pack_bitmap(&lowest(marked));
                 let frames = Frames { allocated: marked, ..self.board.frames() };
                 self.board.fields = frames.pack();
             }

@@ -90,7 +90,7 @@ pub fn state(board: &Board) -> Option<State<'_>> {
         start_frame: frames.start_frame,
         total: frames.total,
         allocated: frames.allocated,
-        bitmap: gadulnos::unpack_bitmap(&board.bits).unwrap_or([0; 128]),
+        bitmap: gadulnos::unpack_bitmap(&board.bits),
         root: board.root,
         vmalloc_count: (kernel.count as usize).min(SLOTS),
         slots: kernel.slots.map(|s| Slot { start: s.start, size: s.size, used: s.used }),

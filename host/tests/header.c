@@ -17,7 +17,7 @@ static uint64_t root;
 
 /* The parts as arguments. */
 #define MEMORY words, WORDS
-#define RECORD fields, sizeof fields, bits, sizeof bits
+#define RECORD fields, sizeof fields, bits
 #define WALK words, WORDS, 0x100, FRAMES, root
 
 static int passed, failed;
@@ -85,7 +85,7 @@ static void frames(void)
                         && is(gadulnos_deallocate_frame(RECORD, 1), 0, 0)
                         && is(gadulnos_is_allocated(RECORD, 1), 0, 0)
                         && is(gadulnos_is_allocated(RECORD, 2), 0, 1));
-    check("a part one byte short", is(gadulnos_allocate_frame(fields, sizeof fields - 1, bits, sizeof bits), 10, 0));
+    check("a part one byte short", is(gadulnos_allocate_frame(fields, sizeof fields - 1, bits), 10, 0));
 }
 
 static void tables(void)

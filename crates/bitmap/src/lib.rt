@@ -1,44 +1,59 @@
-// A set of numbers in words, 64 to a word: bit i % 64 of word i / 64 is 1 where i is marked.
+// A set of the numbers below 8192 in 128 words, 64 to a word: bit i % 64 of word i / 64 is 1 where i is marked. The words stay packed bytes: `word` and `put_word` read
+// and write one of them, and nothing else touches the bytes.
 ghost use mathlib.Core.Path.{_≡_};
 ghost use mathlib.Core.Bool.{true};
-ghost use Prim.Native.Nat.{ℕ, _+_, _*_, _^_, _<_, _≤_};
-ghost use lib.ListN.{length, getD, replicate};
+ghost use Prim.Native.Nat.{ℕ, _+_, _*_, _<_, _≤_};
+ghost use lib.ListN.{length, getD, set, replicate};
 ghost use lib.Count.{ones as onesOf};
 ghost use Rattle.bits.specs.Bit.{bit};
-ghost use Rattle.bitmap.specs.Bitmap.{marked, isMarked, freeFrom, mark as marking, unmark as unmarking, count as countBelow};
+ghost use Rattle.bitmap.specs.Bitmap.{marked, isMarked, freeFrom, mark as marking, unmark as unmarking, count as countBelow, bitmapSize, marksIn};
 
-pub fn is_marked(bitmap: &[u64], i: usize) -> bool
-    requires { ⌜ i < 64 * length (now bitmap) ⌝ }
-    ensures { λ r. ⌜ r ≡ isMarked (now (bitmap .entry)) i ⌝ }
+pub fn is_marked(bitmap: &[u8], i: usize) -> bool
+    requires { ⌜ bitmapSize ≤ length (now bitmap) ⌝ }
+    requires { ⌜ i < 8192 ⌝ }
+    ensures { λ r. ⌜ r ≡ isMarked (marksIn (now (bitmap .entry))) i ⌝ }
 {
-    bitmap[i / 64] & (1 << (i % 64)) != 0
+    word(bitmap, i / 64) & (1 << (i % 64)) != 0
 }
 
-pub fn mark(bitmap: &mut [u64], i: usize)
-    requires { ⌜ i < 64 * length (now bitmap) ⌝ }
-    requires { ⌜ marked (now bitmap) i ≡ 0 ⌝ }
-    ensures { λ _. ⌜ now (bitmap .exit) ≡ marking (now (bitmap .entry)) i ⌝ }
-{
-    let k = i / 64;
-    bitmap[k] = bitmap[k] | (1 << (i % 64));
-}
-
-// Word k, by a call: what a call gives is known to fit its type.
-fn word(bitmap: &[u64], k: usize) -> u64
-    requires { ⌜ k < length (now bitmap) ⌝ }
-    ensures { λ r. ⌜ r ≡ getD (now (bitmap .entry)) k 0 ⌝ }
-{
-    bitmap[k]
-}
-
-pub fn unmark(bitmap: &mut [u64], i: usize)
-    requires { ⌜ i < 64 * length (now bitmap) ⌝ }
-    requires { ⌜ marked (now bitmap) i ≡ 1 ⌝ }
-    ensures { λ _. ⌜ now (bitmap .exit) ≡ unmarking (now (bitmap .entry)) i ⌝ }
+pub fn mark(bitmap: &mut [u8], i: usize)
+    requires { ⌜ bitmapSize ≤ length (now bitmap) ⌝ }
+    requires { ⌜ i < 8192 ⌝ }
+    requires { ⌜ marked (marksIn (now bitmap)) i ≡ 0 ⌝ }
+    ensures { λ _. ⌜ marksIn (now (bitmap .exit)) ≡ marking (marksIn (now (bitmap .entry))) i ⌝ }
 {
     let k = i / 64;
     let w = word(bitmap, k);
-    bitmap[k] = w & !(1 << (i % 64));
+    put_word(bitmap, k, w | (1 << (i % 64)));
+}
+
+// Word k.
+fn word(bitmap: &[u8], k: usize) -> u64
+    requires { ⌜ bitmapSize ≤ length (now bitmap) ⌝ }
+    requires { ⌜ k < 128 ⌝ }
+    ensures { λ r. ⌜ r ≡ getD (marksIn (now (bitmap .entry))) k 0 ⌝ }
+{
+    packed::word_at(bitmap, k * 8)
+}
+
+// Word k is w then.
+fn put_word(bitmap: &mut [u8], k: usize, w: u64)
+    requires { ⌜ bitmapSize ≤ length (now bitmap) ⌝ }
+    requires { ⌜ k < 128 ⌝ }
+    ensures { λ _. ⌜ marksIn (now (bitmap .exit)) ≡ set (marksIn (now (bitmap .entry))) k w ⌝ }
+{
+    packed::put_word(bitmap, k * 8, w);
+}
+
+pub fn unmark(bitmap: &mut [u8], i: usize)
+    requires { ⌜ bitmapSize ≤ length (now bitmap) ⌝ }
+    requires { ⌜ i < 8192 ⌝ }
+    requires { ⌜ marked (marksIn (now bitmap)) i ≡ 1 ⌝ }
+    ensures { λ _. ⌜ marksIn (now (bitmap .exit)) ≡ unmarking (marksIn (now (bitmap .entry))) i ⌝ }
+{
+    let k = i / 64;
+    let w = word(bitmap, k);
+    put_word(bitmap, k, w & !(1 << (i % 64)));
 }
 
 // How many of a word's lowest bits are marked before the first that is not.
@@ -51,14 +66,14 @@ fn marked_run(w: u64) -> usize
 }
 
 // The lowest number below n that is not marked, n if there is none: full words are passed over whole.
-pub fn lowest_free(bitmap: &[u64], n: usize) -> usize
-    requires { ⌜ n ≤ 64 * length (now bitmap) ⌝ }
-    requires { ⌜ n < 2 ^ 63 ⌝ }
-    ensures { λ r. ⌜ r ≡ freeFrom (now (bitmap .entry)) 0 n ⌝ }
+pub fn lowest_free(bitmap: &[u8], n: usize) -> usize
+    requires { ⌜ bitmapSize ≤ length (now bitmap) ⌝ }
+    requires { ⌜ n ≤ 8192 ⌝ }
+    ensures { λ r. ⌜ r ≡ freeFrom (marksIn (now (bitmap .entry))) 0 n ⌝ }
 {
     let mut k = 0;
     while k * 64 < n {
-        let run = marked_run(bitmap[k]);
+        let run = marked_run(word(bitmap, k));
         if run < 64 {
             let i = k * 64 + run;
             if i < n {
@@ -79,10 +94,11 @@ fn ones(w: u64) -> usize
 }
 
 // How many of the first n words have every bit marked before the first that has not.
-fn full_words(bitmap: &[u64], n: usize) -> usize
-    requires { ⌜ n ≤ length (now bitmap) ⌝ }
+fn full_words(bitmap: &[u8], n: usize) -> usize
+    requires { ⌜ bitmapSize ≤ length (now bitmap) ⌝ }
+    requires { ⌜ n ≤ 128 ⌝ }
     ensures { λ r. ⌜ r ≤ n ⌝ }
-    ensures { λ r. ⌜ countBelow (now (bitmap .entry)) (r * 64) ≡ r * 64 ⌝ }
+    ensures { λ r. ⌜ countBelow (marksIn (now (bitmap .entry))) (r * 64) ≡ r * 64 ⌝ }
 {
     let mut k = 0;
     while k < n {
@@ -95,10 +111,11 @@ fn full_words(bitmap: &[u64], n: usize) -> usize
 }
 
 // Whether no bit of the words from `from` up to `end` is marked. One flag is tested at the end, since a test for each word takes longer.
-fn is_clear(bitmap: &[u64], from: usize, end: usize) -> bool
+fn is_clear(bitmap: &[u8], from: usize, end: usize) -> bool
+    requires { ⌜ bitmapSize ≤ length (now bitmap) ⌝ }
     requires { ⌜ from ≤ end ⌝ }
-    requires { ⌜ end ≤ length (now bitmap) ⌝ }
-    ensures { λ r. ⌜ (r ≡ true → countBelow (now (bitmap .entry)) (end * 64) ≡ countBelow (now (bitmap .entry)) (from * 64)) ⌝ }
+    requires { ⌜ end ≤ 128 ⌝ }
+    ensures { λ r. ⌜ (r ≡ true → countBelow (marksIn (now (bitmap .entry))) (end * 64) ≡ countBelow (marksIn (now (bitmap .entry))) (from * 64)) ⌝ }
 {
     let mut any: u64 = 0;
     for k in from..end {
@@ -108,11 +125,11 @@ fn is_clear(bitmap: &[u64], from: usize, end: usize) -> bool
 }
 
 // How many bits of the words from `from` up to `end` are marked.
-fn count_words(bitmap: &[u64], from: usize, end: usize) -> usize
+fn count_words(bitmap: &[u8], from: usize, end: usize) -> usize
+    requires { ⌜ bitmapSize ≤ length (now bitmap) ⌝ }
     requires { ⌜ from ≤ end ⌝ }
-    requires { ⌜ end ≤ length (now bitmap) ⌝ }
-    requires { ⌜ end < 2 ^ 58 ⌝ }
-    ensures { λ r. ⌜ countBelow (now (bitmap .entry)) (from * 64) + r ≡ countBelow (now (bitmap .entry)) (end * 64) ⌝ }
+    requires { ⌜ end ≤ 128 ⌝ }
+    ensures { λ r. ⌜ countBelow (marksIn (now (bitmap .entry))) (from * 64) + r ≡ countBelow (marksIn (now (bitmap .entry))) (end * 64) ⌝ }
 {
     let mut sum = 0;
     for k in from..end {
@@ -121,23 +138,23 @@ fn count_words(bitmap: &[u64], from: usize, end: usize) -> usize
     sum
 }
 
-// Where a count that starts at word `full` stops if nothing is marked behind: eight words on, or at the end.
+// Where a count that starts at word `full` stops if nothing is marked behind: one word on, or at the end.
 fn near(full: usize, end: usize) -> usize
     requires { ⌜ full ≤ end ⌝ }
     ensures { λ r. ⌜ full ≤ r ⌝ }
     ensures { λ r. ⌜ r ≤ end ⌝ }
 {
-    if end - full < 8 {
+    if full == end {
         return end;
     }
-    full + 8
+    full + 1
 }
 
 // How many bits of the first n words are marked. Full words at the front and clear ones at the end, which is how frames are taken, are not counted bit by bit.
-fn count_whole(bitmap: &[u64], n: usize) -> usize
-    requires { ⌜ n ≤ length (now bitmap) ⌝ }
-    requires { ⌜ n < 2 ^ 58 ⌝ }
-    ensures { λ r. ⌜ r ≡ countBelow (now (bitmap .entry)) (n * 64) ⌝ }
+fn count_whole(bitmap: &[u8], n: usize) -> usize
+    requires { ⌜ bitmapSize ≤ length (now bitmap) ⌝ }
+    requires { ⌜ n ≤ 128 ⌝ }
+    ensures { λ r. ⌜ r ≡ countBelow (marksIn (now (bitmap .entry))) (n * 64) ⌝ }
 {
     let full = full_words(bitmap, n);
     let end = near(full, n);
@@ -148,9 +165,10 @@ fn count_whole(bitmap: &[u64], n: usize) -> usize
 }
 
 // How many numbers below n are marked: whole words first, then the bits of the last one.
-pub fn count(bitmap: &[u64], n: usize) -> usize
-    requires { ⌜ n ≤ 64 * length (now bitmap) ⌝ }
-    ensures { λ r. ⌜ r ≡ countBelow (now (bitmap .entry)) n ⌝ }
+pub fn count(bitmap: &[u8], n: usize) -> usize
+    requires { ⌜ bitmapSize ≤ length (now bitmap) ⌝ }
+    requires { ⌜ n ≤ 8192 ⌝ }
+    ensures { λ r. ⌜ r ≡ countBelow (marksIn (now (bitmap .entry))) n ⌝ }
 {
     let whole = n / 64;
     let rest = n % 64;
@@ -158,11 +176,11 @@ pub fn count(bitmap: &[u64], n: usize) -> usize
     if rest == 0 {
         return sum;
     }
-    sum + ones(bitmap[whole] & ((1 << rest) - 1))
+    sum + ones(word(bitmap, whole) & ((1 << rest) - 1))
 }
 
-pub fn clear_all(bitmap: &mut [u64; 128])
-    ensures { λ _. ⌜ now (bitmap .exit) ≡ replicate 128 0 ⌝ }
+pub fn clear_all(bitmap: &mut [u8; 1024])
+    ensures { λ _. ⌜ marksIn (now (bitmap .exit)) ≡ replicate 128 0 ⌝ }
 {
-    *bitmap = [0u64; 128];
+    *bitmap = [0u8; 1024];
 }

@@ -95,7 +95,7 @@ fn begin(
     let unused = fresh.frames;
     let root = unused.start;
     let frames = frame::inner::mark_frame(bitmap, unused, root);
-    mapper::inner::zero_frame(words, 0);
+    tables::zero_frame(words, 0);
     vm_list::start(kernel);
     mappings::start(user);
     cow::list::start(marked);

@@ -79,18 +79,24 @@ pub fn is_sound(list: &[u8]) -> bool
     pages_rise(list, n as usize)
 }
 
-// How many of the first n pages stand before a page's place.
+// How many of the first n pages stand before a page's place. They rise, so that the place is found by halves.
 pub fn place_of(list: &[u8], n: usize, page: u64) -> usize
     requires { ⌜ markedFit (now list) ≡ true ⌝ }
     requires { ⌜ n ≤ 256 ⌝ }
+    requires { ⌜ risingFrom pageKey 0 (take n (markedIn (now list) .slots)) ≡ true ⌝ }
     ensures { λ r. ⌜ r ≡ placeOf pageKey page (take n (markedIn (now (list .entry)) .slots)) ⌝ }
 {
-    for i in 0..n {
-        if page_at(list, i) >= page {
-            return i;
+    let mut low = 0;
+    let mut high = n;
+    while low < high {
+        let mid = (low + high) / 2;
+        if page_at(list, mid) < page {
+            low = mid + 1;
+        } else {
+            high = mid;
         }
     }
-    n
+    low
 }
 
 // Whether a page is among the first n, by its place.

@@ -13,7 +13,6 @@ use Rattle.answer.specs.declared.Answer.the-variants.{Met, Refused}
 use Rattle.answer.specs.declared.Line.{Line}
 use Rattle.answer.specs.declared.Outcome.{Outcome}
 use Rattle.answer.specs.declared.Outcome.the-variants.{Value, Stop}
-use Rattle.packed.specs.Words.{pack}
 use Rattle.vm_list.specs.Packed.{vmSize}
 use Rattle.mappings.specs.Packed.{mmapFit}
 use Rattle.cow.specs.Packed.{markedFit}
@@ -22,7 +21,7 @@ use Rattle.board.specs.declared.Started.{Started}
 use Rattle.board.specs.Board.{start, mayStart}
 use Rattle.board.specs.Packed.{BoardBytes, boardIn, boardBytes, StartedBytes, startedBytes, packedBy, startOn}
 use Rattle.board.proofs.Outcomes.{start-met, start-refused as start-stopped}
-use Rattle.layout.specs.Parts.{fieldsOut, framesFit}
+use Rattle.layout.specs.Parts.{fieldsOut, fieldsFit}
 use Rattle.layout.specs.Left.{Left, left, brokenLine, unlessFit, IsRefusal, Unchanged, noLeftovers}
 use Rattle.layout.specs.Memory.{plainLine}
 use Rattle.layout.proofs.Left.{broken-left, unchanged-left}
@@ -32,42 +31,49 @@ module _ (words fields bits : List ℕ) (root : ℕ) (kernel user marked : List 
   abbrev lent : BoardParts
   lent = boardParts words fields bits root kernel user marked
 
-  pub start-broken : {r : Line} → framesFit fields bits ≡ false → r ≡ brokenLine → left r lent ≡ packedStart lent from to
+  pub start-broken : {r : Line} → fieldsFit fields ≡ false → r ≡ brokenLine → left r lent ≡ packedStart lent from to
   unfolding packedStart
   start-broken h e = broken-left {ok = boardFit lent} lent _ (rw h refl) e
 
-  -- what is left of a board that was started: its record, bitmap and root are written where the start is met
+  -- what is left of a board that was started: its record and root are written where the start is met
   abbrev wrote : StartedBytes → Left BoardParts
   wrote s =
       let b = s .board in
       left (answerLine (s .answer))
-      (boardParts (b .mem .words) (leftOf (s .answer) fields (fieldsOut (b .mem .frames .fa))) (leftOf (s .answer) bits (pack (b .mem .frames .bits)))
-      (leftOf (s .answer) root (b .root)) (b .kernel) (b .user) (b .marked))
+      (record {
+        words = b .mem .words;
+        fields = leftOf (s .answer) fields (fieldsOut (b .mem .frames .fa));
+        marks = b .mem .frames .bits;
+        root = leftOf (s .answer) root (b .root);
+        kernel = b .kernel;
+        user = b .user;
+        marked = b .marked;
+      })
 
-  -- a start does not look at the record, bitmap and root that it is given
-  module _ (b : List ℕ) (none : Records) where
+  -- a start does not look at the record and root that it is given
+  module _ (none : Records) where
     abbrev given : BoardBytes
-    given = boardBytes words b kernel user marked none
+    given = boardBytes words bits kernel user marked none
 
     started : (a : Answer) → mayStart (length words) from to ≡ a
         → let d = start (boardIn given) from to in wrote (packedBy given (d .answer) (d .board)) ≡ startLeft lent (start (boardOfParts lent) from to)
     started Met e = rw (start-met (boardIn given) from to e, start-met (boardOfParts lent) from to e) refl
     started (Refused n) e = rw (start-stopped (boardIn given) from to n e, start-stopped (boardOfParts lent) from to n e) refl
 
-    tested : (ok : Bool) → framesFit fields bits ≡ true
+    tested : (ok : Bool) → fieldsFit fields ≡ true
         → let d = start (boardIn given) from to in
         wrote (unless ok (record { answer = Refused brokenRecord; board = given }) (packedBy given (d .answer) (d .board)))
-        ≡ unlessFit (both (framesFit fields bits) ok) lent (startLeft lent (start (boardOfParts lent) from to))
+        ≡ unlessFit (both (fieldsFit fields) ok) lent (startLeft lent (start (boardOfParts lent) from to))
     tested true fit = rw fit (started (mayStart (length words) from to) refl)
     tested false fit = rw fit refl
 
-    pub start-did : {ws fs bs bm ks us ms : List ℕ} {rt : ℕ} {x : Started} {r : Line} → framesFit fields bits ≡ true
-        → startedBytes x ws bm ks us ms ≡ startOn given from to → r ≡ answerLine (x .answer)
-        → (fs ≡ leftOf (x .answer) fields (fieldsOut (x .records .frames))) × ((bs ≡ leftOf (x .answer) bits (pack bm)) × (rt ≡ leftOf (x .answer) root (x .records .root .0)))
+    pub start-did : {ws fs ks us ms : List ℕ} (bs : List ℕ) {rt : ℕ} {x : Started} {r : Line} → fieldsFit fields ≡ true
+        → startedBytes x ws bs ks us ms ≡ startOn given from to → r ≡ answerLine (x .answer)
+        → (fs ≡ leftOf (x .answer) fields (fieldsOut (x .records .frames))) × (rt ≡ leftOf (x .answer) root (x .records .root .0))
         → left r (boardParts ws fs bs rt ks us ms) ≡ packedStart lent from to
     unfolding packedStart startOn
-    start-did {ws = ws} {ks = ks} {us = us} {ms = ms} fit e r (fs, (bs, rt)) =
-        (λ j. left (r j) (boardParts ws (fs j) (bs j) (rt j) ks us ms)) ∙ ap wrote e ∙ tested (both (eqb (length kernel) vmSize) (both (mmapFit user) (markedFit marked))) fit
+    start-did {ws = ws} {ks = ks} {us = us} {ms = ms} bs fit e r (fs, rt) =
+        (λ j. left (r j) (boardParts ws (fs j) bs (rt j) ks us ms)) ∙ ap wrote e ∙ tested (both (eqb (length kernel) vmSize) (both (mmapFit user) (markedFit marked))) fit
 
   -- 10 and 11
   pub start-refused : Unchanged noLeftovers lent (packedStart lent from to)

@@ -14,7 +14,6 @@ use Rattle.answer.specs.declared.FlagAnswer.the-variants.{NoFlag}
 use Rattle.answer.specs.declared.Line.{Line}
 use Rattle.address.specs.declared.FrameAnswer.{FrameAnswer}
 use Rattle.entry.specs.Entry.{entryOf, indices}
-use Rattle.packed.specs.Words.{pack, unpack}
 use Rattle.packed.proofs.RoundTrip.{Bytes}
 use Rattle.frame.specs.declared.FrameAllocator.{FrameAllocator}
 use Rattle.frame.specs.Frames.{FramesDid, inside, withMark}
@@ -32,16 +31,17 @@ use Rattle.slots.specs.Sorted.{hasKey}
 use Rattle.cow.specs.Marked.{pageOf, pageKey, soundMarked, MarkedDid, fullOfPages, markCow, unmarkCow, isCow}
 use Rattle.cow.specs.Packed.{markedIn, markedOut, markedFit, MarkedBytes, markedBytes, onMarked}
 use Rattle.cow.proofs.RoundTrip.{marked-back}
-use Rattle.fault.specs.Faults.{Faulting, faulting, FaultDid, isPresent, isWrite, isUser, isReserved, isFetch, asTaken, rawFrame, onlyError, inHeap, valid, mapFrame, demandPage, temporary}
-use Rattle.fault.specs.Faults.{translated, clearedIfMapped, copied, copyPage, copyTo, copyOnWrite, soundFaulting, unmarking, handled, handleFault}
+use Rattle.error_code.specs.ErrorCode.{isPresent, isWrite, isUser, isReserved, isFetch}
+use Rattle.copying.specs.Copying.{asTaken, rawFrame, onlyError, mapFrame, temporary, translated, clearedIfMapped, copied, copyPage, copyTo, copyOnWrite}
+use Rattle.fault.specs.Faults.{inHeap, valid, demandPage, Faulting, faulting, FaultDid, soundFaulting, unmarking, handled, handleFault}
 use Rattle.fault.specs.Packed.{onPages}
 use Rattle.handler.specs.Handler.{overwrite, putOver, mapOver, handleFaultSecond}
-use Rattle.layout.specs.Parts.{fieldsIn, fieldsOut, framesFit}
+use Rattle.layout.specs.Parts.{fieldsIn, fieldsOut, fieldsFit}
 use Rattle.layout.specs.Left.{left, brokenLine, IsRefusal, Unchanged, noLeftovers, faultLeftovers, secondLeftovers}
-use Rattle.layout.specs.Memory.{plainLine, memoryParts}
-use Rattle.layout.proofs.Left.{broken-left, unchanged-left, FramesBytes, fields-same, bits-same, memory-unchanged, list-met}
+use Rattle.layout.specs.Memory.{ListParts, listParts, plainLine, memoryParts}
+use Rattle.layout.proofs.Left.{broken-left, unchanged-left, fields-same, memory-unchanged, list-met}
 use Rattle.layout.proofs.Numbers.{Listed, make-listed}
-use Rattle.desk_faults.specs.Faults.{leftMarked, packedMarkCow, packedUnmarkCow, packedIsCow, FaultParts, faultParts, faultFit, faultPacked, onFault, packedFault, packedFaultSecond}
+use Rattle.desk_faults.specs.Faults.{leftMarked, packedMarkCow, packedUnmarkCow, packedIsCow, faultFit, faultPacked, onFault, packedFault, packedFaultSecond}
 
 -- ---- the marked pages
 
@@ -69,27 +69,27 @@ cow-did marked addr e r = r ∙ ap flagLine e ∙ told-of flagLine (markedFit ma
 -- ---- the first fault path
 
 module _ (call : Faulting → FaultDid) (words fields bits marked : List ℕ) where
-  abbrev faultLent : FaultParts
-  faultLent = faultParts words fields bits marked
+  abbrev faultLent : ListParts
+  faultLent = listParts words fields bits marked
 
-  pub fault-broken : {r : Line} → framesFit fields bits ≡ false → r ≡ brokenLine → left r faultLent ≡ onFault call faultLent
+  pub fault-broken : {r : Line} → fieldsFit fields ≡ false → r ≡ brokenLine → left r faultLent ≡ onFault call faultLent
   unfolding onFault
   fault-broken h e = broken-left {ok = faultFit faultLent} faultLent _ (rw h refl) e
 
-  pub fault-met : {b bm ws fs bs ms : List ℕ} {f g : FrameAllocator} {x : Answer} {r : Line}
-      → framesFit fields bits ≡ true → FramesBytes fields bits → b ≡ unpack 128 bits → f ≡ fieldsIn fields
-      → kept x (lentMemory ws bm g) ms ≡ onPages call (lentMemory words b f) marked
-      → r ≡ answerLine x → fs ≡ fieldsOut g → bs ≡ pack bm → left r (faultParts ws fs bs ms) ≡ onFault call faultLent
+  pub fault-met : {ws fs ms : List ℕ} (bs : List ℕ) {f g : FrameAllocator} {x : Answer} {r : Line}
+      → fieldsFit fields ≡ true → Bytes fields → f ≡ fieldsIn fields
+      → kept x (lentMemory ws bs g) ms ≡ onPages call (lentMemory words bits f) marked
+      → r ≡ answerLine x → fs ≡ fieldsOut g → left r (listParts ws fs bs ms) ≡ onFault call faultLent
   unfolding onFault onPages
-  fault-met = list-met faultParts answerLine words fields bits marked (λ (m : Memory). onPages call m marked) (markedFit marked) (Refused brokenRecord) _ refl refl
+  fault-met = list-met answerLine words fields bits marked (λ (m : Memory). onPages call m marked) (markedFit marked) (Refused brokenRecord) _ refl refl
 
-  fault-unchanged : (leftovers : List ℕ) → FramesBytes fields bits → Bytes marked → ((s : Faulting) → IsRefusal leftovers (plainLine (call s .answer) .number) → call s .state ≡ s)
+  fault-unchanged : (leftovers : List ℕ) → Bytes fields → Bytes marked → ((s : Faulting) → IsRefusal leftovers (plainLine (call s .answer) .number) → call s .state ≡ s)
       → Unchanged leftovers faultLent (onFault call faultLent)
   unfolding onFault
   fault-unchanged leftovers b c law =
       unchanged-left leftovers (faultFit faultLent) faultLent _ (λ fit n.
-      let f = both-true (framesFit fields bits) (markedFit marked) fit in
-      ap faultPacked (law _ n) ∙ (λ j. faultParts words (fields-same fields bits (f .0) b j) (bits-same fields bits (f .0) b j) (marked-back marked (f .1) c j)))
+      let f = both-true (fieldsFit fields) (markedFit marked) fit in
+      ap faultPacked (law _ n) ∙ (λ j. listParts words (fields-same fields (f .0) b j) bits (marked-back marked (f .1) c j)))
 
 -- ---- refusals of the marked pages: 10, and 20 of mark_cow
 
@@ -217,8 +217,8 @@ second-clean up root addr code m =
     CleanSecond : Out → Type 0
     CleanSecond o = IsRefusal secondLeftovers (plainLine (o .walked) .number) → o .mem ≡ m
 
-module _ (words fields bits : List ℕ) (b : FramesBytes fields bits) (root addr code : ℕ) where
-  pub fault-refused : (marked : List ℕ) → Bytes marked → let p = faultParts words fields bits marked in Unchanged faultLeftovers p (packedFault p root addr code)
+module _ (words fields bits : List ℕ) (b : Bytes fields) (root addr code : ℕ) where
+  pub fault-refused : (marked : List ℕ) → Bytes marked → let p = listParts words fields bits marked in Unchanged faultLeftovers p (packedFault p root addr code)
   fault-refused marked c = fault-unchanged (λ (s : Faulting). handleFault aboveLast s root addr code) words fields bits marked faultLeftovers b c (fault-clean aboveLast root addr code)
 
   pub second-refused : let p = memoryParts words fields bits in Unchanged secondLeftovers p (packedFaultSecond p root addr code)

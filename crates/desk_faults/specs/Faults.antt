@@ -5,17 +5,16 @@ use mathlib.Core.List.{List}
 use Rattle.bits.specs.Bit.{unless, both}
 use Rattle.answer.specs.Numbers.{answerLine, flagLine}
 use Rattle.answer.specs.declared.Line.{Line}
-use Rattle.packed.specs.Words.{pack}
-use Rattle.paging.specs.Map.{Memory, memory}
+use Rattle.paging.specs.Map.{Memory}
 use Rattle.paging.specs.Levels.{aboveLast}
 use Rattle.slots.specs.Slots.{Slots}
 use Rattle.cow.specs.Marked.{MarkedDid, markCow, unmarkCow, isCow}
 use Rattle.cow.specs.Packed.{markedIn, markedOut, markedFit}
 use Rattle.fault.specs.Faults.{Faulting, faulting, FaultDid, handleFault}
 use Rattle.handler.specs.Handler.{handleFaultSecond}
-use Rattle.layout.specs.Parts.{framesIn, framesFit, fieldsOut}
+use Rattle.layout.specs.Parts.{fieldsFit}
 use Rattle.layout.specs.Left.{Left, left, brokenLine, unlessFit}
-use Rattle.layout.specs.Memory.{plainLine, MemoryParts, onMemory}
+use Rattle.layout.specs.Memory.{plainLine, MemoryParts, ListParts, listMemory, listPacked, onMemory}
 
 -- ---- the marked pages alone
 
@@ -31,30 +30,21 @@ packedUnmarkCow marked addr = leftMarked (λ (s : Slots ℕ). unmarkCow s addr) 
 abbrev pub packedIsCow : List ℕ → ℕ → Line
 packedIsCow marked addr = unless (markedFit marked) brokenLine (flagLine (isCow (markedIn marked) addr))
 
--- ---- the words, the frame record, its bitmap and the marked pages
+-- ---- the first fault path: the list is that of the marked pages
 
-pub record FaultParts : Type 0 where
-  pub words : List ℕ
-  pub fields : List ℕ
-  pub bits : List ℕ
-  pub marked : List ℕ
+abbrev pub faultFit : ListParts → Bool
+faultFit p = both (fieldsFit (p .fields)) (markedFit (p .list))
 
-abbrev pub faultParts : List ℕ → List ℕ → List ℕ → List ℕ → FaultParts
-faultParts w f b m = record { words = w; fields = f; bits = b; marked = m }
+abbrev pub faultingIn : ListParts → Faulting
+faultingIn p = faulting (listMemory p) (markedIn (p .list))
 
-abbrev pub faultFit : FaultParts → Bool
-faultFit p = both (framesFit (p .fields) (p .bits)) (markedFit (p .marked))
+abbrev pub faultPacked : Faulting → ListParts
+faultPacked s = listPacked (s .mem) (markedOut (s .marked))
 
-abbrev pub faultingIn : FaultParts → Faulting
-faultingIn p = faulting (memory (p .words) (framesIn (p .fields) (p .bits))) (markedIn (p .marked))
-
-abbrev pub faultPacked : Faulting → FaultParts
-faultPacked s = faultParts (s .mem .words) (fieldsOut (s .mem .frames .fa)) (pack (s .mem .frames .bits)) (markedOut (s .marked))
-
-unfoldable pub onFault : (Faulting → FaultDid) → FaultParts → Left FaultParts
+unfoldable pub onFault : (Faulting → FaultDid) → ListParts → Left ListParts
 onFault call p = unlessFit (faultFit p) p (left (plainLine (call (faultingIn p) .answer)) (faultPacked (call (faultingIn p) .state)))
 
-abbrev pub packedFault : FaultParts → ℕ → ℕ → ℕ → Left FaultParts
+abbrev pub packedFault : ListParts → ℕ → ℕ → ℕ → Left ListParts
 packedFault p root addr code = onFault (λ (s : Faulting). handleFault aboveLast s root addr code) p
 
 -- the second path: no marked pages

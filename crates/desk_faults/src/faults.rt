@@ -2,12 +2,12 @@
 use address::Frame;
 use address::VirtAddr;
 use answer::Line;
-use layout::lengths;
+use frame::Marks;
 use layout::parts;
 ghost use mathlib.Core.Path.{_≡_};
 ghost use Rattle.layout.specs.Left.{left, Unchanged, noLeftovers, faultLeftovers, secondLeftovers};
-ghost use Rattle.layout.specs.Memory.{memoryParts};
-ghost use Rattle.desk_faults.specs.Faults.{packedMarkCow, packedUnmarkCow, packedIsCow, faultParts, packedFault, packedFaultSecond};
+ghost use Rattle.layout.specs.Memory.{listParts, memoryParts};
+ghost use Rattle.desk_faults.specs.Faults.{packedMarkCow, packedUnmarkCow, packedIsCow, packedFault, packedFaultSecond};
 
 #[no_mangle]
 pub extern "C" fn gadulnos_mark_cow(marked: &mut [u8], addr: u64) -> Line
@@ -41,25 +41,24 @@ pub extern "C" fn gadulnos_is_cow(marked: &[u8], addr: u64) -> Line
 pub extern "C" fn gadulnos_handle_page_fault(
     words: &mut [u64],
     fields: &mut [u8],
-    bits: &mut [u8],
+    bits: &mut Marks,
     root: u64,
     marked: &mut [u8],
     addr: u64,
     code: u64,
 ) -> Line
-    ensures { λ r. ⌜ left r (faultParts (now (words .exit)) (now (fields .exit)) (now (bits .exit)) (now (marked .exit)))
-        ≡ packedFault (faultParts (now (words .entry)) (now (fields .entry)) (now (bits .entry)) (now (marked .entry))) root addr code ⌝ }
-    ensures refused { λ r. ⌜ Unchanged faultLeftovers (faultParts (now (words .entry)) (now (fields .entry)) (now (bits .entry)) (now (marked .entry)))
-        (left r (faultParts (now (words .exit)) (now (fields .exit)) (now (bits .exit)) (now (marked .exit)))) ⌝ }
+    ensures { λ r. ⌜ left r (listParts (now (words .exit)) (now (fields .exit)) (now (bits .exit)) (now (marked .exit)))
+        ≡ packedFault (listParts (now (words .entry)) (now (fields .entry)) (now (bits .entry)) (now (marked .entry))) root addr code ⌝ }
+    ensures refused { λ r. ⌜ Unchanged faultLeftovers (listParts (now (words .entry)) (now (fields .entry)) (now (bits .entry)) (now (marked .entry)))
+        (left r (listParts (now (words .exit)) (now (fields .exit)) (now (bits .exit)) (now (marked .exit)))) ⌝ }
 {
-    if !lengths::two(fields.len(), bits.len()) {
+    if fields.len() != parts::FIELDS_SIZE {
         return parts::broken();
     }
-    let mut bitmap = parts::get_bits(bits);
     let frames = parts::get_fields(fields);
     let did = fault::handle_page_fault(
         words,
-        &mut bitmap,
+        bits,
         frames,
         Frame(root),
         marked,
@@ -69,7 +68,6 @@ pub extern "C" fn gadulnos_handle_page_fault(
     let left = did.frames;
     let a = did.answer;
     parts::put_fields(fields, left);
-    parts::put_bits(bits, &bitmap);
     answer::answer_line(a)
 }
 
@@ -78,7 +76,7 @@ pub extern "C" fn gadulnos_handle_page_fault(
 pub extern "C" fn gadulnos_handle_page_fault_second(
     words: &mut [u64],
     fields: &mut [u8],
-    bits: &mut [u8],
+    bits: &mut Marks,
     root: u64,
     addr: u64,
     code: u64,
@@ -88,22 +86,13 @@ pub extern "C" fn gadulnos_handle_page_fault_second(
     ensures refused { λ r. ⌜ Unchanged secondLeftovers (memoryParts (now (words .entry)) (now (fields .entry)) (now (bits .entry)))
         (left r (memoryParts (now (words .exit)) (now (fields .exit)) (now (bits .exit)))) ⌝ }
 {
-    if !lengths::two(fields.len(), bits.len()) {
+    if fields.len() != parts::FIELDS_SIZE {
         return parts::broken();
     }
-    let mut bitmap = parts::get_bits(bits);
     let frames = parts::get_fields(fields);
-    let did = handler::handle_page_fault(
-        words,
-        &mut bitmap,
-        frames,
-        Frame(root),
-        VirtAddr(addr),
-        code,
-    );
+    let did = handler::handle_page_fault(words, bits, frames, Frame(root), VirtAddr(addr), code);
     let left = did.frames;
     let a = did.answer;
     parts::put_fields(fields, left);
-    parts::put_bits(bits, &bitmap);
     answer::answer_line(a)
 }

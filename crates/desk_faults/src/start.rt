@@ -5,28 +5,17 @@ use answer::Line;
 use board::Records;
 use frame::FrameAllocator;
 use frame::Marks;
-use layout::lengths;
 use layout::parts;
 ghost use mathlib.Core.Path.{_≡_};
 ghost use lib.ListN.{length};
-ghost use Rattle.packed.specs.Words.{pack};
-ghost use Rattle.layout.specs.Parts.{fieldsSize, bitsSize, fieldsOut};
+ghost use Rattle.layout.specs.Parts.{fieldsSize, fieldsOut};
 ghost use Rattle.layout.specs.Left.{left, Unchanged, noLeftovers};
 ghost use Rattle.desk_faults.specs.Board.{boardParts, leftOf, packedStart};
 
-// The frame record, its bitmap and the root that a start leaves: only a met one writes them.
-fn put_records(
-    fields: &mut [u8],
-    bits: &mut [u8],
-    root: &mut u64,
-    bitmap: &Marks,
-    a: Answer,
-    left: Records,
-)
+// The frame record and the root that a start leaves: only a met one writes them.
+fn put_records(fields: &mut [u8], root: &mut u64, a: Answer, left: Records)
     requires { ⌜ length (now fields) ≡ fieldsSize ⌝ }
-    requires { ⌜ length (now bits) ≡ bitsSize ⌝ }
     ensures { λ _. ⌜ now (fields .exit) ≡ leftOf a (now (fields .entry)) (fieldsOut (left .frames)) ⌝ }
-    ensures { λ _. ⌜ now (bits .exit) ≡ leftOf a (now (bits .entry)) (pack (now (bitmap .entry))) ⌝ }
     ensures { λ _. ⌜ now (root .exit) ≡ leftOf a (now (root .entry)) (left .root .0) ⌝ }
 {
     match a {
@@ -34,19 +23,18 @@ fn put_records(
             let frames = left.frames;
             let first = left.root;
             parts::put_fields(fields, frames);
-            parts::put_bits(bits, bitmap);
             *root = first.0;
         }
         Answer::Refused(_) => {}
     }
 }
 
-// What the parts held before does not matter to a start, which is given a record and a bitmap of no frames.
+// What the record held before does not matter to a start, which is given one of no frames.
 #[no_mangle]
 pub extern "C" fn gadulnos_start(
     words: &mut [u64],
     fields: &mut [u8],
-    bits: &mut [u8],
+    bits: &mut Marks,
     root: &mut u64,
     kernel: &mut [u8],
     user: &mut [u8],
@@ -63,17 +51,16 @@ pub extern "C" fn gadulnos_start(
         (left r (boardParts (now (words .exit)) (now (fields .exit)) (now (bits .exit)) (now (root .exit))
         (now (kernel .exit)) (now (user .exit)) (now (marked .exit)))) ⌝ }
 {
-    if !lengths::two(fields.len(), bits.len()) {
+    if fields.len() != parts::FIELDS_SIZE {
         return parts::broken();
     }
-    let mut bitmap = [0u64; 128];
     let none = Records {
         frames: FrameAllocator::new(),
         root: Frame(0),
     };
-    let did = board::start(words, &mut bitmap, kernel, user, marked, none, from, to);
+    let did = board::start(words, bits, kernel, user, marked, none, from, to);
     let a = did.answer;
     let left = did.records;
-    put_records(fields, bits, root, &bitmap, a, left);
+    put_records(fields, root, a, left);
     answer::answer_line(a)
 }

@@ -13,9 +13,10 @@ use Rattle.answer.specs.declared.Line.{Line}
 use Rattle.address.specs.Address.{aligned, frameLine, asFrame}
 use Rattle.address.specs.declared.FrameAnswer.{FrameAnswer}
 use Rattle.entry.specs.Entry.{indices}
-use Rattle.packed.specs.Words.{pack, unpack}
+use Rattle.packed.proofs.RoundTrip.{Bytes}
+use Rattle.bitmap.specs.Bitmap.{marksIn}
 use Rattle.frame.specs.declared.FrameAllocator.{FrameAllocator}
-use Rattle.frame.specs.Frames.{Frames, frames, FramesDid, inside, sound, init, markAllocated, allocate, deallocate}
+use Rattle.frame.specs.Frames.{Frames, lentFrames, FramesDid, inside, sound, init, markAllocated, allocate, deallocate}
 use Rattle.frame.proofs.Laws.{init-cases, take-cases}
 use Rattle.answer.specs.declared.Outcome.{Outcome}
 use Rattle.answer.specs.declared.Outcome.the-variants.{Value, Stop}
@@ -24,54 +25,53 @@ use Rattle.paging.specs.Levels.{aboveLast, levels}
 use Rattle.paging.specs.Walk.{mayWalk, place, reach}
 use Rattle.paging.specs.Map.{Memory, Out, Left as Stored, left as stored, takeLeaf, unmapEntry}
 use Rattle.paging.specs.Calls.{whole, mapPage, sizeOf, tablesAbove, mapHuge, unmapPage}
-use Rattle.layout.specs.Parts.{fieldsIn, fieldsOut, framesIn, framesFit}
+use Rattle.layout.specs.Parts.{fieldsIn, fieldsOut, fieldsFit}
 use Rattle.layout.specs.Left.{left, brokenLine, IsRefusal, Unchanged, noLeftovers, tableLeftovers}
 use Rattle.layout.specs.Memory.{plainLine, memoryParts}
-use Rattle.layout.proofs.Left.{broken-left, met-left, broken-line, met-line, unchanged-left, FramesBytes, fields-same, bits-same, memory-unchanged}
+use Rattle.layout.proofs.Left.{broken-left, met-left, broken-line, met-line, unchanged-left, fields-same, memory-unchanged}
 use Rattle.layout.proofs.Numbers.{map-listed}
 use Rattle.desk_memory.specs.Memory.{framesParts, framesPacked, onFrames, readFrames, packedMapPage, packedMapHuge, leftUnmap}
 
 -- ---- the frame record and its bitmap
 
 module _ {A : Type 0} (said : A → Line) (call : Frames → FramesDid A) (fields bits : List ℕ) where
-  pub frames-broken : {r : Line} → framesFit fields bits ≡ false → r ≡ brokenLine → left r (framesParts fields bits) ≡ onFrames said call (framesParts fields bits)
+  pub frames-broken : {r : Line} → fieldsFit fields ≡ false → r ≡ brokenLine → left r (framesParts fields bits) ≡ onFrames said call (framesParts fields bits)
   unfolding onFrames
   frames-broken h e = broken-left (framesParts fields bits) _ h e
 
   -- `of` is what code returns of a call, `line` and `fa` its parts
   pub frames-met : {X : Type 0} (of : FramesDid A → X) (line : X → Line) (fa : X → FrameAllocator)
       → ((d : FramesDid A) → (line (of d) ≡ said (d .answer)) × (fa (of d) ≡ d .frames .fa))
-      → {b bm fs bs : List ℕ} {f : FrameAllocator} {x : X} {r : Line} → framesFit fields bits ≡ true → b ≡ unpack 128 bits → f ≡ fieldsIn fields
-      → let d = call (frames b f) in (x ≡ of d) × (bm ≡ d .frames .bits)
-      → r ≡ line x → fs ≡ fieldsOut (fa x) → bs ≡ pack bm → left r (framesParts fs bs) ≡ onFrames said call (framesParts fields bits)
+      → {fs : List ℕ} (bs : List ℕ) {f : FrameAllocator} {x : X} {r : Line} → fieldsFit fields ≡ true → f ≡ fieldsIn fields
+      → let d = call (lentFrames bits f) in (x ≡ of d) × (marksIn bs ≡ d .frames .bits)
+      → r ≡ line x → fs ≡ fieldsOut (fa x) → left r (framesParts fs bs) ≡ onFrames said call (framesParts fields bits)
   unfolding onFrames
-  frames-met {X} of line fa parts h e f (x, y) r fs bs =
-      let same : _≡_ {A = FramesDid A} (call (frames _ _)) (call (framesIn fields bits)) = λ j. call (frames (e j) (f j)) in
+  frames-met {X} of line fa parts bs h f (x, y) r fs =
+      let same : _≡_ {A = FramesDid A} (call (lentFrames bits _)) (call (lentFrames bits (fieldsIn fields))) = λ j. call (lentFrames bits (f j)) in
       let p = x ∙ ap of same in
-      let d = call (framesIn fields bits) in
+      let d = call (lentFrames bits (fieldsIn fields)) in
       let l = r ∙ ap line p ∙ parts d .0 in
       let g = fs ∙ ap (λ (x : X). fieldsOut (fa x)) p ∙ ap fieldsOut (parts d .1) in
-      let k = bs ∙ ap pack (y ∙ ap (λ (d : FramesDid A). d .frames .bits) same) in
-      met-left (framesParts fields bits) h (λ j. left (l j) (framesParts (g j) (k j)))
+      let k = y ∙ ap (λ (d : FramesDid A). d .frames .bits) same in
+      met-left (framesParts fields bits) h (λ j. left (l j) (record { fields = g j; marks = k j }))
 
-  pub frames-unchanged : (leftovers : List ℕ) → FramesBytes fields bits → ((fr : Frames) → IsRefusal leftovers (said (call fr .answer) .number) → call fr .frames ≡ fr)
+  pub frames-unchanged : (leftovers : List ℕ) → Bytes fields → ((fr : Frames) → IsRefusal leftovers (said (call fr .answer) .number) → call fr .frames ≡ fr)
       → Unchanged leftovers (framesParts fields bits) (onFrames said call (framesParts fields bits))
   unfolding onFrames
   frames-unchanged leftovers b law =
-      unchanged-left leftovers (framesFit fields bits) (framesParts fields bits) _ (λ fit n.
-      ap framesPacked (law _ n) ∙ (λ j. framesParts (fields-same fields bits fit b j) (bits-same fields bits fit b j)))
+      unchanged-left leftovers (fieldsFit fields) (framesParts fields bits) _ (λ fit n. ap framesPacked (law _ n) ∙ (λ j. framesParts (fields-same fields fit b j) bits))
 
 -- .. that are only read
 
 module _ {A : Type 0} (said : A → Line) (call : Frames → A) (fields bits : List ℕ) where
-  pub read-broken : {r : Line} → framesFit fields bits ≡ false → r ≡ brokenLine → r ≡ readFrames said call (framesParts fields bits)
+  pub read-broken : {r : Line} → fieldsFit fields ≡ false → r ≡ brokenLine → r ≡ readFrames said call (framesParts fields bits)
   unfolding readFrames
   read-broken h e = broken-line _ h e
 
-  pub read-met : {b : List ℕ} {f : FrameAllocator} {x : A} {r : Line} → framesFit fields bits ≡ true → b ≡ unpack 128 bits → f ≡ fieldsIn fields → x ≡ call (frames b f) → r ≡ said x
+  pub read-met : {f : FrameAllocator} {x : A} {r : Line} → fieldsFit fields ≡ true → f ≡ fieldsIn fields → x ≡ call (lentFrames bits f) → r ≡ said x
       → r ≡ readFrames said call (framesParts fields bits)
   unfolding readFrames
-  read-met h e f x r = met-line h (r ∙ ap said (x ∙ (λ j. call (frames (e j) (f j)))))
+  read-met h f x r = met-line h (r ∙ ap said (x ∙ (λ j. call (lentFrames bits (f j)))))
 
 -- ---- refusals of the frame allocator: 10, and 11 of allocate_frame
 
@@ -112,7 +112,7 @@ module _ (up : ℕ) (root v p : ℕ) (w u : Bool) (m : Memory) where
       pick-cases Clean (both (aligned v (sizeOf s)) (aligned p (sizeOf s))) _ _ (λ _ h. absurd (map-listed u m root (take (tablesAbove up s) (indices (suc up) v)) _ _ h)) (λ _ _. refl))
       (λ _ _. refl)
 
-module _ (words fields bits : List ℕ) (b : FramesBytes fields bits) (root v p : ℕ) (w u : Bool) where
+module _ (words fields bits : List ℕ) (b : Bytes fields) (root v p : ℕ) (w u : Bool) where
   pub map-refused : Unchanged tableLeftovers (memoryParts words fields bits) (packedMapPage (memoryParts words fields bits) root v p w u)
   map-refused = memory-unchanged (λ (m : Memory). mapPage aboveLast m root v p w u) words fields bits tableLeftovers b (λ m. map-clean aboveLast root v p w u m)
 

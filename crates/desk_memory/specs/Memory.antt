@@ -6,37 +6,37 @@ use Rattle.bits.specs.Bit.{unless}
 use Rattle.answer.specs.Numbers.{answerLine, countLine, flagLine}
 use Rattle.answer.specs.declared.Line.{Line}
 use Rattle.address.specs.Address.{frameLine, physLine, asFrame, asPhys}
-use Rattle.packed.specs.Words.{pack}
+use Rattle.bitmap.specs.Bitmap.{marksIn}
 use Rattle.frame.specs.Frames.{Frames, FramesDid, init, isAllocated, markAllocated, allocate, deallocate, freeFrames, allocatedFrames, totalFrames}
 use Rattle.paging.specs.declared.HugePageSize.{HugePageSize}
 use Rattle.paging.specs.declared.HugePageSize.the-variants.{Size2MB, Size1GB}
 use Rattle.paging.specs.Map.{Memory}
 use Rattle.paging.specs.Calls.{translate, userMay, mapPage, mapHuge, unmapPage}
 use Rattle.paging.specs.Levels.{aboveLast}
-use Rattle.layout.specs.Parts.{framesIn, framesFit, fieldsOut}
+use Rattle.layout.specs.Parts.{framesIn, fieldsFit, fieldsOut}
 use Rattle.layout.specs.Left.{Left, left, brokenLine, unlessFit}
 use Rattle.layout.specs.Memory.{MemoryParts, onMemory}
 
--- ---- the frame record and its bitmap
+-- ---- the bytes of the frame record, and the words that its bitmap's 1024 bytes stand for
 
 pub record FramesParts : Type 0 where
   pub fields : List ℕ
-  pub bits : List ℕ
+  pub marks : List ℕ
 
 abbrev pub framesParts : List ℕ → List ℕ → FramesParts
-framesParts f b = record { fields = f; bits = b }
+framesParts f b = record { fields = f; marks = marksIn b }
 
 abbrev pub framesPacked : Frames → FramesParts
-framesPacked fr = framesParts (fieldsOut (fr .fa)) (pack (fr .bits))
+framesPacked fr = record { fields = fieldsOut (fr .fa); marks = fr .bits }
 
 unfoldable pub onFrames : {A : Type 0} → (A → Line) → (Frames → FramesDid A) → FramesParts → Left FramesParts
 onFrames line call p =
-    unlessFit (framesFit (p .fields) (p .bits)) p
-    (left (line (call (framesIn (p .fields) (p .bits)) .answer)) (framesPacked (call (framesIn (p .fields) (p .bits)) .frames)))
+    unlessFit (fieldsFit (p .fields)) p
+    (left (line (call (framesIn (p .fields) (p .marks)) .answer)) (framesPacked (call (framesIn (p .fields) (p .marks)) .frames)))
 
 -- .. that are only read
 unfoldable pub readFrames : {A : Type 0} → (A → Line) → (Frames → A) → FramesParts → Line
-readFrames line call p = unless (framesFit (p .fields) (p .bits)) brokenLine (line (call (framesIn (p .fields) (p .bits))))
+readFrames line call p = unless (fieldsFit (p .fields)) brokenLine (line (call (framesIn (p .fields) (p .marks))))
 
 abbrev pub packedInit : FramesParts → ℕ → ℕ → Left FramesParts
 packedInit p from to = onFrames answerLine (λ (fr : Frames). init fr from to) p

@@ -3,7 +3,7 @@ use address::Frame;
 use address::PhysAddr;
 use address::VirtAddr;
 use answer::Line;
-use layout::lengths;
+use frame::Marks;
 use layout::parts;
 use paging::HugePageSize;
 ghost use mathlib.Core.Path.{_≡_};
@@ -43,7 +43,7 @@ pub extern "C" fn gadulnos_user_may(
 pub extern "C" fn gadulnos_map_page(
     words: &mut [u64],
     fields: &mut [u8],
-    bits: &mut [u8],
+    bits: &mut Marks,
     root: u64,
     virt: u64,
     phys: u64,
@@ -55,14 +55,13 @@ pub extern "C" fn gadulnos_map_page(
     ensures refused { λ r. ⌜ Unchanged tableLeftovers (memoryParts (now (words .entry)) (now (fields .entry)) (now (bits .entry)))
         (left r (memoryParts (now (words .exit)) (now (fields .exit)) (now (bits .exit)))) ⌝ }
 {
-    if !lengths::two(fields.len(), bits.len()) {
+    if fields.len() != parts::FIELDS_SIZE {
         return parts::broken();
     }
-    let mut bitmap = parts::get_bits(bits);
     let frames = parts::get_fields(fields);
     let did = mapper::map_page(
         words,
-        &mut bitmap,
+        bits,
         frames,
         Frame(root),
         VirtAddr(virt),
@@ -73,7 +72,6 @@ pub extern "C" fn gadulnos_map_page(
     let left = did.frames;
     let a = did.answer;
     parts::put_fields(fields, left);
-    parts::put_bits(bits, &bitmap);
     answer::answer_line(a)
 }
 
@@ -104,7 +102,7 @@ pub extern "C" fn gadulnos_huge_alignment(gigabyte: bool) -> u64
 pub extern "C" fn gadulnos_map_huge_page(
     words: &mut [u64],
     fields: &mut [u8],
-    bits: &mut [u8],
+    bits: &mut Marks,
     root: u64,
     virt: u64,
     phys: u64,
@@ -117,15 +115,14 @@ pub extern "C" fn gadulnos_map_huge_page(
     ensures refused { λ r. ⌜ Unchanged tableLeftovers (memoryParts (now (words .entry)) (now (fields .entry)) (now (bits .entry)))
         (left r (memoryParts (now (words .exit)) (now (fields .exit)) (now (bits .exit)))) ⌝ }
 {
-    if !lengths::two(fields.len(), bits.len()) {
+    if fields.len() != parts::FIELDS_SIZE {
         return parts::broken();
     }
-    let mut bitmap = parts::get_bits(bits);
     let frames = parts::get_fields(fields);
     let size = huge_size(gigabyte);
     let did = mapper::map_huge_page(
         words,
-        &mut bitmap,
+        bits,
         frames,
         Frame(root),
         VirtAddr(virt),
@@ -137,7 +134,6 @@ pub extern "C" fn gadulnos_map_huge_page(
     let left = did.frames;
     let a = did.answer;
     parts::put_fields(fields, left);
-    parts::put_bits(bits, &bitmap);
     answer::answer_line(a)
 }
 

@@ -13,7 +13,6 @@ use Rattle.answer.specs.declared.Outcome.{Outcome}
 use Rattle.answer.specs.declared.Outcome.the-variants.{Value, Stop}
 use Rattle.answer.specs.declared.Line.{Line}
 use Rattle.address.specs.Address.{virtLine, asVirt}
-use Rattle.packed.specs.Words.{pack, unpack}
 use Rattle.packed.proofs.RoundTrip.{Bytes}
 use Rattle.frame.specs.declared.FrameAllocator.{FrameAllocator}
 use Rattle.paging.specs.Levels.{aboveLast}
@@ -32,13 +31,13 @@ use Rattle.mmap.specs.declared.OptAddr.{OptAddr}
 use Rattle.mmap.specs.Flags.{writable}
 use Rattle.mmap.specs.Calls.{User, UserDid, soundUser, onPage, chosen, full, userPages, userMapped, userPlaced, userSized, unmapped, mmap, munmap}
 use Rattle.mmap.specs.Packed.{keptUser, onMmapList}
-use Rattle.layout.specs.Parts.{fieldsIn, fieldsOut, framesFit}
+use Rattle.layout.specs.Parts.{fieldsIn, fieldsOut, fieldsFit}
 use Rattle.layout.specs.Left.{left, brokenLine, IsRefusal, Unchanged, noLeftovers, regionLeftovers}
-use Rattle.layout.specs.Memory.{plainLine}
+use Rattle.layout.specs.Memory.{ListParts, listParts, plainLine}
 use Rattle.layout.proofs.Fit.{fit-other}
-use Rattle.layout.proofs.Left.{broken-left, unchanged-left, FramesBytes, fields-same, bits-same, list-met}
+use Rattle.layout.proofs.Left.{broken-left, unchanged-left, fields-same, list-met}
 use Rattle.layout.proofs.Numbers.{pages-listed}
-use Rattle.desk_regions.specs.Regions.{addressLine, KernelParts, kernelParts, kernelFit, kernelIn, kernelPacked, onKernel, UserParts, userParts, userFit, userIn, userPacked, onUser}
+use Rattle.desk_regions.specs.Regions.{addressLine, kernelFit, kernelIn, kernelPacked, onKernel, userFit, userIn, userPacked, onUser}
 use Rattle.desk_regions.specs.Regions.{packedVmalloc, packedVfree, packedMmap, packedMunmap}
 
 -- what is worked out for a call beside its parts
@@ -48,62 +47,62 @@ all-three e f g = λ j. (e j, (f j, g j))
 -- ---- vmalloc and vfree
 
 module _ {A : Type 0} (form : Outcome → A) (line : A → Line) (call : Kernel → KernelDid) (words fields bits list : List ℕ) where
-  abbrev kernelLent : KernelParts
-  kernelLent = kernelParts words fields bits list
+  abbrev kernelLent : ListParts
+  kernelLent = listParts words fields bits list
 
   abbrev kernelSaid : Outcome → Line
   kernelSaid a = line (form a)
 
-  pub kernel-broken : {r : Line} → framesFit fields bits ≡ false → r ≡ brokenLine → left r kernelLent ≡ onKernel kernelSaid call kernelLent
+  pub kernel-broken : {r : Line} → fieldsFit fields ≡ false → r ≡ brokenLine → left r kernelLent ≡ onKernel kernelSaid call kernelLent
   unfolding onKernel
-  kernel-broken h e = broken-left kernelLent _ (sym (fit-other (framesFit fields bits) (vmFit list) h)) e
+  kernel-broken h e = broken-left kernelLent _ (sym (fit-other (fieldsFit fields) (vmFit list) h)) e
 
-  pub kernel-met : kernelSaid (Stop brokenRecord) ≡ brokenLine → {b bm ws fs bs ls : List ℕ} {f g : FrameAllocator} {x : A} {r : Line}
-      → framesFit fields bits ≡ true → FramesBytes fields bits → b ≡ unpack 128 bits → f ≡ fieldsIn fields
-      → kept x (lentMemory ws bm g) ls ≡ onVmList form call (lentMemory words b f) list
-      → r ≡ line x → fs ≡ fieldsOut g → bs ≡ pack bm → left r (kernelParts ws fs bs ls) ≡ onKernel kernelSaid call kernelLent
+  pub kernel-met : kernelSaid (Stop brokenRecord) ≡ brokenLine → {ws fs ls : List ℕ} (bs : List ℕ) {f g : FrameAllocator} {x : A} {r : Line}
+      → fieldsFit fields ≡ true → Bytes fields → f ≡ fieldsIn fields
+      → kept x (lentMemory ws bs g) ls ≡ onVmList form call (lentMemory words bits f) list
+      → r ≡ line x → fs ≡ fieldsOut g → left r (listParts ws fs bs ls) ≡ onKernel kernelSaid call kernelLent
   unfolding onKernel onVmList
   kernel-met e =
-      list-met kernelParts line words fields bits list (λ (m : Memory). onVmList form call m list) (vmFit list) (form (Stop brokenRecord))
+      list-met line words fields bits list (λ (m : Memory). onVmList form call m list) (vmFit list) (form (Stop brokenRecord))
       (keptKernel form (call (kernelIn kernelLent))) e refl
 
-  kernel-unchanged : (leftovers : List ℕ) → FramesBytes fields bits → Bytes list
+  kernel-unchanged : (leftovers : List ℕ) → Bytes fields → Bytes list
       → ((k : Kernel) → IsRefusal leftovers (kernelSaid (call k .answer) .number) → call k .kernel ≡ k) → Unchanged leftovers kernelLent (onKernel kernelSaid call kernelLent)
   unfolding onKernel
   kernel-unchanged leftovers b c law =
       unchanged-left leftovers (kernelFit kernelLent) kernelLent _ (λ fit n.
-      let f = both-true (framesFit fields bits) (vmFit list) fit in
-      ap kernelPacked (law _ n) ∙ (λ j. kernelParts words (fields-same fields bits (f .0) b j) (bits-same fields bits (f .0) b j) (vm-back list (f .1) c j)))
+      let f = both-true (fieldsFit fields) (vmFit list) fit in
+      ap kernelPacked (law _ n) ∙ (λ j. listParts words (fields-same fields (f .0) b j) bits (vm-back list (f .1) c j)))
 
 -- ---- mmap and munmap
 
 module _ {A : Type 0} (form : Outcome → A) (line : A → Line) (call : User → UserDid) (words fields bits list : List ℕ) where
-  abbrev userLent : UserParts
-  userLent = userParts words fields bits list
+  abbrev userLent : ListParts
+  userLent = listParts words fields bits list
 
   abbrev userSaid : Outcome → Line
   userSaid a = line (form a)
 
-  pub user-broken : {r : Line} → framesFit fields bits ≡ false → r ≡ brokenLine → left r userLent ≡ onUser userSaid call userLent
+  pub user-broken : {r : Line} → fieldsFit fields ≡ false → r ≡ brokenLine → left r userLent ≡ onUser userSaid call userLent
   unfolding onUser
-  user-broken h e = broken-left userLent _ (sym (fit-other (framesFit fields bits) (mmapFit list) h)) e
+  user-broken h e = broken-left userLent _ (sym (fit-other (fieldsFit fields) (mmapFit list) h)) e
 
-  pub user-met : userSaid (Stop brokenRecord) ≡ brokenLine → {b bm ws fs bs ls : List ℕ} {f g : FrameAllocator} {x : A} {r : Line}
-      → framesFit fields bits ≡ true → FramesBytes fields bits → b ≡ unpack 128 bits → f ≡ fieldsIn fields
-      → kept x (lentMemory ws bm g) ls ≡ onMmapList form call (lentMemory words b f) list
-      → r ≡ line x → fs ≡ fieldsOut g → bs ≡ pack bm → left r (userParts ws fs bs ls) ≡ onUser userSaid call userLent
+  pub user-met : userSaid (Stop brokenRecord) ≡ brokenLine → {ws fs ls : List ℕ} (bs : List ℕ) {f g : FrameAllocator} {x : A} {r : Line}
+      → fieldsFit fields ≡ true → Bytes fields → f ≡ fieldsIn fields
+      → kept x (lentMemory ws bs g) ls ≡ onMmapList form call (lentMemory words bits f) list
+      → r ≡ line x → fs ≡ fieldsOut g → left r (listParts ws fs bs ls) ≡ onUser userSaid call userLent
   unfolding onUser onMmapList
   user-met e =
-      list-met userParts line words fields bits list (λ (m : Memory). onMmapList form call m list) (mmapFit list) (form (Stop brokenRecord))
+      list-met line words fields bits list (λ (m : Memory). onMmapList form call m list) (mmapFit list) (form (Stop brokenRecord))
       (keptUser form (call (userIn userLent))) e refl
 
-  user-unchanged : (leftovers : List ℕ) → FramesBytes fields bits → Bytes list
+  user-unchanged : (leftovers : List ℕ) → Bytes fields → Bytes list
       → ((u : User) → IsRefusal leftovers (userSaid (call u .answer) .number) → call u .user ≡ u) → Unchanged leftovers userLent (onUser userSaid call userLent)
   unfolding onUser
   user-unchanged leftovers b c law =
       unchanged-left leftovers (userFit userLent) userLent _ (λ fit n.
-      let f = both-true (framesFit fields bits) (mmapFit list) fit in
-      ap userPacked (law _ n) ∙ (λ j. userParts words (fields-same fields bits (f .0) b j) (bits-same fields bits (f .0) b j) (mmap-back list (f .1) c j)))
+      let f = both-true (fieldsFit fields) (mmapFit list) fit in
+      ap userPacked (law _ n) ∙ (λ j. listParts words (fields-same fields (f .0) b j) bits (mmap-back list (f .1) c j)))
 
 -- ---- refusals of vmalloc: 10, 1, 3 and 15; 11 and 13 have leftovers
 
@@ -143,11 +142,11 @@ module _ (up : ℕ) (root addr : ℕ) (k : Kernel) where
       by (Value n) h = absurd (h refl)
       by (Stop e) h = refl
 
-module _ (words fields bits list : List ℕ) (b : FramesBytes fields bits) (c : Bytes list) (root : ℕ) where
-  pub vmalloc-refused : (size : ℕ) → let p = kernelParts words fields bits list in Unchanged regionLeftovers p (packedVmalloc p root size)
+module _ (words fields bits list : List ℕ) (b : Bytes fields) (c : Bytes list) (root : ℕ) where
+  pub vmalloc-refused : (size : ℕ) → let p = listParts words fields bits list in Unchanged regionLeftovers p (packedVmalloc p root size)
   vmalloc-refused size = kernel-unchanged asVirt virtLine (λ (k : Kernel). vmalloc aboveLast k root size) words fields bits list regionLeftovers b c (vmalloc-clean aboveLast root size)
 
-  pub vfree-refused : (addr : ℕ) → let p = kernelParts words fields bits list in Unchanged noLeftovers p (packedVfree p root addr)
+  pub vfree-refused : (addr : ℕ) → let p = listParts words fields bits list in Unchanged noLeftovers p (packedVfree p root addr)
   vfree-refused addr = kernel-unchanged asAnswer answerLine (λ (k : Kernel). vfree aboveLast k root addr) words fields bits list noLeftovers b c (vfree-clean aboveLast root addr)
 
 -- ---- refusals of mmap: 10, 1, 3, 2, 15 and 20; 11 and 13 have leftovers
@@ -189,10 +188,10 @@ module _ (up : ℕ) (root a size : ℕ) (u : User) where
       by (Value n) = pick-cases Clean (holds a n (listed (u .regions))) _ _ (λ _ h. absurd (h refl)) (λ _ _. refl)
       by (Stop e) = λ _. refl
 
-module _ (words fields bits list : List ℕ) (b : FramesBytes fields bits) (c : Bytes list) (root : ℕ) where
-  pub mmap-refused : (hint : OptAddr) (size : ℕ) (prot flags : ℤ) → let p = userParts words fields bits list in Unchanged regionLeftovers p (packedMmap p root hint size prot flags)
+module _ (words fields bits list : List ℕ) (b : Bytes fields) (c : Bytes list) (root : ℕ) where
+  pub mmap-refused : (hint : OptAddr) (size : ℕ) (prot flags : ℤ) → let p = listParts words fields bits list in Unchanged regionLeftovers p (packedMmap p root hint size prot flags)
   mmap-refused hint size prot flags =
       user-unchanged asVirt virtLine (λ (u : User). mmap aboveLast u root hint size prot flags) words fields bits list regionLeftovers b c (mmap-clean aboveLast root hint size prot flags)
 
-  pub munmap-refused : (addr size : ℕ) → let p = userParts words fields bits list in Unchanged noLeftovers p (packedMunmap p root addr size)
+  pub munmap-refused : (addr size : ℕ) → let p = listParts words fields bits list in Unchanged noLeftovers p (packedMunmap p root addr size)
   munmap-refused addr size = user-unchanged asAnswer answerLine (λ (u : User). munmap aboveLast u root addr size) words fields bits list noLeftovers b c (munmap-clean aboveLast root addr size)

@@ -2,34 +2,34 @@
 use address::Frame;
 use address::VirtAddr;
 use answer::Line;
-use layout::lengths;
+use frame::Marks;
 use layout::parts;
 ghost use mathlib.Core.Path.{_≡_};
 ghost use Rattle.vmalloc.specs.Calls.{isVmallocAddr};
+ghost use Rattle.layout.specs.Memory.{listParts};
 ghost use Rattle.layout.specs.Left.{left, Unchanged, noLeftovers, regionLeftovers};
-ghost use Rattle.desk_regions.specs.Regions.{kernelParts, packedVmalloc, packedVfree};
+ghost use Rattle.desk_regions.specs.Regions.{packedVmalloc, packedVfree};
 
 #[no_mangle]
 pub extern "C" fn gadulnos_vmalloc(
     words: &mut [u64],
     fields: &mut [u8],
-    bits: &mut [u8],
+    bits: &mut Marks,
     root: u64,
     list: &mut [u8],
     size: u64,
 ) -> Line
-    ensures { λ r. ⌜ left r (kernelParts (now (words .exit)) (now (fields .exit)) (now (bits .exit)) (now (list .exit)))
-        ≡ packedVmalloc (kernelParts (now (words .entry)) (now (fields .entry)) (now (bits .entry)) (now (list .entry))) root size ⌝ }
-    ensures refused { λ r. ⌜ Unchanged regionLeftovers (kernelParts (now (words .entry)) (now (fields .entry)) (now (bits .entry)) (now (list .entry)))
-        (left r (kernelParts (now (words .exit)) (now (fields .exit)) (now (bits .exit)) (now (list .exit)))) ⌝ }
+    ensures { λ r. ⌜ left r (listParts (now (words .exit)) (now (fields .exit)) (now (bits .exit)) (now (list .exit)))
+        ≡ packedVmalloc (listParts (now (words .entry)) (now (fields .entry)) (now (bits .entry)) (now (list .entry))) root size ⌝ }
+    ensures refused { λ r. ⌜ Unchanged regionLeftovers (listParts (now (words .entry)) (now (fields .entry)) (now (bits .entry)) (now (list .entry)))
+        (left r (listParts (now (words .exit)) (now (fields .exit)) (now (bits .exit)) (now (list .exit)))) ⌝ }
 {
-    if !lengths::two(fields.len(), bits.len()) {
+    if fields.len() != parts::FIELDS_SIZE {
         return parts::broken();
     }
-    let mut bitmap = parts::get_bits(bits);
     let did = vmalloc::vmalloc(
         words,
-        &mut bitmap,
+        bits,
         parts::get_fields(fields),
         Frame(root),
         list,
@@ -38,7 +38,6 @@ pub extern "C" fn gadulnos_vmalloc(
     let left = did.frames;
     let a = did.answer;
     parts::put_fields(fields, left);
-    parts::put_bits(bits, &bitmap);
     address::virt_line(a)
 }
 
@@ -46,23 +45,22 @@ pub extern "C" fn gadulnos_vmalloc(
 pub extern "C" fn gadulnos_vfree(
     words: &mut [u64],
     fields: &mut [u8],
-    bits: &mut [u8],
+    bits: &mut Marks,
     root: u64,
     list: &mut [u8],
     addr: u64,
 ) -> Line
-    ensures { λ r. ⌜ left r (kernelParts (now (words .exit)) (now (fields .exit)) (now (bits .exit)) (now (list .exit)))
-        ≡ packedVfree (kernelParts (now (words .entry)) (now (fields .entry)) (now (bits .entry)) (now (list .entry))) root addr ⌝ }
-    ensures refused { λ r. ⌜ Unchanged noLeftovers (kernelParts (now (words .entry)) (now (fields .entry)) (now (bits .entry)) (now (list .entry)))
-        (left r (kernelParts (now (words .exit)) (now (fields .exit)) (now (bits .exit)) (now (list .exit)))) ⌝ }
+    ensures { λ r. ⌜ left r (listParts (now (words .exit)) (now (fields .exit)) (now (bits .exit)) (now (list .exit)))
+        ≡ packedVfree (listParts (now (words .entry)) (now (fields .entry)) (now (bits .entry)) (now (list .entry))) root addr ⌝ }
+    ensures refused { λ r. ⌜ Unchanged noLeftovers (listParts (now (words .entry)) (now (fields .entry)) (now (bits .entry)) (now (list .entry)))
+        (left r (listParts (now (words .exit)) (now (fields .exit)) (now (bits .exit)) (now (list .exit)))) ⌝ }
 {
-    if !lengths::two(fields.len(), bits.len()) {
+    if fields.len() != parts::FIELDS_SIZE {
         return parts::broken();
     }
-    let mut bitmap = parts::get_bits(bits);
     let did = vmalloc::vfree(
         words,
-        &mut bitmap,
+        bits,
         parts::get_fields(fields),
         Frame(root),
         list,
@@ -71,7 +69,6 @@ pub extern "C" fn gadulnos_vfree(
     let left = did.frames;
     let a = did.answer;
     parts::put_fields(fields, left);
-    parts::put_bits(bits, &bitmap);
     answer::answer_line(a)
 }
 

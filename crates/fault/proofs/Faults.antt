@@ -5,7 +5,7 @@ use mathlib.Core.Bool.{Bool, true, false, false≢true}
 use mathlib.Core.List.{List}
 use Rattle.bits.specs.Bit.{unless, both}
 use Rattle.bits.proofs.Choice.{both-true}
-use Rattle.answer.specs.Numbers.{brokenRecord, reservedBit, writeToReadOnly}
+use Rattle.answer.specs.Numbers.{reservedBit, invalidAddress, instructionFetch, brokenRecord, writeToReadOnly}
 use Rattle.answer.specs.Outcomes.{asAnswer}
 use Rattle.answer.specs.declared.Answer.{Answer}
 use Rattle.answer.specs.declared.Answer.the-variants.{Refused}
@@ -20,7 +20,9 @@ use Rattle.slots.specs.Sorted.{hasKey, remove}
 use Rattle.cow.specs.Marked.{pageOf, pageKey, soundMarked, storePages}
 use Rattle.cow.specs.Packed.{markedIn, markedOut, markedFit}
 use Rattle.cow.proofs.RoundTrip.{marked-back}
-use Rattle.fault.specs.Faults.{isPresent, isWrite, isUser, isReserved, denied, demandPage, copyOnWrite, Faulting, faulting, FaultDid, faultDid, protected, handled, handleFault}
+use Rattle.error_code.specs.ErrorCode.{isPresent, isWrite, isUser, isReserved, isFetch, denied}
+use Rattle.copying.specs.Copying.{rawFrame, mapFrame, copyOnWrite}
+use Rattle.fault.specs.Faults.{inHeap, valid, demandPage, Faulting, faulting, FaultDid, faultDid, protected, handled, handleFault}
 use Rattle.fault.specs.Packed.{onPages, FaultReads}
 
 -- ---- what code says: an answer, words and frames, and bytes; and the pages that these stand for
@@ -64,6 +66,27 @@ says-on call step m bs e p = (
       ∙ ap (λ (d : FaultDid). unless (markedFit bs) (kept (Refused brokenRecord) m bs) (kept (asAnswer (d .answer)) (d .state .mem) (markedOut (d .state .marked)))) e,
   λ f. (p .1 f .0, p .1 f .1 ∙ ap (λ (d : FaultDid). d .state .marked) e),
 )
+
+-- ---- demand paging
+
+module _ (up : ℕ) (m : Memory) (root v code : ℕ) where
+  pub demand-invalid : valid v ≡ false → demandPage up m root v code ≡ out (Stop invalidAddress) m
+  unfolding demandPage
+  demand-invalid h = rw h
+
+  module _ (h : valid v ≡ true) where
+    pub demand-fetch : both (isFetch code) (inHeap v) ≡ true → demandPage up m root v code ≡ out (Stop instructionFetch) m
+    unfolding demandPage
+    demand-fetch k = rw (h, k)
+
+    module _ (k : both (isFetch code) (inHeap v) ≡ false) (m′ : Memory) where
+      pub demand-none : (n : ℕ) → rawFrame m ≡ out (Stop n) m′ → demandPage up m root v code ≡ out (Stop n) m′
+      unfolding demandPage
+      demand-none n e = rw (h, k, e)
+
+      pub demand-map : (f : ℕ) → rawFrame m ≡ out (Value f) m′ → {w u : Bool} → w ≡ isWrite code → u ≡ isUser code → demandPage up m root v code ≡ mapFrame up m′ root v f w u
+      unfolding demandPage
+      demand-map f e a b = rw (h, k, e, a, b)
 
 -- ---- access that was denied
 

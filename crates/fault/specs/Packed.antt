@@ -1,4 +1,4 @@
--- The first path where the marked pages are packed bytes, and what code returns of it and of its steps.
+-- The first path where the marked pages are packed bytes, and what code returns of it.
 use Prim.Native.Nat.{ℕ}
 use mathlib.Core.Path.{_≡_}
 use mathlib.Core.Bool.{true}
@@ -8,9 +8,8 @@ use Rattle.answer.specs.Numbers.{brokenRecord}
 use Rattle.answer.specs.Outcomes.{asAnswer}
 use Rattle.answer.specs.declared.Answer.{Answer}
 use Rattle.answer.specs.declared.Answer.the-variants.{Refused}
-use Rattle.paging.specs.declared.Entered.{Entered}
 use Rattle.paging.specs.Levels.{aboveLast}
-use Rattle.paging.specs.Map.{Memory, Out, out}
+use Rattle.paging.specs.Map.{Memory}
 use Rattle.paging.specs.Kept.{Kept, kept, lentMemory}
 use Rattle.cow.specs.Packed.{markedIn, markedOut, markedFit}
 use Rattle.fault.specs.declared.Faulted.{Faulted}
@@ -32,7 +31,3 @@ FaultReads call m list left = markedFit list ≡ true → (markedFit left ≡ tr
 -- what code returns, beside the words, bitmap and list that it was lent
 abbrev pub faulted : Faulted → List ℕ → List ℕ → List ℕ → Kept Answer
 faulted r words bitmap list = kept (r .answer) (lentMemory words bitmap (r .frames)) list
-
--- .. and what a step does, beside the words and bitmap
-abbrev pub outOf : Entered → List ℕ → List ℕ → Out
-outOf r words bitmap = out (r .walked) (lentMemory words bitmap (r .frames))

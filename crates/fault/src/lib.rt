@@ -1,5 +1,4 @@
 // Page faults: the first path, of page_fault.rs.
-pub mod error_code;
 pub mod inner;
 
 use address::Frame;
@@ -12,9 +11,6 @@ ghost use Rattle.paging.specs.Levels.{aboveLast};
 ghost use Rattle.paging.specs.Kept.{lentMemory};
 ghost use Rattle.fault.specs.Faults.{handleFault};
 ghost use Rattle.fault.specs.Packed.{faultOn, faulted, FaultReads};
-
-// The page through which a copy is made.
-pub const TEMP_MAP_ADDR: u64 = 0xFFFF_FFFF_FFFF_0000;
 
 // The answer of the first path, beside the frame record that it leaves.
 pub struct Faulted {

@@ -37,7 +37,7 @@ use denote.Triple.Spec.{Meets, tripleOf}
 use denote.Triple.Walked.{says, Stays, stay-none, gave-ref, walkOf, AllGo, goes-none, goes-gave-ref, Walks, ends-at, walked, walk-meets}
 use denote.Exit.{yes}
 use Rattle.frame.specs.declared.FrameAllocator.{FrameAllocator}
-use Rattle.frame.specs.Frames.{Frames, frames, FramesDid, framesDid}
+use Rattle.frame.specs.Frames.{Frames, lentFrames, FramesDid, framesDid}
 use Rattle.frame.proofs.FrameAllocator as T
 use Rattle.frame.proofs.FrameAllocator.Laws as T′
 use Rattle.frame.proofs.Passed.{Passed, Values, Fine, rows, values, args, values-args, spells, tellss, spelled, vals, fine, own-all, stays, ends, has-all, fits, locals, operands, behind, after, rooms, make-own, make-has, goes-all, forgets⊢, alloc-all, pass-all, free-all, past, reads-all}
@@ -135,11 +135,11 @@ module _ (X : Returned) (Xs : List Passed) where
       goes lf ν δ = qed W ((‵ (flft (ν ∷ []) fullShare) ⊛ ‵ (flft κ q) ⊛ ‵ ftrue) ∷ ‵ (lent lf ν δ) ∷ ‵ bitmap ∷ []) ∵ suffices ! _ (with-nothing 𝓤 _) $ frame ! $
           use0 W (‵ (own-all 2 (κs₂ ν) Xs v)) (make-own 𝓤 H A W 2 (κs₂ ν) Xs v g) $ move ! (1 ∷ 2 ∷ 0 ∷ []) $ fjoin3 ! $ done !
 
-      exits : (d : FramesDid (X .Ans .Denot)) → d ≡ D (frames ys h) v
-          → ent 𝓤 (⋆ 𝓤 H A ((‵ (flft κ q) ⊛ ‵ ftrue) ∷ ‵ (fres γ (B .coded .code (d .frames .bits))) ∷ ‵ (X .Out .own (X .made d) (pair X (d .answer) (d .frames .fa) ∷ [])) ∷ [])) (Post (pair X (d .answer) (d .frames .fa)))
-      exits d e =
-          qed W ((‵ (flft κ q) ⊛ ‵ ftrue) ∷ ‵ (fres γ (B .coded .code (d .frames .bits))) ∷ ‵ (X .Out .own (X .made d) (pair X (d .answer) (d .frames .fa) ∷ [])) ∷ []) ∵
-          suffices ! _ (ends-at 𝓤 H A (by-value X Xs) stayed (value-clauses X Xs D 𝓤) W bound (pair X (d .answer) (d .frames .fa)) (X .made d) (tt, (d .frames .bits, ends 1 κs Xs a)) (tt, (tt, fits 1 κs Xs a))) $
+      exits : (r : X .Ans .Denot) (zs : List ℕ) (f : FrameAllocator) → framesDid r (lentFrames zs f) ≡ D (lentFrames ys h) v
+          → ent 𝓤 (⋆ 𝓤 H A ((‵ (flft κ q) ⊛ ‵ ftrue) ∷ ‵ (fres γ (B .coded .code zs)) ∷ ‵ (X .Out .own (X .made (framesDid r (lentFrames zs f))) (pair X r f ∷ [])) ∷ [])) (Post (pair X r f))
+      exits r zs f e =
+          qed W ((‵ (flft κ q) ⊛ ‵ ftrue) ∷ ‵ (fres γ (B .coded .code zs)) ∷ ‵ (X .Out .own (X .made (framesDid r (lentFrames zs f))) (pair X r f ∷ [])) ∷ []) ∵
+          suffices ! _ (ends-at 𝓤 H A (by-value X Xs) stayed (value-clauses X Xs D 𝓤) W bound (pair X r f) (X .made (framesDid r (lentFrames zs f))) (tt, (zs, ends 1 κs Xs a)) (tt, (tt, fits 1 κs Xs a))) $
           says-both ! (ap (X .made) e) (ap (λ (c : FramesDid (X .Ans .Denot)). c .frames .bits) e) $ frame ! $
           use0 W (‵ (has-all 1 κs Xs a)) (make-has 𝓤 H A W 1 κs Xs a g) $ move ! (1 ∷ 0 ∷ []) $ fjoin ! $
           owned ! R (Is R) (LL.makes T.the-type T′.the-plain 𝓤 H A) h (mach h ∷ []) is-h $ fjoin ! $ done !
@@ -166,8 +166,8 @@ module _ (X : Returned) (Xs : List Passed) where
             calls-at ! fm (Callee 𝓤 H A) known (to-callee lf ν δ) (and-then ! (load ! (past ! Xs bs (rest lf la lr lb lc) 2 (stop !)) (look ! 7 refl)) (and-then ! (load ! (past ! Xs bs (rest lf la lr lb lc) 3 (stop !)) (look ! 5 refl))
             (reads-all ! 2 2 (κs₂ ν) Xs bs v (rest lf la lr lb lc) refl))) (λ w.
             use1 W (later (some (λ (r : X .Ans .Denot). ((‵ (flft (ν ∷ []) fullShare) ⊛ ‵ (flft κ q) ⊛ ‵ ftrue) ⊛ ‵ (X .Ans .own r (w ∷ []))) ⊛ raw (ensured 𝓤 H A (lent-ended X Xs) (lent-clauses X Xs D 𝓤) (κs₂ ν) (to-callee lf ν δ .0 .3) tt r)))) (id⊢ 𝓤 _) $ await ! tt $ pick ! (λ r.
-            split ! $ move ! (1 ∷ []) $ use1 W (some (λ (zs : Lasts (lent-ended X Xs) (κs₂ ν) (to-callee lf ν δ .0 .3)). ‵ (lasts (lent-ended X Xs) (κs₂ ν) (to-callee lf ν δ .0 .3) zs) ⊛ raw (fact 𝓤 (framesDid r (frames (zs .1 .0) (zs .0)) ≡ D (frames ys h) (v₂ ν))))) (id⊢ 𝓤 _) $ pick ! (λ zs.
-            split ! $ move ! (1 ∷ []) $ heard ! (framesDid r (frames (zs .1 .0) (zs .0)) ≡ D (frames ys h) (v₂ ν)) (λ e.
+            split ! $ move ! (1 ∷ []) $ use1 W (some (λ (zs : Lasts (lent-ended X Xs) (κs₂ ν) (to-callee lf ν δ .0 .3)). ‵ (lasts (lent-ended X Xs) (κs₂ ν) (to-callee lf ν δ .0 .3) zs) ⊛ raw (fact 𝓤 (framesDid r (lentFrames (zs .1 .0) (zs .0)) ≡ D (lentFrames ys h) (v₂ ν))))) (id⊢ 𝓤 _) $ pick ! (λ zs.
+            split ! $ move ! (1 ∷ []) $ heard ! (framesDid r (lentFrames (zs .1 .0) (zs .0)) ≡ D (lentFrames ys h) (v₂ ν)) (λ e.
             fsplit ! $ move ! (1 ∷ []) $ fsplit ! $ move ! (1 ∷ []) $ drop ! $ move ! (2 ∷ []) $ split ! $ move ! (1 ∷ []) $ peeks ! (X .Ans) (Is (X .Ans)) (shows 𝓤 H A (X .Ans)) r (w ∷ []) (λ is-r.
             -- [what the answer owns; the tokens; the bitmap's last list; the record's last value; the lender's part; xs; room for the record that comes back; …; the bitmap lent again; …; the record's address; …; room for the answer; …; the record's end; _2; …; _1; …; room for _0; …]
             land ! (past ! Xs bs (rest lf la lr lb lc) 1 (stop !)) (init ! 12 refl (X .ans-typed 𝓤 H A W r w is-r)) $
@@ -177,15 +177,15 @@ module _ (X : Returned) (Xs : List Passed) where
             use1 W (given (Is R (zs .0) (mach (zs .0) ∷ [])) (‵ (fat fullShare T′.mir lf 0 (mach (zs .0))))) (in-local 𝓤 H A W (zs .0) lf) $ learn ! (λ is-z.
             -- [the record; the bitmap's token; what the answer owns; the bitmap's last list; xs; room for the record that comes back; …; the bitmap lent again; …; the record's address; …; the answer; …; the record's end; _2; …; _1; …; room for _0; …]
             nothing ! $ owned ! R (Is R) (LL.makes T.the-type T′.the-plain 𝓤 H A) (zs .0) (mach (zs .0) ∷ []) is-z $ move ! (4 ∷ 0 ∷ 1 ∷ []) $ fjoin3 ! $
-            use1 W (‵ (X .Out .own (X .made (framesDid r (frames (zs .1 .0) (zs .0)))) (pair X r (zs .0) ∷ []))) (X .shut 𝓤 H A W (framesDid r (frames (zs .1 .0) (zs .0)))) $
-            peeks ! (X .Out) (Is (X .Out)) (shows 𝓤 H A (X .Out)) (X .made (framesDid r (frames (zs .1 .0) (zs .0)))) (pair X r (zs .0) ∷ []) (λ is-out.
+            use1 W (‵ (X .Out .own (X .made (framesDid r (lentFrames (zs .1 .0) (zs .0)))) (pair X r (zs .0) ∷ []))) (X .shut 𝓤 H A W (framesDid r (lentFrames (zs .1 .0) (zs .0)))) $
+            peeks ! (X .Out) (Is (X .Out)) (shows 𝓤 H A (X .Out)) (X .made (framesDid r (lentFrames (zs .1 .0) (zs .0)))) (pair X r (zs .0) ∷ []) (λ is-out.
             -- [what the result owns; the record; the bitmap's token; the bitmap's last list; xs; room for the record that comes back; …; the bitmap lent again; …; the record's address; …; the answer; …; the record's end; _2; …; _1; …; room for _0; …]
             assigns ! (of-opd ! (load ! (past ! Xs bs (rest lf la lr lb lc) 0 (stop !)) (look ! 1 refl))) (past ! Xs bs (rest lf la lr lb lc) 4 (stop !)) (init ! 5 refl (LL.lawful T.the-type T′.the-laws 𝓤 H A W .typed (zs .0) _ is-z .0)) $
             assigns ! (agg ! (and-then ! (load ! (past ! Xs bs (rest lf la lr lb lc) 1 (stop !)) (look ! 11 refl)) (and-then ! (load ! (past ! Xs bs (rest lf la lr lb lc) 4 (stop !)) (look ! 5 refl)) (no-more !)))) (from ! (stop !))
-            (init ! 18 refl (X .typed 𝓤 H A W (X .made (framesDid r (frames (zs .1 .0) (zs .0)))) (pair X r (zs .0)) is-out)) $
+            (init ! 18 refl (X .typed 𝓤 H A W (X .made (framesDid r (lentFrames (zs .1 .0) (zs .0)))) (pair X r (zs .0)) is-out)) $
             returns ! (look ! 18 refl) $ forget ! 1 refl $ forget ! 5 refl $ forget ! 7 refl $ forget ! 9 refl $ forget ! 11 refl $ forget ! 14 refl $ forget ! 16 refl $ forget ! 18 refl $ move ! (4 ∷ []) $ use1 W (‵ (rooms Xs bs)) (forgets⊢ 𝓤 H A W Xs bs v) $
             move ! (18 ∷ 19 ∷ []) $ free1 ! $ move ! (16 ∷ 17 ∷ []) $ free1 ! $ move ! (14 ∷ 15 ∷ []) $ free1 ! $ free-all ! Xs bs $ move ! (1 ∷ 12 ∷ []) $ free1 ! $ move ! (9 ∷ 10 ∷ []) $ free1 ! $ move ! (7 ∷ 8 ∷ []) $ free1 ! $ move ! (5 ∷ 6 ∷ []) $ free1 ! $ move ! (3 ∷ 4 ∷ []) $ free1 ! $ free0 ! $
-            keep ! (1 ∷ 2 ∷ 0 ∷ []) $ by ! (exits (framesDid r (frames (zs .1 .0) (zs .0))) (e ∙ ap (D (frames ys h)) (values-args 2 (κs₂ ν) Xs v)))))))))))))))))))))
+            keep ! (1 ∷ 2 ∷ 0 ∷ []) $ by ! (exits r (zs .1 .0) (zs .0) (e ∙ ap (D (lentFrames ys h)) (values-args 2 (κs₂ ν) Xs v)))))))))))))))))))))
 
     module _ {M : Type 1} (𝓤 : URA M) (H : Heap 𝓤) (A : Atoms 𝓤) (W : Given 𝓤 H A) where
       walks : (C : Calls 𝓤 H) (Λ : Loops 𝓤 H) → FmC 𝓤 H (W .laws) C → Triple 𝓤 (C #callee) (Callee 𝓤 H A) → Walks 𝓤 H A (by-value X Xs) stayed (WpFn 𝓤 H C Λ function) (value-clauses X Xs D 𝓤)

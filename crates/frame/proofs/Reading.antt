@@ -36,7 +36,7 @@ use denote.Triple.Spec.{Meets, tripleOf}
 use denote.Triple.Walked.{says, Stays, stay-none-ref, walkOf, AllGo, goes-none-ref, Walks, ends-at, walked, walk-meets}
 use denote.Exit.{yes}
 use Rattle.frame.specs.declared.FrameAllocator.{FrameAllocator}
-use Rattle.frame.specs.Frames.{Frames, frames}
+use Rattle.frame.specs.Frames.{Frames, lentFrames}
 use Rattle.frame.proofs.FrameAllocator as T
 use Rattle.frame.proofs.FrameAllocator.Laws as T′
 use Rattle.frame.proofs.Passed.{Passed, Values, Fine, slots, rows, values, args, values-args, spells, tellss, spelled, vals, fine, own-all, keeps, stays, ends, has-all, fits, locals, operands, behind, after, rooms, make-own, make-has, goes-all, forgets⊢, alloc-all, pass-all, free-all, past, reads-all}
@@ -65,10 +65,10 @@ module _ (E : Declared) (L : EL.Laws E) (few : Few (shape E)) (Xs : List Passed)
   -- the contracts of f and of g
   module _ (D : Frames → Values Xs → Ans .Denot) where
     abbrev pub clauses : {M : Type 1} (𝓤 : URA M) → Clauses 𝓤 ended
-    clauses 𝓤 κs a = record { ghost = Unit {0}; requires = λ _. emp 𝓤; ensures = λ _ r e. fact 𝓤 (r ≡ D (frames (now (a .1 .0)) (now (a .0))) (values 2 κs Xs (a .1 .1))) }
+    clauses 𝓤 κs a = record { ghost = Unit {0}; requires = λ _. emp 𝓤; ensures = λ _ r e. fact 𝓤 (r ≡ D (lentFrames (now (a .1 .0)) (now (a .0))) (values 2 κs Xs (a .1 .1))) }
 
     abbrev pub value-clauses : {M : Type 1} (𝓤 : URA M) → Clauses 𝓤 by-value
-    value-clauses 𝓤 κs a = record { ghost = Unit {0}; requires = λ _. emp 𝓤; ensures = λ _ r e. fact 𝓤 (r ≡ D (frames (now (a .1 .0)) (a .0)) (values 1 κs Xs (a .1 .1))) }
+    value-clauses 𝓤 κs a = record { ghost = Unit {0}; requires = λ _. emp 𝓤; ensures = λ _ r e. fact 𝓤 (r ≡ D (lentFrames (now (a .1 .0)) (a .0)) (values 1 κs Xs (a .1 .1))) }
 
   module _ (#callee : Name) (D : Frames → Values Xs → Ans .Denot) where
     abbrev pub function : Fn
@@ -119,12 +119,12 @@ module _ (E : Declared) (L : EL.Laws E) (few : Few (shape E)) (Xs : List Passed)
 
       -- of what g ensures, the clause alone
       abbrev said : Ans .Denot → Type 0
-      said r = r ≡ D (frames ys h) (values 1 (κ′, tt) Xs (args 1 (κ′, tt) Xs v))
+      said r = r ≡ D (lentFrames ys h) (values 1 (κ′, tt) Xs (args 1 (κ′, tt) Xs v))
 
       ensures-of : (r : Ans .Denot) → ent 𝓤 (ensured 𝓤 H A by-value (value-clauses D 𝓤) (κ′, tt) (to-callee .0 .3) tt r) (fact 𝓤 (said r))
       ensures-of r = exE 𝓤 _ (λ ws. snd∗ 𝓤 (sem 𝓤 H A (lasts by-value (κ′, tt) (to-callee .0 .3) ws)) (fact 𝓤 (said r)))
 
-      exits : (r : Ans .Denot) (w : Val) → r ≡ D (frames ys h) v
+      exits : (r : Ans .Denot) (w : Val) → r ≡ D (lentFrames ys h) v
           → ent 𝓤 (⋆ 𝓤 H A (‵ (flft κ q) ∷ (‵ (flft κ′ q′) ⊛ ‵ ftrue) ∷ ‵ (fres γ (R .coded .code h)) ∷ ‵ (fshr-bor κ (λ s. partAt R s h b o)) ∷ ‵ lent ∷ ‵ (Ans .own r (w ∷ [])) ∷ [])) (Post w)
       exits r w e =
           qed W (‵ (flft κ q) ∷ (‵ (flft κ′ q′) ⊛ ‵ ftrue) ∷ ‵ (fres γ (R .coded .code h)) ∷ ‵ (fshr-bor κ (λ s. partAt R s h b o)) ∷ ‵ lent ∷ ‵ (Ans .own r (w ∷ [])) ∷ []) ∵
@@ -157,7 +157,7 @@ module _ (E : Declared) (L : EL.Laws E) (few : Few (shape E)) (Xs : List Passed)
             land ! (from ! (stop !)) (init ! 12 refl (EL.lawful E L 𝓤 H A W few .typed r (w ∷ []) is-r .0)) $
             returns ! (look ! 12 refl) $ forget ! 6 refl $ forget ! 8 refl $ forget ! 10 refl $ forget ! 12 refl $ move ! (5 ∷ []) $ use1 W (‵ (rooms Xs bs)) (forgets⊢ 𝓤 H A W Xs bs v) $
             move ! (12 ∷ 13 ∷ []) $ free1 ! $ move ! (10 ∷ 11 ∷ []) $ free1 ! $ move ! (8 ∷ 9 ∷ []) $ free1 ! $ free-all ! Xs bs $ move ! (5 ∷ 6 ∷ []) $ free1 ! $ free0 ! $
-            keep ! (3 ∷ 1 ∷ 5 ∷ 4 ∷ 2 ∷ 0 ∷ []) $ by ! (exits r w (e ∙ ap (D (frames ys h)) (values-args 1 (κ′, tt) Xs v))))))))))))))
+            keep ! (3 ∷ 1 ∷ 5 ∷ 4 ∷ 2 ∷ 0 ∷ []) $ by ! (exits r w (e ∙ ap (D (lentFrames ys h)) (values-args 1 (κ′, tt) Xs v))))))))))))))
 
     module _ {M : Type 1} (𝓤 : URA M) (H : Heap 𝓤) (A : Atoms 𝓤) (W : Given 𝓤 H A) where
       walks : (C : Calls 𝓤 H) (Λ : Loops 𝓤 H) → FmC 𝓤 H (W .laws) C → Triple 𝓤 (C #callee) (Callee 𝓤 H A) → Walks 𝓤 H A ended stayed (WpFn 𝓤 H C Λ function) (clauses D 𝓤)

@@ -37,7 +37,7 @@ use denote.Triple.Spec.{Meets, tripleOf}
 use denote.Triple.Walked.{says, Stays, stay-none, stay-none-ref, walkOf, AllGo, goes-none, goes-none-ref, Walks, ends-at, walked, walk-meets}
 use denote.Exit.{yes}
 use Rattle.frame.specs.declared.FrameAllocator.{FrameAllocator}
-use Rattle.frame.specs.Frames.{Frames, frames}
+use Rattle.frame.specs.Frames.{Frames, lentFrames}
 use Rattle.frame.proofs.FrameAllocator as T
 use Rattle.frame.proofs.FrameAllocator.Laws as T′
 use Rattle.frame.proofs.Passed.{Passed, Values, Fine, rows, values, args, values-args, spells, tellss, spelled, vals, fine, own-all, stays, ends, has-all, fits, locals, operands, behind, after, rooms, make-own, make-has, goes-all, forgets⊢, alloc-all, pass-all, free-all, past, reads-all}
@@ -115,12 +115,12 @@ module _ (E : Declared) (L : EL.Laws E) (few : Few (shape E)) (Xs : List Passed)
 
       -- of what g ensures, the clause alone
       abbrev said : ℕ → Ans .Denot → Type 0
-      said ν r = r ≡ D (frames ys h) (values 2 (κs₂ ν) Xs (args 2 (κs₂ ν) Xs v))
+      said ν r = r ≡ D (lentFrames ys h) (values 2 (κs₂ ν) Xs (args 2 (κs₂ ν) Xs v))
 
       ensures-of : (lf ν : ℕ) (δ : GName) (r : Ans .Denot) → ent 𝓤 (ensured 𝓤 H A (lent-ended E L few Xs) (lent-clauses E L few Xs D 𝓤) (κs₂ ν) (to-callee lf ν δ .0 .3) tt r) (fact 𝓤 (said ν r))
       ensures-of lf ν δ r = exE 𝓤 _ (λ ws. snd∗ 𝓤 (sem 𝓤 H A (lasts (lent-ended E L few Xs) (κs₂ ν) (to-callee lf ν δ .0 .3) ws)) (fact 𝓤 (said ν r)))
 
-      exits : (r : Ans .Denot) (w : Val) → r ≡ D (frames ys h) v → ent 𝓤 (⋆ 𝓤 H A ((‵ (flft κ q) ⊛ ‵ ftrue) ∷ ‵ bitmap ∷ ‵ (Ans .own r (w ∷ [])) ∷ [])) (Post w)
+      exits : (r : Ans .Denot) (w : Val) → r ≡ D (lentFrames ys h) v → ent 𝓤 (⋆ 𝓤 H A ((‵ (flft κ q) ⊛ ‵ ftrue) ∷ ‵ bitmap ∷ ‵ (Ans .own r (w ∷ [])) ∷ [])) (Post w)
       exits r w e =
           qed W ((‵ (flft κ q) ⊛ ‵ ftrue) ∷ ‵ bitmap ∷ ‵ (Ans .own r (w ∷ [])) ∷ []) ∵
           suffices ! _ (ends-at 𝓤 H A (by-value E L few Xs) stayed (value-clauses E L few Xs D 𝓤) W bound w r (tt, (tt, ends 1 κs Xs a)) (tt, (tt, fits 1 κs Xs a))) $ says ! e $ frame ! $
@@ -157,7 +157,7 @@ module _ (E : Declared) (L : EL.Laws E) (few : Few (shape E)) (Xs : List Passed)
             -- [the record; the bitmap's token; what r owns; what the bitmap owns; xs; the record's address; …; the record's end; _2; …; _1; …; _0; …]
             returns ! (look ! 12 refl) $ forget ! 0 refl $ forget ! 5 refl $ forget ! 8 refl $ forget ! 10 refl $ forget ! 12 refl $ move ! (4 ∷ []) $ use1 W (‵ (rooms Xs bs)) (forgets⊢ 𝓤 H A W Xs bs v) $
             move ! (12 ∷ 13 ∷ []) $ free1 ! $ move ! (10 ∷ 11 ∷ []) $ free1 ! $ move ! (8 ∷ 9 ∷ []) $ free1 ! $ free-all ! Xs bs $ move ! (0 ∷ 6 ∷ []) $ free1 ! $ move ! (3 ∷ 4 ∷ []) $ free1 ! $ free0 ! $
-            keep ! (0 ∷ 2 ∷ 1 ∷ []) $ by ! (exits r w (e ∙ ap (D (frames ys h)) (values-args 2 (κs₂ ν) Xs v))))))))))))))))
+            keep ! (0 ∷ 2 ∷ 1 ∷ []) $ by ! (exits r w (e ∙ ap (D (lentFrames ys h)) (values-args 2 (κs₂ ν) Xs v))))))))))))))))
 
     module _ {M : Type 1} (𝓤 : URA M) (H : Heap 𝓤) (A : Atoms 𝓤) (W : Given 𝓤 H A) where
       walks : (C : Calls 𝓤 H) (Λ : Loops 𝓤 H) → FmC 𝓤 H (W .laws) C → Triple 𝓤 (C #callee) (Callee 𝓤 H A) → Walks 𝓤 H A (by-value E L few Xs) stayed (WpFn 𝓤 H C Λ function) (value-clauses E L few Xs D 𝓤)

@@ -25,7 +25,7 @@ use sound.WpLaws.{FmC, fmOf, WpFn-mono}
 use denote.RattleType.{RattleType, Denots, owns}
 use denote.Laws.{Is, Tells, shows}
 use denote.Memory.{mem, pointee}
-use denote.Builtin.{u64, Array, RefMutOf}
+use denote.Builtin.{u8, Array, RefMutOf}
 use denote.Ref.{RefT, now, MutRef, ptr-vals, mut-tells}
 use denote.Signature.{plain}
 use denote.Steps.{only, opens, closes, peeks, heard}
@@ -41,7 +41,8 @@ use denote.Triple.Spec.{Meets, tripleOf}
 use denote.Triple.Walked.{says, Stays, stay-ref, gave-ref, walkOf, AllGo, goes-ref, goes-gave-ref, Walks, ends-at, walked, walk-meets}
 use denote.Exit.{yes}
 use Rattle.frame.specs.declared.FrameAllocator.{FrameAllocator}
-use Rattle.frame.specs.Frames.{Frames, frames, FramesDid, framesDid}
+use Rattle.bitmap.specs.Bitmap.{marksIn}
+use Rattle.frame.specs.Frames.{Frames, frames, lentFrames, FramesDid, framesDid}
 use Rattle.frame.specs.Results.{changed, allocated}
 use Rattle.answer.proofs.Answer as E
 use Rattle.answer.proofs.Answer.Laws as E′
@@ -57,7 +58,7 @@ use Rattle.frame.proofs.Passed.{Passed, Values, Fine, slots, rows, valu
 
 -- the bitmap's row, and a record's machine value
 abbrev pub B : RattleType
-B = Array u64 tt 128
+B = Array u8 tt 1024
 
 abbrev pub mach : FrameAllocator → Val
 mach h = LL.val T.the-type T′.the-laws h
@@ -161,14 +162,14 @@ module _ (X : Returned) (Xs : List Passed) where
     clauses 𝓤 κs a = record {
       ghost = Unit {0};
       requires = λ _. emp 𝓤;
-      ensures = λ _ r e. fact 𝓤 (framesDid r (frames (now (e .1 .0)) (now (e .0))) ≡ D (frames (now (a .1 .0)) (now (a .0))) (values 2 κs Xs (a .1 .1)));
+      ensures = λ _ r e. fact 𝓤 (framesDid r (lentFrames (now (e .1 .0)) (now (e .0))) ≡ D (lentFrames (now (a .1 .0)) (now (a .0))) (values 2 κs Xs (a .1 .1)));
     }
 
     abbrev pub value-clauses : {M : Type 1} (𝓤 : URA M) → Clauses 𝓤 by-value
     value-clauses 𝓤 κs a = record {
       ghost = Unit {0};
       requires = λ _. emp 𝓤;
-      ensures = λ _ r e. sep 𝓤 (fact 𝓤 (r ≡ X .made (D (frames (now (a .1 .0)) (a .0)) (values 1 κs Xs (a .1 .1))))) (fact 𝓤 (now (e .1 .0) ≡ D (frames (now (a .1 .0)) (a .0)) (values 1 κs Xs (a .1 .1)) .frames .bits));
+      ensures = λ _ r e. sep 𝓤 (fact 𝓤 (r ≡ X .made (D (lentFrames (now (a .1 .0)) (a .0)) (values 1 κs Xs (a .1 .1))))) (fact 𝓤 (marksIn (now (e .1 .0)) ≡ D (lentFrames (now (a .1 .0)) (a .0)) (values 1 κs Xs (a .1 .1)) .frames .bits));
     }
 
   module _ (#callee : Name) (D : Frames → Values Xs → FramesDid (X .Ans .Denot)) where
@@ -186,7 +187,7 @@ module _ (X : Returned) (Xs : List Passed) where
     }
 
     -- what g's two clauses say together
-    leaves : (fr : Frames) (v v′ : Values Xs) (r : X .Out .Denot) (zs : List ℕ) → v′ ≡ v → r ≡ X .made (D fr v′) → zs ≡ D fr v′ .frames .bits → framesDid (X .answer r) (frames zs (X .left r)) ≡ D fr v
+    leaves : (fr : Frames) (v v′ : Values Xs) (r : X .Out .Denot) (zs : List ℕ) → v′ ≡ v → r ≡ X .made (D fr v′) → marksIn zs ≡ D fr v′ .frames .bits → framesDid (X .answer r) (lentFrames zs (X .left r)) ≡ D fr v
     leaves fr v v′ r zs p e₁ e₂ =
         (λ i. framesDid ((ap (X .answer) e₁ ∙ X .made-answer (D fr v′)) i) (frames (e₂ i) ((ap (X .left) e₁ ∙ X .made-left (D fr v′)) i))) ∙ ap (D fr) p
 
@@ -233,7 +234,7 @@ module _ (X : Returned) (Xs : List Passed) where
       goes = qed W ((‵ (flft κ′ q′) ⊛ ‵ ftrue) ∷ ‵ (R .own h (mach h ∷ [])) ∷ ‵ lent ∷ []) ∵ suffices ! _ (with-nothing 𝓤 _) $ frame ! $
           use0 W (‵ (own-all 1 (κ′, tt) Xs v)) (make-own 𝓤 H A W 1 (κ′, tt) Xs v g) $ move ! (1 ∷ 2 ∷ 0 ∷ []) $ fjoin3 ! $ done !
 
-      exits : (r : X .Out .Denot) (zs : List ℕ) → framesDid (X .answer r) (frames zs (X .left r)) ≡ D (frames ys h) v
+      exits : (r : X .Out .Denot) (zs : List ℕ) → framesDid (X .answer r) (lentFrames zs (X .left r)) ≡ D (lentFrames ys h) v
           → ent 𝓤 (⋆ 𝓤 H A (‵ (fobs γ (R .coded .code (X .left r))) ∷ ‵ (fbor κ (Body (mem R) b o γ)) ∷ ‵ (flft κ q) ∷ (‵ (flft κ′ q′) ⊛ ‵ ftrue) ∷ ‵ (fres γ′ (B .coded .code zs)) ∷ ‵ (X .Ans .own (X .answer r) (X .ans (X .answer r) ∷ [])) ∷ [])) (Post (X .ans (X .answer r)))
       exits r zs e =
           qed W (‵ (fobs γ (R .coded .code (X .left r))) ∷ ‵ (fbor κ (Body (mem R) b o γ)) ∷ ‵ (flft κ q) ∷ (‵ (flft κ′ q′) ⊛ ‵ ftrue) ∷ ‵ (fres γ′ (B .coded .code zs)) ∷ ‵ (X .Ans .own (X .answer r) (X .ans (X .answer r) ∷ [])) ∷ []) ∵
@@ -265,8 +266,8 @@ module _ (X : Returned) (Xs : List Passed) where
             calls-at ! fm (Callee 𝓤 H A) known to-callee (and-then ! (load ! (past ! Xs bs (rest lo lc la) 1 (stop !)) (look ! 8 refl)) (and-then ! (load ! (past ! Xs bs (rest lo lc la) 2 (stop !)) (look ! 6 refl))
             (reads-all ! 5 1 (κ′, tt) Xs bs v (rest lo lc la) refl))) (λ w.
             use1 W (later (some (λ (r : X .Out .Denot). ((‵ (flft κ′ q′) ⊛ ‵ ftrue) ⊛ ‵ (X .Out .own r (w ∷ []))) ⊛ raw (ensured 𝓤 H A by-value (value-clauses D 𝓤) (κ′, tt) (to-callee .0 .3) tt r)))) (id⊢ 𝓤 _) $ await ! tt $ pick ! (λ r.
-            split ! $ move ! (1 ∷ []) $ use1 W (some (λ (zs : Lasts by-value (κ′, tt) (to-callee .0 .3)). ‵ (lasts by-value (κ′, tt) (to-callee .0 .3) zs) ⊛ (raw (fact 𝓤 (r ≡ X .made (D (frames ys h) v′))) ⊛ raw (fact 𝓤 (zs .1 .0 ≡ D (frames ys h) v′ .frames .bits))))) (id⊢ 𝓤 _) $ pick ! (λ zs.
-            split ! $ move ! (1 ∷ []) $ split ! $ heard ! (r ≡ X .made (D (frames ys h) v′)) (λ e₁. heard ! (zs .1 .0 ≡ D (frames ys h) v′ .frames .bits) (λ e₂.
+            split ! $ move ! (1 ∷ []) $ use1 W (some (λ (zs : Lasts by-value (κ′, tt) (to-callee .0 .3)). ‵ (lasts by-value (κ′, tt) (to-callee .0 .3) zs) ⊛ (raw (fact 𝓤 (r ≡ X .made (D (lentFrames ys h) v′))) ⊛ raw (fact 𝓤 (marksIn (zs .1 .0) ≡ D (lentFrames ys h) v′ .frames .bits))))) (id⊢ 𝓤 _) $ pick ! (λ zs.
+            split ! $ move ! (1 ∷ []) $ split ! $ heard ! (r ≡ X .made (D (lentFrames ys h) v′)) (λ e₁. heard ! (marksIn (zs .1 .0) ≡ D (lentFrames ys h) v′ .frames .bits) (λ e₂.
             fsplit ! $ drop ! $ fsplit ! $ move ! (1 ∷ []) $ drop ! $ move ! (1 ∷ []) $ split ! $ move ! (1 ∷ []) $ peeks ! (X .Out) (Is (X .Out)) (shows 𝓤 H A (X .Out)) r (w ∷ []) (λ is-r.
             -- [what r owns; the bitmap's token; its last list; the record's cell; the open borrow; obs; auth; xs; the bitmap lent again; …; the copy; …; out; …; _2; …; _1; …; room for _0; …]
             land ! (past ! Xs bs (rest lo lc la) 0 (stop !)) (init ! 12 refl (X .typed 𝓤 H A W r w is-r)) $
@@ -279,7 +280,7 @@ module _ (X : Returned) (Xs : List Passed) where
             -- [obs; the record's borrow; its token; true; what the answer owns; the bitmap's token; its last list; xs; the bitmap lent again; …; the copy; …; out; …; _2; …; _1; …; _0; …]
             returns ! (look ! 18 refl) $ forget ! 8 refl $ forget ! 10 refl $ forget ! 12 refl $ forget ! 14 refl $ forget ! 16 refl $ forget ! 18 refl $ move ! (7 ∷ []) $ use1 W (‵ (rooms Xs bs)) (forgets⊢ 𝓤 H A W Xs bs v) $
             move ! (18 ∷ 19 ∷ []) $ free1 ! $ move ! (16 ∷ 17 ∷ []) $ free1 ! $ move ! (14 ∷ 15 ∷ []) $ free1 ! $ free-all ! Xs bs $ move ! (11 ∷ 12 ∷ []) $ free1 ! $ move ! (9 ∷ 10 ∷ []) $ free1 ! $ move ! (7 ∷ 8 ∷ []) $ free1 ! $ free0 ! $
-            keep ! (0 ∷ 1 ∷ 2 ∷ 5 ∷ 6 ∷ 4 ∷ []) $ by ! (exits r (zs .1 .0) (leaves (frames ys h) v v′ r (zs .1 .0) (values-args 1 (κ′, tt) Xs v) e₁ e₂))))))))))))))))))
+            keep ! (0 ∷ 1 ∷ 2 ∷ 5 ∷ 6 ∷ 4 ∷ []) $ by ! (exits r (zs .1 .0) (leaves (lentFrames ys h) v v′ r (zs .1 .0) (values-args 1 (κ′, tt) Xs v) e₁ e₂))))))))))))))))))
 
     module _ {M : Type 1} (𝓤 : URA M) (H : Heap 𝓤) (A : Atoms 𝓤) (W : Given 𝓤 H A) where
       walks : (C : Calls 𝓤 H) (Λ : Loops 𝓤 H) → FmC 𝓤 H (W .laws) C → Triple 𝓤 (C #callee) (Callee 𝓤 H A) → Walks 𝓤 H A ended stayed (WpFn 𝓤 H C Λ function) (clauses D 𝓤)

@@ -14,7 +14,7 @@ use Rattle.answer.specs.declared.FlagAnswer.{FlagAnswer}
 use Rattle.answer.specs.declared.FlagAnswer.the-variants.{Flag, NoFlag}
 use Rattle.address.specs.declared.FrameAnswer.{FrameAnswer}
 use Rattle.address.specs.declared.FrameAnswer.the-variants.{AtFrame, NoFrame}
-use Rattle.bitmap.specs.Bitmap.{isMarked, freeFrom, mark, unmark, count}
+use Rattle.bitmap.specs.Bitmap.{isMarked, freeFrom, mark, unmark, count, marksIn}
 use Rattle.frame.specs.declared.FrameAllocator.{FrameAllocator}
 use Rattle.frame.specs.declared.Found.{Found}
 use Rattle.frame.specs.declared.Found.the-variants.{Freed, AlreadyFree, NotHere}
@@ -26,6 +26,10 @@ pub record Frames : Type 0 where
 
 abbrev pub frames : List ℕ → FrameAllocator → Frames
 frames bm fa = record { bits = bm; fa = fa }
+
+-- .. where the bitmap stands as packed bytes, as code is lent it
+abbrev pub lentFrames : List ℕ → FrameAllocator → Frames
+lentFrames bytes fa = frames (marksIn bytes) fa
 
 -- the record of `init`: nothing is marked
 abbrev pub unused : ℕ → ℕ → FrameAllocator

@@ -8,8 +8,8 @@ use address::Frame;
 use address::FrameAnswer;
 ghost use mathlib.Core.Path.{_≡_};
 ghost use Prim.Native.Nat.{_+_, _-_, _^_, _<_, _≤_};
-ghost use Rattle.bitmap.specs.Bitmap.{marked};
-ghost use Rattle.frame.specs.Frames.{frames as framesOf, inside, withMark, RoomToCount, frameMarked, markFrame, takeFrame, giveFrame};
+ghost use Rattle.bitmap.specs.Bitmap.{marked, marksIn};
+ghost use Rattle.frame.specs.Frames.{lentFrames, inside, withMark, RoomToCount, frameMarked, markFrame, takeFrame, giveFrame};
 ghost use Rattle.frame.specs.Results.{allocated as allocatedOf, given as givenOf};
 
 // Whether frame `number` is one of the `total` from `start` on: one comparison, since a difference that wraps is at least `total`.
@@ -22,7 +22,7 @@ pub fn is_inside(start: u64, total: u64, number: u64) -> bool
 
 pub fn frame_marked(bitmap: &Marks, frames: FrameAllocator, number: u64) -> bool
     requires { ⌜ RoomToCount frames 0 ⌝ }
-    ensures { λ r. ⌜ r ≡ frameMarked (framesOf (now (bitmap .entry)) frames) number ⌝ }
+    ensures { λ r. ⌜ r ≡ frameMarked (lentFrames (now (bitmap .entry)) frames) number ⌝ }
 {
     if !is_inside(frames.start, frames.total, number) {
         return true;
@@ -33,10 +33,10 @@ pub fn frame_marked(bitmap: &Marks, frames: FrameAllocator, number: u64) -> bool
 // The free frame at slot i, marked and counted.
 fn mark_slot(bitmap: &mut Marks, mut frames: FrameAllocator, i: usize) -> FrameAllocator
     requires { ⌜ i < 8192 ⌝ }
-    requires { ⌜ marked (now bitmap) i ≡ 0 ⌝ }
+    requires { ⌜ marked (marksIn (now bitmap)) i ≡ 0 ⌝ }
     requires { ⌜ RoomToCount frames 1 ⌝ }
-    ensures { λ r. ⌜ r ≡ withMark (framesOf (now (bitmap .entry)) frames) i .fa ⌝ }
-    ensures { λ r. ⌜ now (bitmap .exit) ≡ withMark (framesOf (now (bitmap .entry)) frames) i .bits ⌝ }
+    ensures { λ r. ⌜ r ≡ withMark (lentFrames (now (bitmap .entry)) frames) i .fa ⌝ }
+    ensures { λ r. ⌜ marksIn (now (bitmap .exit)) ≡ withMark (lentFrames (now (bitmap .entry)) frames) i .bits ⌝ }
 {
     bitmap::mark(bitmap, i);
     frames.allocated += 1;
@@ -45,8 +45,8 @@ fn mark_slot(bitmap: &mut Marks, mut frames: FrameAllocator, i: usize) -> FrameA
 
 pub fn mark_frame(bitmap: &mut Marks, frames: FrameAllocator, number: u64) -> FrameAllocator
     requires { ⌜ RoomToCount frames 1 ⌝ }
-    ensures { λ r. ⌜ r ≡ markFrame (framesOf (now (bitmap .entry)) frames) number .fa ⌝ }
-    ensures { λ r. ⌜ now (bitmap .exit) ≡ markFrame (framesOf (now (bitmap .entry)) frames) number .bits ⌝ }
+    ensures { λ r. ⌜ r ≡ markFrame (lentFrames (now (bitmap .entry)) frames) number .fa ⌝ }
+    ensures { λ r. ⌜ marksIn (now (bitmap .exit)) ≡ markFrame (lentFrames (now (bitmap .entry)) frames) number .bits ⌝ }
 {
     if frame_marked(bitmap, frames, number) {
         return frames;
@@ -56,8 +56,8 @@ pub fn mark_frame(bitmap: &mut Marks, frames: FrameAllocator, number: u64) -> Fr
 
 pub fn take_frame(bitmap: &mut Marks, frames: FrameAllocator) -> Allocated
     requires { ⌜ RoomToCount frames 1 ⌝ }
-    ensures { λ r. ⌜ r ≡ allocatedOf (takeFrame (framesOf (now (bitmap .entry)) frames)) ⌝ }
-    ensures { λ r. ⌜ now (bitmap .exit) ≡ takeFrame (framesOf (now (bitmap .entry)) frames) .frames .bits ⌝ }
+    ensures { λ r. ⌜ r ≡ allocatedOf (takeFrame (lentFrames (now (bitmap .entry)) frames)) ⌝ }
+    ensures { λ r. ⌜ marksIn (now (bitmap .exit)) ≡ takeFrame (lentFrames (now (bitmap .entry)) frames) .frames .bits ⌝ }
 {
     let total = frames.total as usize;
     let i = bitmap::lowest_free(bitmap, total);
@@ -75,8 +75,8 @@ pub fn take_frame(bitmap: &mut Marks, frames: FrameAllocator) -> Allocated
 
 pub fn give_frame(bitmap: &mut Marks, mut frames: FrameAllocator, frame: Frame) -> Given
     requires { ⌜ RoomToCount frames 0 ⌝ }
-    ensures { λ r. ⌜ r ≡ givenOf (giveFrame (framesOf (now (bitmap .entry)) frames) (frame .0)) ⌝ }
-    ensures { λ r. ⌜ now (bitmap .exit) ≡ giveFrame (framesOf (now (bitmap .entry)) frames) (frame .0) .frames .bits ⌝ }
+    ensures { λ r. ⌜ r ≡ givenOf (giveFrame (lentFrames (now (bitmap .entry)) frames) (frame .0)) ⌝ }
+    ensures { λ r. ⌜ marksIn (now (bitmap .exit)) ≡ giveFrame (lentFrames (now (bitmap .entry)) frames) (frame .0) .frames .bits ⌝ }
 {
     if !is_inside(frames.start, frames.total, frame.0) {
         return Given {

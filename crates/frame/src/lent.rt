@@ -7,11 +7,11 @@ use answer::Answer;
 use answer::FlagAnswer;
 use answer::Outcome;
 ghost use mathlib.Core.Path.{_≡_};
-ghost use Rattle.frame.specs.Frames.{frames as framesOf, framesDid, init as initOf, isAllocated, markAllocated, allocate, deallocate, freeFrames, allocatedFrames, totalFrames};
+ghost use Rattle.frame.specs.Frames.{lentFrames, framesDid, init as initOf, isAllocated, markAllocated, allocate, deallocate, freeFrames, allocatedFrames, totalFrames};
 
 pub fn init(fa: &mut FrameAllocator, bitmap: &mut Marks, from: u64, to: u64) -> Answer
-    ensures { λ r. ⌜ framesDid r (framesOf (now (bitmap .exit)) (now (fa .exit)))
-        ≡ initOf (framesOf (now (bitmap .entry)) (now (fa .entry))) from to ⌝ }
+    ensures { λ r. ⌜ framesDid r (lentFrames (now (bitmap .exit)) (now (fa .exit)))
+        ≡ initOf (lentFrames (now (bitmap .entry)) (now (fa .entry))) from to ⌝ }
 {
     let out = fa.init(bitmap, from, to);
     *fa = out.frames;
@@ -19,8 +19,8 @@ pub fn init(fa: &mut FrameAllocator, bitmap: &mut Marks, from: u64, to: u64) -> 
 }
 
 pub fn mark_allocated(fa: &mut FrameAllocator, bitmap: &mut Marks, number: u64) -> Answer
-    ensures { λ r. ⌜ framesDid r (framesOf (now (bitmap .exit)) (now (fa .exit)))
-        ≡ markAllocated (framesOf (now (bitmap .entry)) (now (fa .entry))) number ⌝ }
+    ensures { λ r. ⌜ framesDid r (lentFrames (now (bitmap .exit)) (now (fa .exit)))
+        ≡ markAllocated (lentFrames (now (bitmap .entry)) (now (fa .entry))) number ⌝ }
 {
     let out = fa.mark_allocated(bitmap, number);
     *fa = out.frames;
@@ -28,7 +28,7 @@ pub fn mark_allocated(fa: &mut FrameAllocator, bitmap: &mut Marks, number: u64) 
 }
 
 pub fn allocate_frame(fa: &mut FrameAllocator, bitmap: &mut Marks) -> FrameAnswer
-    ensures { λ r. ⌜ framesDid r (framesOf (now (bitmap .exit)) (now (fa .exit))) ≡ allocate (framesOf (now (bitmap .entry)) (now (fa .entry))) ⌝ }
+    ensures { λ r. ⌜ framesDid r (lentFrames (now (bitmap .exit)) (now (fa .exit))) ≡ allocate (lentFrames (now (bitmap .entry)) (now (fa .entry))) ⌝ }
 {
     let out = fa.allocate_frame(bitmap);
     *fa = out.frames;
@@ -36,8 +36,8 @@ pub fn allocate_frame(fa: &mut FrameAllocator, bitmap: &mut Marks) -> FrameAnswe
 }
 
 pub fn deallocate_frame(fa: &mut FrameAllocator, bitmap: &mut Marks, frame: Frame) -> Answer
-    ensures { λ r. ⌜ framesDid r (framesOf (now (bitmap .exit)) (now (fa .exit)))
-        ≡ deallocate (framesOf (now (bitmap .entry)) (now (fa .entry))) (frame .0) ⌝ }
+    ensures { λ r. ⌜ framesDid r (lentFrames (now (bitmap .exit)) (now (fa .exit)))
+        ≡ deallocate (lentFrames (now (bitmap .entry)) (now (fa .entry))) (frame .0) ⌝ }
 {
     let out = fa.deallocate_frame(bitmap, frame);
     *fa = out.frames;
@@ -45,25 +45,25 @@ pub fn deallocate_frame(fa: &mut FrameAllocator, bitmap: &mut Marks, frame: Fram
 }
 
 pub fn is_allocated(fa: &FrameAllocator, bitmap: &Marks, number: u64) -> FlagAnswer
-    ensures { λ r. ⌜ r ≡ isAllocated (framesOf (now (bitmap .entry)) (now (fa .entry))) number ⌝ }
+    ensures { λ r. ⌜ r ≡ isAllocated (lentFrames (now (bitmap .entry)) (now (fa .entry))) number ⌝ }
 {
     fa.is_allocated(bitmap, number)
 }
 
 pub fn free_frames(fa: &FrameAllocator, bitmap: &Marks) -> Outcome
-    ensures { λ r. ⌜ r ≡ freeFrames (framesOf (now (bitmap .entry)) (now (fa .entry))) ⌝ }
+    ensures { λ r. ⌜ r ≡ freeFrames (lentFrames (now (bitmap .entry)) (now (fa .entry))) ⌝ }
 {
     fa.free_frames(bitmap)
 }
 
 pub fn allocated_frames(fa: &FrameAllocator, bitmap: &Marks) -> Outcome
-    ensures { λ r. ⌜ r ≡ allocatedFrames (framesOf (now (bitmap .entry)) (now (fa .entry))) ⌝ }
+    ensures { λ r. ⌜ r ≡ allocatedFrames (lentFrames (now (bitmap .entry)) (now (fa .entry))) ⌝ }
 {
     fa.allocated_frames(bitmap)
 }
 
 pub fn total_frames(fa: &FrameAllocator, bitmap: &Marks) -> Outcome
-    ensures { λ r. ⌜ r ≡ totalFrames (framesOf (now (bitmap .entry)) (now (fa .entry))) ⌝ }
+    ensures { λ r. ⌜ r ≡ totalFrames (lentFrames (now (bitmap .entry)) (now (fa .entry))) ⌝ }
 {
     fa.total_frames(bitmap)
 }

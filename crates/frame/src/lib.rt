@@ -11,7 +11,8 @@ use answer::FlagAnswer;
 use answer::Outcome;
 ghost use mathlib.Core.Path.{_≡_};
 ghost use Prim.Native.Nat.{min};
-ghost use Rattle.frame.specs.Frames.{frames as framesOf, sound, init as initOf, isAllocated, markAllocated, allocate, deallocate, freeFrames, allocatedFrames, totalFrames};
+ghost use Rattle.bitmap.specs.Bitmap.{marksIn};
+ghost use Rattle.frame.specs.Frames.{lentFrames, sound, init as initOf, isAllocated, markAllocated, allocate, deallocate, freeFrames, allocatedFrames, totalFrames};
 ghost use Rattle.frame.specs.Results.{changed, allocated as allocatedOf};
 
 pub const FRAME_SIZE: u64 = 4096;
@@ -24,8 +25,8 @@ pub const ADDRESS_END: u64 = 0x10_0000_0000_0000;
 
 pub const FRAMES_END: u64 = 0x100_0000_0000;
 
-// The bitmap's words.
-pub type Marks = [u64; 128];
+// The bitmap: 128 words, packed.
+pub type Marks = [u8; 1024];
 
 // The `total` frames from number `start` on, `allocated` of them marked.
 pub struct FrameAllocator {
@@ -70,7 +71,7 @@ impl FrameAllocator {
 
     // Whether the record is not broken.
     pub fn is_sound(self, bitmap: &Marks) -> bool
-        ensures { λ r. ⌜ r ≡ sound (framesOf (now (bitmap .entry)) self) ⌝ }
+        ensures { λ r. ⌜ r ≡ sound (lentFrames (now (bitmap .entry)) self) ⌝ }
     {
         let total = self.total;
         if total > MAX_FRAMES {
@@ -83,8 +84,8 @@ impl FrameAllocator {
     }
 
     fn init(self, bitmap: &mut Marks, from: u64, to: u64) -> Changed
-        ensures { λ r. ⌜ r ≡ changed (initOf (framesOf (now (bitmap .entry)) self) from to) ⌝ }
-        ensures { λ r. ⌜ now (bitmap .exit) ≡ initOf (framesOf (now (bitmap .entry)) self) from to .frames .bits ⌝ }
+        ensures { λ r. ⌜ r ≡ changed (initOf (lentFrames (now (bitmap .entry)) self) from to) ⌝ }
+        ensures { λ r. ⌜ marksIn (now (bitmap .exit)) ≡ initOf (lentFrames (now (bitmap .entry)) self) from to .frames .bits ⌝ }
     {
         if from > to {
             return Changed {
@@ -110,7 +111,7 @@ impl FrameAllocator {
     }
 
     fn is_allocated(self, bitmap: &Marks, number: u64) -> FlagAnswer
-        ensures { λ r. ⌜ r ≡ isAllocated (framesOf (now (bitmap .entry)) self) number ⌝ }
+        ensures { λ r. ⌜ r ≡ isAllocated (lentFrames (now (bitmap .entry)) self) number ⌝ }
     {
         if !self.is_sound(bitmap) {
             return FlagAnswer::NoFlag(answer::BROKEN_RECORD);
@@ -119,8 +120,8 @@ impl FrameAllocator {
     }
 
     fn mark_allocated(self, bitmap: &mut Marks, number: u64) -> Changed
-        ensures { λ r. ⌜ r ≡ changed (markAllocated (framesOf (now (bitmap .entry)) self) number) ⌝ }
-        ensures { λ r. ⌜ now (bitmap .exit) ≡ markAllocated (framesOf (now (bitmap .entry)) self) number .frames .bits ⌝ }
+        ensures { λ r. ⌜ r ≡ changed (markAllocated (lentFrames (now (bitmap .entry)) self) number) ⌝ }
+        ensures { λ r. ⌜ marksIn (now (bitmap .exit)) ≡ markAllocated (lentFrames (now (bitmap .entry)) self) number .frames .bits ⌝ }
     {
         if !self.is_sound(bitmap) {
             return Changed {
@@ -135,8 +136,8 @@ impl FrameAllocator {
     }
 
     fn allocate_frame(self, bitmap: &mut Marks) -> Allocated
-        ensures { λ r. ⌜ r ≡ allocatedOf (allocate (framesOf (now (bitmap .entry)) self)) ⌝ }
-        ensures { λ r. ⌜ now (bitmap .exit) ≡ allocate (framesOf (now (bitmap .entry)) self) .frames .bits ⌝ }
+        ensures { λ r. ⌜ r ≡ allocatedOf (allocate (lentFrames (now (bitmap .entry)) self)) ⌝ }
+        ensures { λ r. ⌜ marksIn (now (bitmap .exit)) ≡ allocate (lentFrames (now (bitmap .entry)) self) .frames .bits ⌝ }
     {
         if !self.is_sound(bitmap) {
             return Allocated {
@@ -148,8 +149,8 @@ impl FrameAllocator {
     }
 
     fn deallocate_frame(self, bitmap: &mut Marks, frame: Frame) -> Changed
-        ensures { λ r. ⌜ r ≡ changed (deallocate (framesOf (now (bitmap .entry)) self) (frame .0)) ⌝ }
-        ensures { λ r. ⌜ now (bitmap .exit) ≡ deallocate (framesOf (now (bitmap .entry)) self) (frame .0) .frames .bits ⌝ }
+        ensures { λ r. ⌜ r ≡ changed (deallocate (lentFrames (now (bitmap .entry)) self) (frame .0)) ⌝ }
+        ensures { λ r. ⌜ marksIn (now (bitmap .exit)) ≡ deallocate (lentFrames (now (bitmap .entry)) self) (frame .0) .frames .bits ⌝ }
     {
         if !self.is_sound(bitmap) {
             return Changed {
@@ -166,7 +167,7 @@ impl FrameAllocator {
     }
 
     fn free_frames(self, bitmap: &Marks) -> Outcome
-        ensures { λ r. ⌜ r ≡ freeFrames (framesOf (now (bitmap .entry)) self) ⌝ }
+        ensures { λ r. ⌜ r ≡ freeFrames (lentFrames (now (bitmap .entry)) self) ⌝ }
     {
         if !self.is_sound(bitmap) {
             return Outcome::Stop(answer::BROKEN_RECORD);
@@ -175,7 +176,7 @@ impl FrameAllocator {
     }
 
     fn allocated_frames(self, bitmap: &Marks) -> Outcome
-        ensures { λ r. ⌜ r ≡ allocatedFrames (framesOf (now (bitmap .entry)) self) ⌝ }
+        ensures { λ r. ⌜ r ≡ allocatedFrames (lentFrames (now (bitmap .entry)) self) ⌝ }
     {
         if !self.is_sound(bitmap) {
             return Outcome::Stop(answer::BROKEN_RECORD);
@@ -184,7 +185,7 @@ impl FrameAllocator {
     }
 
     fn total_frames(self, bitmap: &Marks) -> Outcome
-        ensures { λ r. ⌜ r ≡ totalFrames (framesOf (now (bitmap .entry)) self) ⌝ }
+        ensures { λ r. ⌜ r ≡ totalFrames (lentFrames (now (bitmap .entry)) self) ⌝ }
     {
         if !self.is_sound(bitmap) {
             return Outcome::Stop(answer::BROKEN_RECORD);

@@ -11,7 +11,7 @@ use Rattle.answer.specs.Outcomes.{asAnswer}
 use Rattle.answer.specs.declared.Answer.{Answer}
 use Rattle.entry.specs.Entry.{entryOf, indices}
 use Rattle.frame.specs.Frames.{inside}
-use Rattle.mapper.proofs.Laws.{stepped}
+use Rattle.tables.proofs.Laws.{stepped}
 use Rattle.answer.specs.declared.Outcome.{Outcome}
 use Rattle.answer.specs.declared.Outcome.the-variants.{Value, Stop}
 use Rattle.paging.specs.Walk.{place}
@@ -20,7 +20,8 @@ use Rattle.paging.specs.Calls.{asChanged, whole}
 use Rattle.paging.proofs.Map.{make-kept}
 use Rattle.paging.proofs.Calls.{told}
 use Rattle.cow.specs.Marked.{pageOf}
-use Rattle.fault.specs.Faults.{isPresent, isWrite, isUser, isReserved, rawFrame}
+use Rattle.error_code.specs.ErrorCode.{isPresent, isWrite, isUser, isReserved}
+use Rattle.copying.specs.Copying.{rawFrame}
 use Rattle.handler.specs.Handler.{overwrite, putOver, mapOver, mapNew, refused, handledSecond, handleFaultSecond}
 
 -- ---- the mapping

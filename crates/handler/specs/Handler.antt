@@ -12,7 +12,8 @@ use Rattle.paging.specs.Walk.{place}
 use Rattle.paging.specs.Map.{Memory, memory, startFrame, totalOf, Out, out, goOn, zeroFrame, make, Left, left, withWords}
 use Rattle.paging.specs.Calls.{whole}
 use Rattle.cow.specs.Marked.{pageOf}
-use Rattle.fault.specs.Faults.{isPresent, isWrite, isUser, isReserved, denied, rawFrame}
+use Rattle.error_code.specs.ErrorCode.{isPresent, isWrite, isUser, isReserved, denied}
+use Rattle.copying.specs.Copying.{rawFrame}
 
 -- the word e at entry i of table t, 'overwriting a present leaf'
 unfoldable pub overwrite : List ℕ → ℕ → ℕ → ℕ → ℕ → ℕ → Left

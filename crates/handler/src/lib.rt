@@ -5,23 +5,22 @@ use address::VirtAddr;
 use answer::Answer;
 use answer::Outcome;
 use entry::paging::PageTableEntry;
-use fault::error_code;
-use fault::inner;
 use frame::Changed;
 use frame::FrameAllocator;
 use frame::Marks;
 use paging::Entered;
 ghost use mathlib.Core.Path.{_≡_};
+ghost use Rattle.bitmap.specs.Bitmap.{marksIn};
 ghost use mathlib.Core.Bool.{true};
 ghost use mathlib.Core.List.{List};
 ghost use Prim.Native.Nat.{ℕ, _<_};
 ghost use Rattle.frame.specs.Frames.{inside};
 ghost use Rattle.paging.specs.Walk.{WordsLent};
-ghost use Rattle.paging.specs.Levels.{aboveLast};
+ghost use Rattle.paging.specs.Levels.{aboveLast, levels};
 ghost use Rattle.paging.specs.Map.{out, RoomToTake};
 ghost use Rattle.paging.specs.Kept.{lentMemory};
 ghost use Rattle.paging.specs.Calls.{asChanged};
-ghost use Rattle.fault.specs.Packed.{outOf};
+ghost use Rattle.copying.specs.Copying.{outOf};
 ghost use Rattle.handler.specs.Handler.{refused, putOver, mapOver, mapNew, handledSecond, handleFaultSecond};
 
 // The word e at entry i of table t, over what stands there, and frame f zeroed.
@@ -36,7 +35,7 @@ fn put_over(words: &mut [u64], frames: FrameAllocator, t: u64, i: usize, e: u64,
     }
     let at = walk::entry_place(frames.start, t, i);
     words[at] = e;
-    mapper::inner::zero_frame(words, walk::entry_place(frames.start, f, 0));
+    tables::zero_frame(words, walk::entry_place(frames.start, f, 0));
     Outcome::Value(0)
 }
 
@@ -57,7 +56,7 @@ fn map_over(
         ≡ mapOver aboveLast (lentMemory (now (words .entry)) (now (bitmap .entry)) frames) (root .0) (virt .0) f writable user ⌝ }
 {
     let indices = entry::page_indices(virt);
-    let made = mapper::inner::make_tables(words, bitmap, frames, root, indices, 3, user);
+    let made = tables::make_tables(words, bitmap, frames, root, indices, 3, user);
     let walked = made.walked;
     let left = made.frames;
     match walked {
@@ -85,11 +84,11 @@ fn map_page(
     writable: bool,
     user: bool,
 ) -> Entered
-    requires { ⌜ RoomToTake (lentMemory (now words) (now bitmap) frames) 4 ⌝ }
+    requires { ⌜ RoomToTake (lentMemory (now words) (now bitmap) frames) levels ⌝ }
     ensures { λ r. ⌜ outOf r (now (words .exit)) (now (bitmap .exit))
         ≡ mapNew aboveLast (lentMemory (now (words .entry)) (now (bitmap .entry)) frames) (root .0) (virt .0) writable user ⌝ }
 {
-    let taken = inner::raw_frame(bitmap, frames);
+    let taken = copying::raw_frame(bitmap, frames);
     let walked = taken.walked;
     let left = taken.frames;
     match walked {
@@ -108,7 +107,7 @@ fn refusal(code: u64) -> u64
     if error_code::is_write(code) {
         return answer::WRITE_TO_READ_ONLY;
     }
-    inner::denied(code)
+    error_code::denied(code)
 }
 
 // The second path, at a page.
@@ -120,11 +119,11 @@ fn handle(
     page: VirtAddr,
     code: u64,
 ) -> Changed
-    requires { ⌜ RoomToTake (lentMemory (now words) (now bitmap) frames) 4 ⌝ }
+    requires { ⌜ RoomToTake (lentMemory (now words) (now bitmap) frames) levels ⌝ }
     ensures { λ r. ⌜ r ≡ asChanged (handledSecond aboveLast (lentMemory (now (words .entry)) (now (bitmap .entry)) frames) (root .0) (page .0) code) ⌝ }
     ensures { λ r. ⌜ now (words .exit)
         ≡ handledSecond aboveLast (lentMemory (now (words .entry)) (now (bitmap .entry)) frames) (root .0) (page .0) code .mem .words ⌝ }
-    ensures { λ r. ⌜ now (bitmap .exit)
+    ensures { λ r. ⌜ marksIn (now (bitmap .exit))
         ≡ handledSecond aboveLast (lentMemory (now (words .entry)) (now (bitmap .entry)) frames) (root .0) (page .0) code .mem .frames .bits ⌝ }
 {
     if error_code::is_reserved(code) {
@@ -162,7 +161,7 @@ pub fn handle_page_fault(
     ensures { λ r. ⌜ r ≡ asChanged (handleFaultSecond aboveLast (lentMemory (now (words .entry)) (now (bitmap .entry)) frames) (root .0) (addr .0) code) ⌝ }
     ensures { λ r. ⌜ now (words .exit)
         ≡ handleFaultSecond aboveLast (lentMemory (now (words .entry)) (now (bitmap .entry)) frames) (root .0) (addr .0) code .mem .words ⌝ }
-    ensures { λ r. ⌜ now (bitmap .exit)
+    ensures { λ r. ⌜ marksIn (now (bitmap .exit))
         ≡ handleFaultSecond aboveLast (lentMemory (now (words .entry)) (now (bitmap .entry)) frames) (root .0) (addr .0) code .mem .frames .bits ⌝ }
 {
     if !mapper::is_whole(words, bitmap, frames, root) {

@@ -1,4 +1,4 @@
--- The frame record and its bitmap come back: bytes that are unpacked and packed again, and records that are packed and unpacked again.
+-- The frame record comes back: bytes that are unpacked and packed again, and a record that is packed and unpacked again.
 use Prim.Native.Nat.{ℕ, zero, suc, _^_, _<_}
 use mathlib.Core.Path.{_≡_, refl, sym, _∙_, ap}
 use mathlib.Core.Bool.{true}
@@ -10,7 +10,7 @@ use Rattle.packed.specs.Words.{pack, unpack}
 use Rattle.packed.proofs.Words.{length-pack, unpack-pack, pack-unpack}
 use Rattle.packed.proofs.RoundTrip.{Bytes, Words}
 use Rattle.frame.specs.declared.FrameAllocator.{FrameAllocator}
-use Rattle.layout.specs.Parts.{fieldsSize, bitsSize, fieldsIn, fieldsOut, framesFit}
+use Rattle.layout.specs.Parts.{fieldsSize, fieldsIn, fieldsOut, fieldsFit}
 
 three-words : (bs : List ℕ) → getD (unpack 3 bs) 0 0 ∷ getD (unpack 3 bs) 1 0 ∷ getD (unpack 3 bs) 2 0 ∷ [] ≡ unpack 3 bs
 unfolding unpack
@@ -30,13 +30,6 @@ fields-kept fa s t a =
     each (suc (suc zero)) = a
     each (suc (suc (suc i))) = omega arith
 
-pub bits-back : (bs : List ℕ) → length bs ≡ bitsSize → Bytes bs → pack (unpack 128 bs) ≡ bs
-bits-back bs n b = pack-unpack 128 bs n b
-
-pub bits-kept : (ws : List ℕ) → length ws ≡ 128 → Words ws → unpack 128 (pack ws) ≡ ws
-bits-kept ws n h = ap (λ (k : ℕ). unpack k (pack ws)) (sym n) ∙ unpack-pack ws h
-
 -- what one call packs, the next call takes
-pub frames-fit-out : (fa : FrameAllocator) (ws : List ℕ) → length ws ≡ 128 → framesFit (fieldsOut fa) (pack ws) ≡ true
-frames-fit-out fa ws n =
-    rw (eq-eqb _ fieldsSize (length-pack (fa .start ∷ fa .total ∷ fa .allocated ∷ [])), eq-eqb (length (pack ws)) bitsSize (omega (arith, length-pack ws))) refl
+pub fields-fit-out : (fa : FrameAllocator) → fieldsFit (fieldsOut fa) ≡ true
+fields-fit-out fa = eq-eqb _ fieldsSize (length-pack (fa .start ∷ fa .total ∷ fa .allocated ∷ []))

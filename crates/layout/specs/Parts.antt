@@ -4,17 +4,13 @@ use mathlib.Core.Bool.{Bool}
 use mathlib.Core.List.{List, [], _∷_}
 use lib.Dec.{eqb}
 use lib.ListN.{length, getD}
-use Rattle.bits.specs.Bit.{both}
 use Rattle.packed.specs.Words.{pack, unpack}
 use Rattle.frame.specs.Frames.{Frames, frames}
 use Rattle.frame.specs.declared.FrameAllocator.{FrameAllocator}
 
--- three numbers of 8 bytes, and 128
+-- three numbers of 8 bytes
 abbrev pub fieldsSize : ℕ
 fieldsSize = 24
-
-abbrev pub bitsSize : ℕ
-bitsSize = 1024
 
 -- the frame record: start, total, allocated
 abbrev pub fieldsIn : List ℕ → FrameAllocator
@@ -23,10 +19,10 @@ fieldsIn bs = let r = unpack 3 bs in record { start = getD r 0 0; total = getD r
 abbrev pub fieldsOut : FrameAllocator → List ℕ
 fieldsOut fa = pack (fa .start ∷ fa .total ∷ fa .allocated ∷ [])
 
--- the allocator of a packed record and a packed bitmap
+-- the allocator of a packed record and of the words of a bitmap
 abbrev pub framesIn : List ℕ → List ℕ → Frames
-framesIn fields bits = frames (unpack 128 bits) (fieldsIn fields)
+framesIn fields marks = frames marks (fieldsIn fields)
 
--- a part whose length is another than its layout's stands for no record
-abbrev pub framesFit : List ℕ → List ℕ → Bool
-framesFit fields bits = both (eqb (length fields) fieldsSize) (eqb (length bits) bitsSize)
+-- a part whose length is another than its layout's stands for no record. A bitmap has 1024 bytes by its type
+abbrev pub fieldsFit : List ℕ → Bool
+fieldsFit fields = eqb (length fields) fieldsSize

@@ -1,3 +1,2 @@
-// The frame record and its bitmap as packed bytes; docs/LAYOUT.md has the layout of each. The lists stand with their crates.
-pub mod lengths;
+// The frame record as packed bytes; docs/LAYOUT.md has its layout. The bitmap and the lists stand with their crates.
 pub mod parts;

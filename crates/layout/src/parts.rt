@@ -1,17 +1,13 @@
-// Parts of the state, taken out of packed bytes and put back.
+// The frame record, taken out of packed bytes and put back.
 use answer::Line;
 use frame::FrameAllocator;
-use frame::Marks;
 ghost use mathlib.Core.Path.{_≡_};
 ghost use lib.ListN.{length};
 ghost use Rattle.answer.specs.Numbers.{brokenRecord, answerLine};
 ghost use Rattle.answer.specs.declared.Answer.the-variants.{Refused};
-ghost use Rattle.packed.specs.Words.{pack, unpack};
-ghost use Rattle.layout.specs.Parts.{fieldsSize, bitsSize, fieldsIn, fieldsOut};
+ghost use Rattle.layout.specs.Parts.{fieldsSize, fieldsIn, fieldsOut};
 
 pub const FIELDS_SIZE: usize = 24;
-
-pub const BITS_SIZE: usize = 1024;
 
 // What is told of parts that stand for no record.
 pub fn broken() -> Line
@@ -39,20 +35,4 @@ pub fn put_fields(fields: &mut [u8], frames: FrameAllocator)
     ensures { λ _. ⌜ now (fields .exit) ≡ fieldsOut frames ⌝ }
 {
     packed::put_words(fields, &[frames.start, frames.total, frames.allocated]);
-}
-
-pub fn get_bits(bits: &[u8]) -> Marks
-    requires { ⌜ length (now bits) ≡ bitsSize ⌝ }
-    ensures { λ r. ⌜ r ≡ unpack 128 (now (bits .entry)) ⌝ }
-{
-    let mut bitmap = [0u64; 128];
-    packed::get_words(bits, &mut bitmap);
-    bitmap
-}
-
-pub fn put_bits(bits: &mut [u8], bitmap: &Marks)
-    requires { ⌜ length (now bits) ≡ bitsSize ⌝ }
-    ensures { λ _. ⌜ now (bits .exit) ≡ pack (now (bitmap .entry)) ⌝ }
-{
-    packed::put_words(bits, bitmap);
 }

@@ -13,6 +13,7 @@ use frame::FrameAllocator;
 use frame::Marks;
 use paging::HugePageSize;
 ghost use mathlib.Core.Path.{_≡_};
+ghost use Rattle.bitmap.specs.Bitmap.{marksIn};
 ghost use Rattle.paging.specs.Calls.{asChanged, whole, mapPage, mapHuge, unmapPage};
 ghost use Rattle.paging.specs.Levels.{aboveLast};
 ghost use Rattle.paging.specs.Kept.{lentMemory};
@@ -40,7 +41,7 @@ pub fn map_page(
 ) -> Changed
     ensures { λ r. ⌜ r ≡ asChanged (mapPage aboveLast (lentMemory (now (words .entry)) (now (bitmap .entry)) frames) (root .0) (virt .0) (phys .0) writable user) ⌝ }
     ensures { λ r. ⌜ now (words .exit) ≡ mapPage aboveLast (lentMemory (now (words .entry)) (now (bitmap .entry)) frames) (root .0) (virt .0) (phys .0) writable user .mem .words ⌝ }
-    ensures { λ r. ⌜ now (bitmap .exit) ≡ mapPage aboveLast (lentMemory (now (words .entry)) (now (bitmap .entry)) frames) (root .0) (virt .0) (phys .0) writable user .mem .frames .bits ⌝ }
+    ensures { λ r. ⌜ marksIn (now (bitmap .exit)) ≡ mapPage aboveLast (lentMemory (now (words .entry)) (now (bitmap .entry)) frames) (root .0) (virt .0) (phys .0) writable user .mem .frames .bits ⌝ }
 {
     if !is_whole(words, bitmap, frames, root) {
         return Changed {
@@ -66,7 +67,7 @@ pub fn map_huge_page(
 ) -> Changed
     ensures { λ r. ⌜ r ≡ asChanged (mapHuge aboveLast (lentMemory (now (words .entry)) (now (bitmap .entry)) frames) (root .0) (virt .0) (phys .0) size writable user) ⌝ }
     ensures { λ r. ⌜ now (words .exit) ≡ mapHuge aboveLast (lentMemory (now (words .entry)) (now (bitmap .entry)) frames) (root .0) (virt .0) (phys .0) size writable user .mem .words ⌝ }
-    ensures { λ r. ⌜ now (bitmap .exit) ≡ mapHuge aboveLast (lentMemory (now (words .entry)) (now (bitmap .entry)) frames) (root .0) (virt .0) (phys .0) size writable user .mem .frames .bits ⌝ }
+    ensures { λ r. ⌜ marksIn (now (bitmap .exit)) ≡ mapHuge aboveLast (lentMemory (now (words .entry)) (now (bitmap .entry)) frames) (root .0) (virt .0) (phys .0) size writable user .mem .frames .bits ⌝ }
 {
     if !is_whole(words, bitmap, frames, root) {
         return Changed {

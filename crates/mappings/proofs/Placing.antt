@@ -5,12 +5,12 @@ use mathlib.Core.Bool.{true, false, true≢false}
 use mathlib.Core.List.{List}
 use mathlib.Core.Logic.{_⊎_, ⊎-elim}
 use native.Mathlib.Omega.{arith}
-use lib.ListN.{length, set}
-use lib.Seq.{set-split}
+use lib.ListN.{length, getD, set}
+use lib.Seq.{getD-take, set-split}
 use Rattle.slots.specs.Slots.{Slots, slotted, listed, store}
 use Rattle.slots.specs.Shifts.{putIn}
 use Rattle.slots.specs.Sorted.{placeOf}
-use Rattle.slots.proofs.Sorted.{place-le, place-under, insert-new, insert-there}
+use Rattle.slots.proofs.Sorted.{place-le, place-under, insert-new, insert-there, place-behind, place-until}
 use Rattle.slots.proofs.Stored.{stored-over}
 use Rattle.mappings.specs.declared.MappedRegion.{MappedRegion}
 use Rattle.mappings.specs.Regions.{noMappedRegion, startKey, starts, insert}
@@ -28,6 +28,17 @@ module _ (bs : List ℕ) (sound : soundList bs ≡ true) (a k : ℕ) (e : k ≡ 
   -- where none starts at a there is room for one more
   pub place-room : starts a (listed (mmapIn bs)) ≡ false → (length (listed (mmapIn bs)) < 256) ⊎ (starts a (listed (mmapIn bs)) ≡ true) → mmapIn bs .count < 256
   place-room h = ⊎-elim (λ x. omega (arith, listed-long bs sound)) (λ x. absurd (true≢false (sym x ∙ h)))
+
+-- a start's place beside slot m
+module _ (bs : List ℕ) (sound : soundList bs ≡ true) (a m : ℕ) (h : m < mmapIn bs .count) {r : MappedRegion} (e : r ≡ getD (mmapIn bs .slots) m noMappedRegion) where
+  there : getD (listed (mmapIn bs)) m noMappedRegion .start ≡ r .start
+  there = ap (λ (x : MappedRegion). x .start) (getD-take (mmapIn bs .count) (mmapIn bs .slots) m noMappedRegion h ∙ sym e)
+
+  pub place-after : r .start < a → m < placeOf startKey a (listed (mmapIn bs))
+  place-after k = place-behind startKey a noMappedRegion 0 m (listed (mmapIn bs)) (sound-rising bs sound .0) (omega (arith, listed-long bs sound)) (omega (arith, there))
+
+  pub place-before : a ≤ r .start → placeOf startKey a (listed (mmapIn bs)) ≤ m
+  place-before k = place-until startKey a noMappedRegion m (listed (mmapIn bs)) (omega (arith, listed-long bs sound)) (omega (arith, there))
 
 module _ (bs : List ℕ) (sound : soundList bs ≡ true) (r : MappedRegion) (k : ℕ) (e : k ≡ placeOf startKey (r .start) (listed (mmapIn bs))) where
   abbrev l : List MappedRegion

@@ -32,10 +32,10 @@ half-fits bs h b =
     fits-of-lt (omega (arith, number-four 0 bs h, b 0 (omega arith), b 1 (omega arith), b 2 (omega arith), b 3 (omega arith)))
 
 -- n regions' bytes
-abbrev Held : ℕ → List ℕ → Type 0
+abbrev pub Held : ℕ → List ℕ → Type 0
 Held n bs = (n * 24 ≤ length bs) × Bytes bs
 
-mapped-back : (n : ℕ) (bs : List ℕ) → Held (suc n) bs → mappedOut (mappedIn bs) ≡ triple (number 8 bs) (number 8 (drop 8 bs)) (number 8 (drop 16 bs))
+pub mapped-back : (n : ℕ) (bs : List ℕ) → Held (suc n) bs → mappedOut (mappedIn bs) ≡ triple (number 8 bs) (number 8 (drop 8 bs)) (number 8 (drop 16 bs))
 mapped-back n bs (long, b) =
     let prot = half-fits (drop 16 bs) (omega (arith, length-drop 16 bs)) (λ i _. bytes-behind 16 bs b i) in
     let flags = half-fits (drop 20 bs) (omega (arith, length-drop 20 bs)) (λ i _. bytes-behind 20 bs b i) in

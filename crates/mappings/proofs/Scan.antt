@@ -1,11 +1,14 @@
 -- Loops over the listed regions, turn by turn: by the regions that are left, `r ∷ q` or none.
-use Prim.Native.Nat.{ℕ, _+_, _<_, _≤_}
-use mathlib.Core.Path.{_≡_, sym, _∙_, ap}
+use Prim.Native.Nat.{ℕ, suc, _+_, _<_, _≤_}
+use mathlib.Core.Path.{_≡_, refl, sym, _∙_, ap}
 use mathlib.Core.Bool.{true, false}
 use mathlib.Core.List.{List, [], _∷_}
 use native.Mathlib.Omega.{arith}
+use lib.Dec.{ltb}
 use lib.ListN.{length, getD}
 use lib.Seq.{slice}
+use borrow.Author.Tests.{lt-ltb, le-ltb}
+use Rattle.bits.proofs.Choice.{both-false}
 use Rattle.slots.specs.Slots.{listed}
 use Rattle.slots.proofs.Slices.{next, none}
 use Rattle.regions.proofs.Placed.{Placed}
@@ -13,8 +16,9 @@ use Rattle.mappings.specs.declared.MappedRegion.{MappedRegion}
 use Rattle.mappings.specs.declared.InTheWay.the-variants.{Nothing, Until}
 use Rattle.mappings.specs.Regions.{noMappedRegion, overlaps, inTheWay}
 use Rattle.mappings.specs.Packed.{mmapIn, soundList}
+use Rattle.mappings.proofs.Rising.{Rising, rising-first}
 use Rattle.mappings.proofs.Stores.{slots-long}
-use Rattle.mappings.proofs.Sound.{sound-few, sound-rising, placed-at}
+use Rattle.mappings.proofs.Sound.{sound-few, sound-rising, placed-at, rising-after}
 
 -- ---- the regions from slot i on
 
@@ -31,11 +35,27 @@ module _ (bs : List ℕ) (few : mmapIn bs .count ≤ 256) (i : ℕ) where
   pub no-more : mmapIn bs .count ≤ i → left bs i ≡ []
   no-more h = none noMappedRegion (mmapIn bs .slots) (mmapIn bs .count) enough i h
 
--- each of them is well placed
-pub placed-slot : (bs : List ℕ) → soundList bs ≡ true → (i : ℕ) → i < mmapIn bs .count → {r : MappedRegion} → r ≡ getD (mmapIn bs .slots) i noMappedRegion → Placed (r .start) (r .size)
-placed-slot bs h i k e = placed-at i 0 (listed (mmapIn bs)) (sound-rising bs h) (more bs (sound-few bs h) i k e)
+-- each of them is well placed, and those behind it start above it
+module _ (bs : List ℕ) (h : soundList bs ≡ true) (i : ℕ) (k : i < mmapIn bs .count) {r : MappedRegion} (e : r ≡ getD (mmapIn bs .slots) i noMappedRegion) where
+  pub placed-slot : Placed (r .start) (r .size)
+  placed-slot = placed-at i 0 (listed (mmapIn bs)) (sound-rising bs h) (more bs (sound-few bs h) i k e)
+
+  pub rising-slot : Rising (suc (r .start)) (left bs (i + 1))
+  rising-slot = rising-after i 0 (listed (mmapIn bs)) (sound-rising bs h) (more bs (sound-few bs h) i k e)
 
 -- ---- what is in the way of n bytes at a
+
+module _ (a n : ℕ) where
+  -- regions that start past them are not
+  not-past : (r : MappedRegion) → a + n ≤ r .start → overlaps a n r ≡ false
+  not-past r h = rw (le-ltb (r .start) (a + n) h) (both-false (ltb a (r .start + r .size)))
+
+  none-past : (lo : ℕ) (l : List MappedRegion) → Rising lo l → a + n ≤ lo → inTheWay a n l ≡ Nothing
+  unfolding inTheWay
+  none-past lo [] h k = refl
+  none-past lo (r ∷ l) h k =
+      let f = rising-first lo r l h in
+      rw (not-past r (omega (arith, f .0))) (none-past (suc (r .start)) l (f .2) (omega (arith, f .0)))
 
 module _ (a n : ℕ) {l : List MappedRegion} where
   pub way-end : l ≡ [] → inTheWay a n l ≡ Nothing
@@ -43,10 +63,15 @@ module _ (a n : ℕ) {l : List MappedRegion} where
   way-end e = rw e
 
   module _ {r : MappedRegion} {q : List MappedRegion} (e : l ≡ r ∷ q) where
-    pub way-here : overlaps a n r ≡ true → inTheWay a n l ≡ Until (r .start + r .size)
+    -- from a region that starts past them on, nothing is
+    pub way-beyond : Rising (suc (r .start)) q → a + n ≤ r .start → inTheWay a n l ≡ Nothing
     unfolding inTheWay
-    way-here h = rw (e, h)
+    way-beyond f h = rw (e, not-past a n r h) (none-past a n (suc (r .start)) q f (omega arith))
 
-    pub way-on : overlaps a n r ≡ false → inTheWay a n l ≡ inTheWay a n q
+    pub way-here : r .start < a + n → a < r .start + r .size → inTheWay a n l ≡ Until (r .start + r .size)
     unfolding inTheWay
-    way-on h = rw (e, h)
+    way-here h k = rw (e, lt-ltb _ _ k, lt-ltb _ _ h)
+
+    pub way-on : r .start + r .size ≤ a → inTheWay a n l ≡ inTheWay a n q
+    unfolding inTheWay
+    way-on h = rw (e, le-ltb _ _ h)

@@ -1,23 +1,27 @@
 -- The test for a broken list: what it comes to, test by test, and what a sound list says.
-use Prim.Native.Nat.{ℕ, zero, suc, _+_, _%_, _<_, _≤_}
-use mathlib.Core.Path.{_≡_, refl, sym}
+use Prim.Native.Nat.{ℕ, zero, suc, _+_, _%_, _^_, _<_, _≤_}
+use mathlib.Core.Path.{_≡_, refl, sym, _∙_}
 use mathlib.Core.Bool.{Bool, true, false}
 use mathlib.Core.List.{List, [], _∷_}
+use native.Mathlib.Decide.{decLt}
 use native.Mathlib.Omega.{arith}
 use native.Mathlib.Numerals.{add-one}
-use lib.Dec.{eqb, leb}
+use lib.Dec.{eqb, leb, ltb}
 use lib.ListN.{length, drop, length-take}
-use borrow.Author.Tests.{le-leb, lt-leb, eq-eqb, ne-eqb, leb-true, eqb-true}
+use borrow.Author.Tests.{le-leb, lt-leb, eq-eqb, ne-eqb, leb-true, eqb-true, lt-ltb, le-ltb}
 use Rattle.bits.specs.Bit.{both}
 use Rattle.bits.proofs.Choice.{both-true, both-false}
 use Rattle.slots.specs.Slots.{listed, every}
 use Rattle.slots.specs.Sorted.{risingFrom as risingBy}
-use Rattle.regions.proofs.Placed.{Placed}
+use Rattle.regions.specs.Regions.{wellPlaced}
+use Rattle.regions.proofs.Placed.{Placed, placed}
 use Rattle.mappings.specs.declared.MappedRegion.{MappedRegion}
 use Rattle.mappings.specs.Regions.{risingFrom, wellPlacedMapping, soundMappings}
 use Rattle.mappings.specs.Packed.{mmapSize, mmapIn, nextIn, mmapFit, soundList}
 use Rattle.mappings.proofs.Stores.{slots-long}
 use Rattle.mappings.proofs.Rising.{Rising, rising-first}
+
+-- ---- the test
 
 -- the part of it that goes region by region
 abbrev pub sorted : ℕ → List MappedRegion → Bool
@@ -101,3 +105,13 @@ placed-at zero lo (s ∷ l) h {r} e = let z : s ≡ r = cc in rw (sym z) (rising
 placed-at (suc i) lo (s ∷ l) h e = placed-at i (suc (s .start)) l (rising-first lo s l h .2) e
 placed-at zero lo [] h e = let z : _≡_ {A = ℕ} 0 1 = cc in absurd (omega arith)
 placed-at (suc i) lo [] h e = let z : _≡_ {A = ℕ} 0 1 = cc in absurd (omega arith)
+
+-- those behind a region start above it
+pub rising-after : (i lo : ℕ) (l : List MappedRegion) → Rising lo l → {r : MappedRegion} {q : List MappedRegion} → drop i l ≡ r ∷ q → Rising (suc (r .start)) q
+rising-after zero lo (s ∷ l) h {r} {q} e =
+    let z : s ≡ r = cc in
+    let y : l ≡ q = cc in
+    rw (sym z, sym y) (rising-first lo s l h .2)
+rising-after (suc i) lo (s ∷ l) h e = rising-after i (suc (s .start)) l (rising-first lo s l h .2) e
+rising-after zero lo [] h e = let z : _≡_ {A = ℕ} 0 1 = cc in absurd (omega arith)
+rising-after (suc i) lo [] h e = let z : _≡_ {A = ℕ} 0 1 = cc in absurd (omega arith)

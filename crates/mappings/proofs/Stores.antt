@@ -1,6 +1,6 @@
 -- Slots, count and next_addr where they stand: what is read of the bytes, and what they stand for once one of them is stored.
 use Prim.Native.Nat.{ℕ, zero, suc, _+_, _*_, _<_, _≤_, _^_}
-use mathlib.Core.Path.{_≡_, sym, _∙_, ap, subst}
+use mathlib.Core.Path.{_≡_, refl, sym, _∙_, ap, subst}
 use mathlib.Core.Bool.{true}
 use mathlib.Core.List.{List, [], _∷_, _++_, append-assoc, append-nil}
 use native.Mathlib.Omega.{arith}
@@ -9,17 +9,17 @@ use native.Mathlib.Numerals.{add-one}
 use lib.ListN.{length, drop, getD, set, length-append, length-drop, length-set, List·getD-eq-default, replicate, length-replicate, replicate-append-replicate, drop-of-length-le}
 use lib.Seq.{drop-drop, drop-cons, set-at, append-snoc, sets}
 use mir.Facts.{sfits-toZ, sfits-lit}
-use Rattle.packed.specs.Words.{bytes}
+use Rattle.packed.specs.Words.{number, bytes}
 use Rattle.packed.specs.Records.{packed}
 use Rattle.packed.proofs.Records.{length-records}
 use Rattle.packed.proofs.Words.{length-bytes}
-use Rattle.packed.proofs.Stores.{record-at, sets-behind, sets-head, slot-set}
+use Rattle.packed.proofs.Stores.{further, triple, record-at, sets-behind, sets-head, slot-set}
 use Rattle.packed.proofs.RoundTrip.{Bytes, number-small, bytes-behind}
 use Rattle.slots.specs.Slots.{Slots, slotted}
 use Rattle.mappings.specs.declared.MappedRegion.{MappedRegion}
 use Rattle.mappings.specs.Regions.{noMappedRegion}
 use Rattle.mappings.specs.Packed.{mappedIn, mappedOut, mmapIn, nextIn, mmapOut, mmapFit, MmapStands}
-use Rattle.mappings.proofs.RoundTrip.{half-fits, fit-long, mmap-back, MappedFits, length-mapped, mmap-kept, next-kept, mmap-fit-out}
+use Rattle.mappings.proofs.RoundTrip.{half-fits, mapped-back, fit-long, mmap-back, MappedFits, length-mapped, mmap-kept, next-kept, mmap-fit-out}
 
 pub slot-at : (i : ℕ) (bs : List ℕ) → i < 256 → mappedIn (drop (i * 24 + 16) bs) ≡ getD (mmapIn bs .slots) i noMappedRegion
 slot-at i bs h =
@@ -111,6 +111,17 @@ module _ (bs : List ℕ) (fit : mmapFit bs ≡ true) (b : Bytes bs) where
     put-in i r h f z =
         stands (slotted (set (old .slots) i r) (old .count)) (nextIn bs) (number-small bs b) small (length-set (old .slots) i r ∙ slots-long bs)
         (set-fits (old .slots) i r f slot-fits) (z ∙ packed-again (i * 24 + 16) (mappedOut r) ∙ out-set old (nextIn bs) i r (omega (arith, slots-long bs)))
+
+    -- slot i, by its three numbers, over slot k
+    pub move-in : (i k : ℕ) → i < 256 → k < 256 → let at = i * 24 + 16 in
+        zs ≡ sets bs (k * 24 + 16) (triple (number 8 (drop at bs)) (number 8 (drop (at + 8) bs)) (number 8 (drop (at + 16) bs)))
+        → MmapStands zs (slotted (set (old .slots) k (getD (old .slots) i noMappedRegion)) (old .count)) (nextIn bs)
+    move-in i k h g z =
+        let at = i * 24 + 16 in
+        let e = ap mappedOut (sym (slot-at i bs h)) ∙ mapped-back 0 (drop at bs) (omega (arith, length-drop at bs, fit-long bs fit), bytes-behind at bs b) in
+        put-in k (getD (old .slots) i noMappedRegion) g (slot-fits i)
+        (z ∙ (λ j. sets bs (k * 24 + 16) (triple (number 8 (drop at bs)) (number 8 (further 8 at (at + 8) bs refl j)) (number 8 (further 16 at (at + 16) bs refl j))))
+        ∙ ap (sets bs (k * 24 + 16)) (sym e))
 
     pub count-in : (n : ℕ) → n < 2 ^ 64 → zs ≡ sets bs 0 (bytes 8 n) → MmapStands zs (slotted (old .slots) n) (nextIn bs)
     count-in n h z =

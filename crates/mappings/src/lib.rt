@@ -90,6 +90,24 @@ pub fn put(list: &mut [u8], i: usize, r: MappedRegion)
     packed::put_word(list, at + 16, prot + flags * 0x1_0000_0000);
 }
 
+// Slot `to` is slot `from` then: its three numbers are moved as they stand.
+fn move_slot(list: &mut [u8], from: usize, to: usize)
+    requires { ⌜ mmapFit (now list) ≡ true ⌝ }
+    requires { ⌜ (from < 256) × (to < 256) ⌝ }
+    ensures { λ _. ⌜ MmapStands (now (list .exit))
+        (slotted (set (mmapIn (now (list .entry)) .slots) to (getD (mmapIn (now (list .entry)) .slots) from noMappedRegion)) (mmapIn (now (list .entry)) .count))
+        (nextIn (now (list .entry))) ⌝ }
+{
+    let at = from * 24 + 16;
+    let start = packed::word_at(list, at);
+    let size = packed::word_at(list, at + 8);
+    let rest = packed::word_at(list, at + 16);
+    let there = to * 24 + 16;
+    packed::put_word(list, there, start);
+    packed::put_word(list, there + 8, size);
+    packed::put_word(list, there + 16, rest);
+}
+
 // The number of regions is n then.
 pub fn put_count(list: &mut [u8], n: usize)
     requires { ⌜ mmapFit (now list) ≡ true ⌝ }

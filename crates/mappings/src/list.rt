@@ -11,7 +11,7 @@ ghost use Rattle.allocator.specs.Round.{lastPage};
 ghost use Rattle.slots.specs.Slots.{listed, store};
 ghost use Rattle.slots.specs.Shifts.{putIn, takenOut};
 ghost use Rattle.slots.specs.Sorted.{placeOf};
-ghost use Rattle.mappings.specs.Regions.{noMappedRegion, startKey, overlaps, inTheWay, findFree, starts, holds, insert as inserted};
+ghost use Rattle.mappings.specs.Regions.{noMappedRegion, startKey, inTheWay, findFree, starts, holds, insert as inserted};
 ghost use Rattle.mappings.specs.Packed.{mmapIn, nextIn, mmapFit, MmapStands, soundList};
 
 // Whether the bytes stand for a list that is not broken.
@@ -42,29 +42,22 @@ pub fn is_sound(list: &[u8]) -> bool
     true
 }
 
-// Whether n bytes at a overlap a region.
-fn is_over(r: MappedRegion, a: u64, n: u64) -> bool
-    requires { ⌜ r .start + r .size ≤ lastPage ⌝ }
-    requires { ⌜ a + n ≤ lastPage ⌝ }
-    ensures { λ t. ⌜ t ≡ overlaps a n r ⌝ }
-{
-    if a >= r.start + r.size {
-        return false;
-    }
-    r.start < a + n
-}
-
-// The first region that n bytes at a overlap.
+// The first region that n bytes at a overlap. From one that starts past them on, none does.
 pub fn in_the_way(list: &[u8], a: u64, n: u64) -> InTheWay
     requires { ⌜ soundList (now list) ≡ true ⌝ }
     requires { ⌜ a + n ≤ lastPage ⌝ }
     ensures { λ r. ⌜ r ≡ inTheWay a n (listed (mmapIn (now (list .entry)))) ⌝ }
 {
     let count = crate::count(list);
+    let past = a + n;
     for i in 0..count {
         let r = crate::slot(list, i);
-        if is_over(r, a, n) {
-            return InTheWay::Until(r.start + r.size);
+        if r.start >= past {
+            return InTheWay::Nothing;
+        }
+        let end = r.start + r.size;
+        if a < end {
+            return InTheWay::Until(end);
         }
     }
     InTheWay::Nothing
@@ -78,37 +71,35 @@ pub fn find_free_region(list: &[u8], n: u64) -> Outcome
     if n >= crate::USER_MMAP_END {
         return Outcome::Stop(answer::NO_REGION);
     }
-    let count = crate::count(list);
     let limit = crate::USER_MMAP_END - n;
     let mut addr = crate::next_addr(list);
-    let mut i = 0;
     while addr < limit {
-        if i == count {
-            return Outcome::Value(addr);
-        }
-        let r = crate::slot(list, i);
-        if is_over(r, addr, n) {
-            addr = r.start + r.size;
-            i = 0;
-        } else {
-            i += 1;
+        match in_the_way(list, addr, n) {
+            InTheWay::Nothing => return Outcome::Value(addr),
+            InTheWay::Until(end) => {
+                addr = end;
+            }
         }
     }
     Outcome::Stop(answer::NO_REGION)
 }
 
-// The place of a start: how many regions start below a.
+// The place of a start: how many regions start below a. The list is sorted, so that the place is found by halves.
 pub fn place_of(list: &[u8], a: u64) -> usize
     requires { ⌜ soundList (now list) ≡ true ⌝ }
     ensures { λ r. ⌜ r ≡ placeOf startKey a (listed (mmapIn (now (list .entry)))) ⌝ }
 {
-    let count = crate::count(list);
-    for i in 0..count {
-        if crate::slot(list, i).start >= a {
-            return i;
+    let mut low = 0;
+    let mut high = crate::count(list);
+    while low < high {
+        let mid = (low + high) / 2;
+        if crate::slot(list, mid).start < a {
+            low = mid + 1;
+        } else {
+            high = mid;
         }
     }
-    count
+    low
 }
 
 // Whether the region at the place of a starts at a.
@@ -145,8 +136,7 @@ fn put_in(list: &mut [u8], at: usize, r: MappedRegion)
     let count = crate::count(list);
     let mut j = count;
     while at < j {
-        let below = crate::slot(list, j - 1);
-        crate::put(list, j, below);
+        crate::move_slot(list, j - 1, j);
         j -= 1;
     }
     crate::put(list, at, r);
@@ -178,8 +168,7 @@ pub fn remove_at(list: &mut [u8], at: usize)
     let last = crate::count(list) - 1;
     let mut j = at;
     while j < last {
-        let above = crate::slot(list, j + 1);
-        crate::put(list, j, above);
+        crate::move_slot(list, j + 1, j);
         j += 1;
     }
     crate::put(list, last, crate::no_region());

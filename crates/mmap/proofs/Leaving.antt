@@ -36,7 +36,7 @@ module _ {A : Type 0} (told : Outcome → A) {w : Outcome} {m : Memory} where
   leaves-alone b h e = leaves b (h, refl, refl) e
 
 -- .. as code returns a refusal
-module _ {e : ℕ} {fr : FrameAllocator} {ws bm list : List ℕ} {d : UserDid} (b : Bytes list) (fit : mmapFit list ≡ true) (h : d ≡ userDid (Stop e) (lentUser ws bm fr list)) where
+module _ (bm : List ℕ) {e : ℕ} {fr : FrameAllocator} {ws list : List ℕ} {d : UserDid} (b : Bytes list) (fit : mmapFit list ≡ true) (h : d ≡ userDid (Stop e) (lentUser ws bm fr list)) where
   pub no-mapping-left : {r : Mmapped} → r ≡ record { answer = NoVirt e; frames = fr } → UserLeaves asVirt (mmapped r ws bm list) d
   no-mapping-left q = subst (λ (x : Mmapped). UserLeaves asVirt (mmapped x ws bm list) d) (sym q) (leaves-alone asVirt b fit h)
 

@@ -18,10 +18,10 @@ ghost use mathlib.Core.Logic.{_⊎_};
 ghost use lib.ListN.{length};
 ghost use Prim.Native.Nat.{ℕ, _+_, _*_, _%_, _^_, _<_, _≤_};
 ghost use Rattle.allocator.specs.Round.{lastPage};
-ghost use Rattle.frame.specs.Frames.{frames as framesOf};
 ghost use Rattle.paging.specs.Levels.{aboveLast};
 ghost use Rattle.paging.specs.Walk.{WordsLent};
-ghost use Rattle.paging.specs.Map.{Memory, memory};
+ghost use Rattle.paging.specs.Kept.{lentMemory};
+ghost use Rattle.paging.specs.Map.{Memory};
 ghost use Rattle.answer.specs.Outcomes.{asAnswer};
 ghost use Rattle.address.specs.Address.{asVirt};
 ghost use Rattle.slots.specs.Slots.{listed};
@@ -133,8 +133,8 @@ fn clear_after(
 )
     requires { ⌜ WordsLent (now words) (frames .start) (frames .total) ⌝ }
     requires { ⌜ virt .0 + done * 4096 < 2 ^ 64 ⌝ }
-    ensures { λ _. ⌜ ((b : List ℕ) → memory (now (words .exit)) (framesOf b frames)
-        ≡ leftover aboveLast (root .0) (virt .0) number done (memory (now (words .entry)) (framesOf b frames))) ⌝ }
+    ensures { λ _. ⌜ ((b : List ℕ) → lentMemory (now (words .exit)) b frames
+        ≡ leftover aboveLast (root .0) (virt .0) number done (lentMemory (now (words .entry)) b frames)) ⌝ }
 {
     if number != answer::MAP_PAGE_FAILED {
         return;

@@ -1,14 +1,14 @@
 -- Numbers and slots of numbers come back: bytes that are read and written again, and what was written is read.
-use Prim.Native.Nat.{ℕ, zero, suc, _+_, _*_, _^_, _<_, _≤_}
+use Prim.Native.Nat.{ℕ, zero, suc, _+_, _-_, _*_, _^_, _<_, _≤_}
 use mathlib.Core.Path.{_≡_, refl, sym, _∙_, ap, subst}
 use mathlib.Core.List.{List, [], _∷_, _++_, append-assoc}
 use native.Mathlib.Omega.{arith}
-use lib.ListN.{length, drop, getD}
-use lib.Seq.{drop-at, getD-drop}
+use lib.ListN.{length, take, drop, getD, set, replicate, take-append-drop, length-drop}
+use lib.Seq.{drop-at, getD-drop, length-take-le, sets}
 use Rattle.packed.specs.Words.{number, bytes, pack, unpack}
 use Rattle.packed.specs.Records.{records, packed}
-use Rattle.packed.proofs.Words.{length-bytes, unpack-pack}
-use Rattle.packed.proofs.Stores.{further, triple}
+use Rattle.packed.proofs.Words.{length-bytes, number-bytes, unpack-pack}
+use Rattle.packed.proofs.Stores.{further, triple, sets-behind, sets-head}
 
 -- bytes, and numbers of 64 bits
 abbrev pub Bytes : List ℕ → Type 0
@@ -119,3 +119,55 @@ module _ {A : Type 0} (f : List ℕ → A) (g : A → List ℕ) where
 
 pub bytes-behind : (k : ℕ) (bs : List ℕ) → Bytes bs → Bytes (drop k bs)
 bytes-behind k bs b i = subst (λ (x : ℕ). x < 256) (sym (getD-drop k bs i 0)) (b (k + i))
+
+-- ---- a number stored over the k-th of n
+
+number-front : (k : ℕ) (h l m : List ℕ) → length h ≡ k → number k (h ++ l) ≡ number k (h ++ m)
+unfolding number
+number-front zero h l m e = refl
+number-front (suc k) [] l m e = absurd (omega arith)
+number-front (suc k) (x ∷ h) l m e = ap (λ (n : ℕ). x + 256 * n) (number-front k h l m (omega arith))
+
+pub unpack-sets : (n k : ℕ) (bs : List ℕ) (x : ℕ) → k < n → n * 8 ≤ length bs → x < 2 ^ 64 → unpack n (sets bs (k * 8) (bytes 8 x)) ≡ set (unpack n bs) k x
+unfolding unpack
+unpack-sets zero k bs x h l s = absurd (omega arith)
+unpack-sets (suc n) zero bs x h l s =
+    let front = length-take-le 8 bs (omega arith) in
+    let r = drop 8 bs in
+    let e : sets bs (0 * 8) (bytes 8 x) ≡ bytes 8 x ++ r =
+    ap (λ (b : List ℕ). sets b 0 (bytes 8 x)) (sym (take-append-drop 8 bs)) ∙ sets-head (take 8 bs) r (bytes 8 x) (length-bytes 8 x ∙ sym front)
+    in
+    ap (unpack (suc n)) e ∙ (λ j. number-bytes 8 x r s j ∷ ap (unpack n) (drop-at (bytes 8 x) r 8 (length-bytes 8 x)) j)
+unpack-sets (suc n) (suc k) bs x h l s =
+    let front = length-take-le 8 bs (omega arith) in
+    let r = drop 8 bs in
+    let v = bytes 8 x in
+    let place : suc k * 8 ≡ length (take 8 bs) + k * 8 = omega arith in
+    let e : sets bs (suc k * 8) v ≡ take 8 bs ++ sets r (k * 8) v =
+    ap (λ (b : List ℕ). sets b (suc k * 8) v) (sym (take-append-drop 8 bs)) ∙ ap (λ (i : ℕ). sets (take 8 bs ++ r) i v) place ∙ sets-behind (take 8 bs) r v (k * 8)
+    in
+    let long : n * 8 ≤ length r = omega (arith, length-drop 8 bs) in
+    ap (unpack (suc n)) e
+    ∙ (λ j. (number-front 8 (take 8 bs) (sets r (k * 8) v) r front ∙ ap (number 8) (take-append-drop 8 bs)) j
+    ∷ (ap (unpack n) (drop-at (take 8 bs) (sets r (k * 8) v) 8 front) ∙ unpack-sets n k r x (omega arith) long s) j)
+
+-- ---- bytes that are all 0
+
+abbrev pub zeros : ℕ → List ℕ
+zeros n = replicate n 0
+
+drop-zeros : (k m : ℕ) → drop k (zeros m) ≡ zeros (m - k)
+drop-zeros zero m = let e : m ≡ m - 0 = omega arith in ap zeros e
+drop-zeros (suc k) zero = let e : 0 ≡ 0 - suc k = omega arith in ap zeros e
+drop-zeros (suc k) (suc m) = let e : m - k ≡ suc m - suc k = omega arith in drop-zeros k m ∙ ap zeros e
+
+number-zeros : (k m : ℕ) → number k (zeros m) ≡ 0
+unfolding number
+number-zeros zero m = refl
+number-zeros (suc k) zero = refl
+number-zeros (suc k) (suc m) = omega (arith, number-zeros k m)
+
+pub unpack-zeros : (n m : ℕ) → unpack n (zeros m) ≡ zeros n
+unfolding unpack
+unpack-zeros zero m = refl
+unpack-zeros (suc n) m = λ j. number-zeros 8 m j ∷ (ap (unpack n) (drop-zeros 8 m) ∙ unpack-zeros n (m - 8)) j

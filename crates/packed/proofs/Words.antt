@@ -164,7 +164,7 @@ stores-eight l at x a b c d e f g h p q r s t u v w =
 -- ---- the round trip
 
 -- a number of k bytes survives
-number-bytes : (k x : ℕ) (bs : List ℕ) → x < 256 ^ k → number k (bytes k x ++ bs) ≡ x
+pub number-bytes : (k x : ℕ) (bs : List ℕ) → x < 256 ^ k → number k (bytes k x ++ bs) ≡ x
 unfolding number bytes
 number-bytes zero x bs h = omega arith
 number-bytes (suc k) x bs h =

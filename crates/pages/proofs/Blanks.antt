@@ -9,7 +9,8 @@ use lib.Arith.{lt-of-le-ne}
 use lib.ListN.{getD, replicate}
 use Rattle.bits.specs.Bit.{flag}
 use Rattle.bits.proofs.Choice.{pick-cases}
-use Rattle.bitmap.specs.Bitmap.{marked, mark}
+use Rattle.packed.proofs.RoundTrip.{zeros, unpack-zeros}
+use Rattle.bitmap.specs.Bitmap.{marksIn, bitmapSize, marked, mark}
 use Rattle.bitmap.proofs.Marks.{mark-other, marked-replicate}
 use Rattle.entry.proofs.Entry.{flag-zero}
 use Rattle.frame.specs.Frames.{inside}
@@ -78,8 +79,8 @@ leaves-gone t (suc n) i m ins x a b =
 
 -- ---- what `empty` marks
 
-pub blank-start : (ws : List ℕ) → Blank ws (replicate 128 0)
-blank-start ws = record { absent = λ j h. absurd (omega (arith, marked-replicate 128 j)) }
+pub blank-start : (ws : List ℕ) → Blank ws (marksIn (zeros bitmapSize))
+blank-start ws = rw (unpack-zeros 128 bitmapSize) (record { absent = λ j h. absurd (omega (arith, marked-replicate 128 j)) })
 
 blank-fewer : {ws ws′ bm : List ℕ} → Fewer ws ws′ → Blank ws bm → Blank ws′ bm
 blank-fewer f b = record { absent = λ j h x l. fewer-absent f (j * 512 + x) (b .absent j h x l) }

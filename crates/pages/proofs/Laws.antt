@@ -29,7 +29,7 @@ use Rattle.paging.proofs.Map.{roomy-less}
 use Rattle.paging.specs.Pages.{Ran, ran, freshFrame, orFailed, mapFresh, mapPages, clearPage, clearPages, freePages}
 use Rattle.paging.proofs.Pages.{fresh-new, fresh-full, fresh-roomy, fresh-low, map-fresh-on, map-fresh-roomy, map-entry-at}
 use Rattle.paging.proofs.Pages.{map-pages-none, map-pages-on, map-pages-stop, clear-pages-none, clear-pages-more, free-pages-none}
-use Rattle.mapper.proofs.Laws.{stepped}
+use Rattle.tables.proofs.Laws.{stepped}
 use Rattle.pages.specs.Answers.{asOutcome}
 
 -- ---- a fresh frame, after `take_frame`

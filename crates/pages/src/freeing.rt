@@ -8,6 +8,7 @@ use spans::Span;
 ghost use mathlib.Core.Path.{_≡_};
 ghost use mathlib.Core.Bool.{true};
 ghost use Prim.Native.Nat.{ℕ, _+_, _≤_, _<_, min};
+ghost use Rattle.bitmap.specs.Bitmap.{marksIn};
 ghost use Rattle.frame.specs.Frames.{inside};
 ghost use Rattle.paging.specs.Map.{RoomToTake};
 ghost use Rattle.paging.specs.Pages.{freePages};
@@ -84,12 +85,12 @@ fn free_table(
     n: u64,
 ) -> FrameAllocator
     requires { ⌜ RoomToTake (lentMemory (now words) (now bitmap) frames) 0 ⌝ }
-    requires { ⌜ Blank (now words) (now empty) ⌝ }
+    requires { ⌜ Blank (now words) (marksIn (now empty)) ⌝ }
     requires { ⌜ inside (frames .start) (frames .total) t ≡ true ⌝ }
     requires { ⌜ i + n ≤ 512 ⌝ }
     ensures { λ r. ⌜ lentMemory (now (words .exit)) (now (bitmap .exit)) r
         ≡ freeLeaves (lentMemory (now (words .entry)) (now (bitmap .entry)) frames) t i n ⌝ }
-    ensures { λ _. ⌜ Blank (now (words .exit)) (now (empty .exit)) ⌝ }
+    ensures { λ _. ⌜ Blank (now (words .exit)) (marksIn (now (empty .exit))) ⌝ }
 {
     let place = (t - frames.start) as usize;
     if bitmap::is_marked(empty, place) {
@@ -114,9 +115,9 @@ pub fn free_span(
     n: u64,
 ) -> Freed
     requires { ⌜ RoomToTake (lentMemory (now words) (now bitmap) frames) 0 ⌝ }
-    requires { ⌜ Blank (now words) (now empty) ⌝ }
+    requires { ⌜ Blank (now words) (marksIn (now empty)) ⌝ }
     requires { ⌜ 0 < n ⌝ }
-    ensures { λ r. ⌜ Blank (now (words .exit)) (now (empty .exit)) ⌝ }
+    ensures { λ r. ⌜ Blank (now (words .exit)) (marksIn (now (empty .exit))) ⌝ }
     ensures { λ r. ⌜ 0 < r .done ⌝ }
     ensures { λ r. ⌜ r .done ≤ n ⌝ }
     ensures { λ r. ⌜ lentMemory (now (words .exit)) (now (bitmap .exit)) (r .frames)

@@ -14,11 +14,10 @@ use paging::Entered;
 ghost use mathlib.Core.Path.{_≡_};
 ghost use mathlib.Core.List.{List};
 ghost use Prim.Native.Nat.{ℕ, _+_, _*_, _^_, _<_};
-ghost use Rattle.frame.specs.Frames.{frames as framesOf};
 ghost use Rattle.paging.specs.Walk.{WordsLent};
-ghost use Rattle.paging.specs.Map.{memory, out, RoomToTake};
+ghost use Rattle.paging.specs.Map.{out, RoomToTake};
 ghost use Rattle.paging.specs.Pages.{ran, freshFrame, orFailed, mapFresh, mapPages, clearPage, freePage, clearPages, freePages};
-ghost use Rattle.paging.specs.Levels.{aboveLast};
+ghost use Rattle.paging.specs.Levels.{aboveLast, levels};
 ghost use Rattle.paging.specs.Kept.{lentMemory};
 ghost use Rattle.pages.specs.Answers.{asOutcome};
 
@@ -47,7 +46,7 @@ pub fn fresh_frame(words: &mut [u64], bitmap: &mut Marks, frames: FrameAllocator
             frames: left,
         },
         FrameAnswer::AtFrame(f) => {
-            mapper::inner::zero_frame(words, walk::entry_place(frames.start, f.0, 0));
+            tables::zero_frame(words, walk::entry_place(frames.start, f.0, 0));
             Entered {
                 walked: Outcome::Value(f.0),
                 frames: left,
@@ -66,7 +65,7 @@ pub fn map_fresh(
     writable: bool,
     user: bool,
 ) -> Entered
-    requires { ⌜ RoomToTake (lentMemory (now words) (now bitmap) frames) 4 ⌝ }
+    requires { ⌜ RoomToTake (lentMemory (now words) (now bitmap) frames) levels ⌝ }
     ensures { λ r. ⌜ out (r .walked) (lentMemory (now (words .exit)) (now (bitmap .exit)) (r .frames))
         ≡ mapFresh aboveLast writable user (lentMemory (now (words .entry)) (now (bitmap .entry)) frames) (root .0) (virt .0) ⌝ }
 {
@@ -102,7 +101,7 @@ pub fn map_pages(
     writable: bool,
     user: bool,
 ) -> Run
-    requires { ⌜ RoomToTake (lentMemory (now words) (now bitmap) frames) (n * 4) ⌝ }
+    requires { ⌜ RoomToTake (lentMemory (now words) (now bitmap) frames) (n * levels) ⌝ }
     requires { ⌜ virt .0 + n * 4096 < 2 ^ 64 ⌝ }
     ensures { λ r. ⌜ ran (r .walked) (r .done) (lentMemory (now (words .exit)) (now (bitmap .exit)) (r .frames))
         ≡ mapPages aboveLast writable user (lentMemory (now (words .entry)) (now (bitmap .entry)) frames) (root .0) (virt .0) 0 n ⌝ }
@@ -141,7 +140,7 @@ pub fn map_pages(
 // A page's leaf, cleared; a page that is not mapped is passed over.
 pub fn clear_page(words: &mut [u64], frames: FrameAllocator, root: Frame, virt: VirtAddr)
     requires { ⌜ WordsLent (now words) (frames .start) (frames .total) ⌝ }
-    ensures { λ _. ⌜ ((b : List ℕ) → memory (now (words .exit)) (framesOf b frames) ≡ clearPage aboveLast (memory (now (words .entry)) (framesOf b frames)) (root .0) (virt .0)) ⌝ }
+    ensures { λ _. ⌜ ((b : List ℕ) → lentMemory (now (words .exit)) b frames ≡ clearPage aboveLast (lentMemory (now (words .entry)) b frames) (root .0) (virt .0)) ⌝ }
 {
     mapper::inner::unmap_leaf(words, frames.start, frames.total, root, virt);
 }
@@ -171,7 +170,7 @@ pub fn free_page(
 pub fn clear_pages(words: &mut [u64], frames: FrameAllocator, root: Frame, virt: VirtAddr, n: u64)
     requires { ⌜ WordsLent (now words) (frames .start) (frames .total) ⌝ }
     requires { ⌜ virt .0 + n * 4096 < 2 ^ 64 ⌝ }
-    ensures { λ _. ⌜ ((b : List ℕ) → memory (now (words .exit)) (framesOf b frames) ≡ clearPages aboveLast (memory (now (words .entry)) (framesOf b frames)) (root .0) (virt .0) n) ⌝ }
+    ensures { λ _. ⌜ ((b : List ℕ) → lentMemory (now (words .exit)) b frames ≡ clearPages aboveLast (lentMemory (now (words .entry)) b frames) (root .0) (virt .0) n) ⌝ }
 {
     for i in 0..n {
         clear_page(words, frames, root, VirtAddr(virt.0 + i * 4096));
@@ -193,7 +192,7 @@ pub fn free_pages(
         ≡ freePages aboveLast (lentMemory (now (words .entry)) (now (bitmap .entry)) frames) (root .0) (virt .0) n ⌝ }
 {
     let most = freeing::at_most(n, ALL_PAGES);
-    let mut empty: [u64; 128] = [0; 128];
+    let mut empty: Marks = [0u8; 1024];
     let mut left = frames;
     let mut done = 0;
     while done < most {

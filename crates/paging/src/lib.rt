@@ -1,4 +1,4 @@
-// Page tables: the types that walks give, above the definitions of walks, mappings and the mapper's calls in specs/. The code is in `mapper`.
+// Page tables: the types that walks give, above the definitions of walks, mappings and the mapper's calls in specs/. The code is in `walk`, `tables` and `mapper`.
 use answer::Outcome;
 use frame::FrameAllocator;
 ghost use mathlib.Core.Path.{_≡_};

@@ -53,7 +53,7 @@ module _ (records : Records) (ws bm list : List ℕ) (kind : ℕ) where
   abbrev left : FrameAllocator → Records
   left fr = record { frames = fr; root = records .root }
 
-  module _ {A : Type 0} (form : Outcome → A) (line : A → Line) {l : Line} {a : A} {ws′ bm′ list′ : List ℕ} {fr : FrameAllocator} (e : l ≡ line a) where
+  module _ {A : Type 0} (form : Outcome → A) (line : A → Line) {l : Line} {a : A} {ws′ list′ : List ℕ} (bm′ : List ℕ) {fr : FrameAllocator} (e : l ≡ line a) where
     pub kernel-turn : (call : Kernel → KernelDid) → vmFit list ≡ true → kept a (lentMemory ws′ bm′ fr) list′ ≡ onVmList form call lent list → KernelReads call lent list list′
         → let d = call (kernel lent (vmIn list)) in
         ((u m : List ℕ) → turn kind l (boardOf ws′ bm′ list′ u m (left fr)) ≡ turn kind (line (form (d .answer))) (withKernel (boardOf ws bm list u m records) (d .kernel)))
@@ -76,12 +76,12 @@ module _ (records : Records) (ws bm list : List ℕ) (kind : ℕ) where
           reads fit .0,
         )
 
-  pub fault-turn : {l : Line} {a : Answer} {ws′ bm′ list′ : List ℕ} {fr : FrameAllocator} → l ≡ answerLine a → (call : Faulting → FaultDid) → markedFit list ≡ true
+  pub fault-turn : {l : Line} {a : Answer} {ws′ list′ : List ℕ} (bm′ : List ℕ) {fr : FrameAllocator} → l ≡ answerLine a → (call : Faulting → FaultDid) → markedFit list ≡ true
       → kept a (lentMemory ws′ bm′ fr) list′ ≡ onPages call lent list → FaultReads call lent list list′
       → let d = call (faulting lent (markedIn list)) in
       ((k u : List ℕ) → turn kind l (boardOf ws′ bm′ k u list′ (left fr)) ≡ turn kind (answerLine (asAnswer (d .answer))) (withFaulting (boardOf ws bm k u list records) (d .state)))
       × (markedFit list′ ≡ true)
-  fault-turn e call fit h reads =
+  fault-turn bm′ e call fit h reads =
       let o = h ∙ pages-on call lent list fit in (
         λ k u j. turn kind ((e ∙ ap (λ (x : Kept Answer). answerLine (x .answer)) o) j)
             (record { mem = o j .mem; root = records .root .0; kernel = vmIn k; user = mmapIn u; next = nextIn u; marked = reads fit .1 j }),

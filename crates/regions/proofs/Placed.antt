@@ -1,10 +1,10 @@
 -- The test for a broken list, one comparison after the other, and what it says of a region of a sound list.
-use Prim.Native.Nat.{ℕ, zero, suc, _+_, _-_, _%_, _<_, _≤_}
+use Prim.Native.Nat.{ℕ, zero, suc, _+_, _-_, _%_, _^_, _<_, _≤_}
 use mathlib.Core.Path.{_≡_, refl, sym, _∙_, subst}
 use mathlib.Core.Bool.{Bool, true, false}
 use mathlib.Core.List.{List, [], _∷_, _++_}
 use native.Mathlib.Omega.{arith}
-use native.Mathlib.Decide.{decLe}
+use native.Mathlib.Decide.{decLe, decLt}
 use lib.Dec.{eqb, leb, ltb}
 use lib.ListN.{length, getD, set, drop}
 use lib.Seq.{getD-take, length-take-le}
@@ -26,24 +26,6 @@ ends a n e h = by (decLe n (e - a))
     by (yes l) = le-leb _ _ l ∙ sym (le-leb (a + n) e (omega arith))
     by (no l) = lt-leb n (e - a) (omega arith) ∙ sym (lt-leb (a + n) e (omega arith))
 
-module _ (a n : ℕ) where
-  pub placed-start : (a % 4096 ≡ 0 → ⊥) → wellPlaced a n ≡ false
-  placed-start h = rw (ne-eqb _ _ h)
-
-  module _ (s : a % 4096 ≡ 0) where
-    pub placed-size : (n % 4096 ≡ 0 → ⊥) → wellPlaced a n ≡ false
-    placed-size h = rw (eq-eqb _ _ s, ne-eqb _ _ h)
-
-    module _ (z : n % 4096 ≡ 0) where
-      pub placed-empty : n ≡ 0 → wellPlaced a n ≡ false
-      placed-empty h = rw (eq-eqb _ _ s, eq-eqb _ _ z, le-ltb 0 n (omega arith))
-
-      pub placed-high : (n ≡ 0 → ⊥) → lastPage < a → wellPlaced a n ≡ false
-      placed-high p h = rw (eq-eqb _ _ s, eq-eqb _ _ z, lt-ltb 0 n (omega (arith, p)), lt-leb (a + n) lastPage (omega arith))
-
-      pub placed-end : (n ≡ 0 → ⊥) → a ≤ lastPage → wellPlaced a n ≡ leb n (lastPage - a)
-      placed-end p h = rw (eq-eqb _ _ s, eq-eqb _ _ z, lt-ltb 0 n (omega (arith, p))) (sym (ends a n lastPage h))
-
 -- what it says that a region is well placed
 pub record Placed (a n : ℕ) : Type 0 where
   pub even : a % 4096 ≡ 0
@@ -60,6 +42,25 @@ placed a n h =
 
 pub placed-back : (a n : ℕ) → Placed a n → wellPlaced a n ≡ true
 placed-back a n p = rw (eq-eqb _ _ (p .even), eq-eqb _ _ (p .whole), lt-ltb _ _ (p .some), le-leb _ _ (p .end))
+
+-- tested by its remainders and its sum
+module _ (a n : ℕ) where
+  pub placed-odd : (a % 4096 + n % 4096 ≡ 0 → ⊥) → wellPlaced a n ≡ false
+  placed-odd h = by (decLt 0 (a % 4096))
+    where
+      by : Dec (0 < a % 4096) → wellPlaced a n ≡ false
+      by (yes k) = rw (ne-eqb (a % 4096) 0 (λ e. omega arith))
+      by (no k) = let z : a % 4096 ≡ 0 = omega arith in rw (eq-eqb (a % 4096) 0 z, ne-eqb (n % 4096) 0 (λ e. h (omega arith)))
+
+  -- a sum of whole pages that does not wrap ends at the last page's start at most
+  pub placed-sum : (s : ℕ) → a < 2 ^ 64 → n < 2 ^ 64 → a % 4096 + n % 4096 ≡ 0 → s ≡ (a + n) % 2 ^ 64 → ltb a s ≡ wellPlaced a n
+  placed-sum s f g h e = by (decLt a s) (wellPlaced a n) refl
+    where
+      by : Dec (a < s) → (x : Bool) → wellPlaced a n ≡ x → ltb a s ≡ x
+      by (yes k) x w =
+          lt-ltb a s k ∙ sym (placed-back a n (record { even = omega arith; whole = omega arith; some = omega arith; end = omega arith })) ∙ w
+      by (no k) true w = let p = placed a n w in absurd (omega (arith, p .some, p .end))
+      by (no k) false w = le-ltb a s (omega arith)
 
 -- ---- each of a list
 

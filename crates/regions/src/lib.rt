@@ -11,9 +11,6 @@ pub const VMALLOC_END: u64 = 0xFFFF_FFE0_0000_0000;
 // The most regions that the list holds.
 pub const MAX_VM_REGIONS: usize = 256;
 
-// Where the last page starts: a region ends there at most.
-const LAST_PAGE: u64 = 0xFFFF_FFFF_FFFF_F000;
-
 pub struct VMRegion {
     pub start: u64,
     pub size: u64,
@@ -26,21 +23,13 @@ pub struct Stepped {
     pub count: usize,
 }
 
-// Whether a recorded region is aligned, not empty, and ends at most where the last page starts.
+// Whether a recorded region is aligned, not empty, and ends at most where the last page starts. Numbers of whole pages whose sum does not wrap end there, so that two
+// tests are enough.
 pub fn is_well_placed(start: u64, size: u64) -> bool
     ensures { λ r. ⌜ r ≡ wellPlaced start size ⌝ }
 {
-    if start % 4096 != 0 {
+    if start % 4096 + size % 4096 != 0 {
         return false;
     }
-    if size % 4096 != 0 {
-        return false;
-    }
-    if size == 0 {
-        return false;
-    }
-    if start > LAST_PAGE {
-        return false;
-    }
-    size <= LAST_PAGE - start
+    start < std::num::wrapping_add_u64(start, size)
 }

@@ -192,7 +192,7 @@ fn play_tape(
 // A tape from standard input on a fresh board, and its key on standard output.
 pub fn run_tape() {
     let mut words = [0u64; 8192];
-    let mut bitmap = [0u64; 128];
+    let mut bitmap = [0u8; 1024];
     let mut kernel = [0u8; vm_list::VM_SIZE];
     let mut user = [0u8; mappings::MMAP_SIZE];
     let mut marked = [0u8; cow::list::MARKED_SIZE];

@@ -48,9 +48,19 @@ module _ {A : Type 0} (key : A → ℕ) where
       unfolding risingFrom
       rise-on h = rw (c, le-leb (suc u) (key a) h)
 
+  rise-head : (lo : ℕ) (a : A) (l : List A) → risingFrom key lo (a ∷ l) ≡ true → lo ≤ key a
+  unfolding risingFrom
+  rise-head lo a l e = leb-true lo (key a) (both-true (leb lo (key a)) (risingFrom key (suc (key a)) l) e .0)
+
   rise-tail : (lo : ℕ) (a : A) (l : List A) → risingFrom key lo (a ∷ l) ≡ true → risingFrom key (suc (key a)) l ≡ true
   unfolding risingFrom
   rise-tail lo a l e = both-true (leb lo (key a)) (risingFrom key (suc (key a)) l) e .1
+
+  -- no key is below the first
+  rise-at : (d : A) (lo m : ℕ) (l : List A) → risingFrom key lo l ≡ true → m < length l → lo ≤ key (getD l m d)
+  rise-at d lo m [] h k = absurd (omega arith)
+  rise-at d lo zero (a ∷ l) h k = rise-head lo a l h
+  rise-at d lo (suc m) (a ∷ l) h k = omega (arith, rise-head lo a l h, rise-at d (suc (key a)) m l (rise-tail lo a l h) (omega arith))
 
   module _ (v : ℕ) where
     -- ---- the search for a key's place
@@ -73,6 +83,25 @@ module _ {A : Type 0} (key : A → ℕ) where
     unfolding placeOf
     place-le [] = omega arith
     place-le (a ∷ l) = pick-cases (λ (k : ℕ). k ≤ suc (length l)) (ltb (key a) v) _ _ (λ _. let more = place-le l in omega arith) (λ _. omega arith)
+
+    -- .. by halves: it is behind one with a lower key
+    pub place-behind : (d : A) (lo m : ℕ) (l : List A) → risingFrom key lo l ≡ true → m < length l → key (getD l m d) < v → m < placeOf key v l
+    place-behind d lo m [] h k e = absurd (omega arith)
+    place-behind d lo zero (a ∷ l) h k e = omega (arith, place-on {p = a ∷ l} refl e)
+    place-behind d lo (suc m) (a ∷ l) h k e =
+        let f = rise-tail lo a l h in
+        let up = rise-at d (suc (key a)) m l f (omega arith) in
+        omega (arith, place-on {p = a ∷ l} refl (omega arith), place-behind d (suc (key a)) m l f (omega arith) e)
+
+    -- .. and not behind one that has no lower key
+    pub place-until : (d : A) (m : ℕ) (l : List A) → m < length l → v ≤ key (getD l m d) → placeOf key v l ≤ m
+    place-until d m [] k e = absurd (omega arith)
+    place-until d zero (a ∷ l) k e = omega (arith, place-stop {p = a ∷ l} refl e)
+    place-until d (suc m) (a ∷ l) k e = by (place-until d m l (omega arith) e) (decLt (key a) v)
+      where
+        by : placeOf key v l ≤ m → Dec (key a < v) → placeOf key v (a ∷ l) ≤ suc m
+        by more (yes h) = omega (arith, place-on {p = a ∷ l} refl h)
+        by more (no h) = omega (arith, place-stop {p = a ∷ l} refl (omega arith))
 
     -- ---- one with the key stands at its place
 

@@ -19,7 +19,7 @@ pub enum Span {
 
 // The pages from `virt` on to the end of the span of an entry with d levels below it.
 fn to_end(virt: VirtAddr, d: u64) -> u64
-    requires { ⌜ d ≤ 3 ⌝ }
+    requires { ⌜ d ≤ aboveLast ⌝ }
     ensures { λ r. ⌜ r ≡ toEnd d (virt .0) ⌝ }
 {
     let width = 1 << (9 * d);

@@ -24,8 +24,10 @@ use Rattle.paging.proofs.Past.{Past, past-same, past-then, past-set, past-clear
 use Rattle.slots.specs.Slots.{listed}
 use Rattle.slots.specs.Sorted.{hasKey}
 use Rattle.cow.specs.Marked.{pageOf, pageKey}
-use Rattle.fault.specs.Faults.{isPresent, isWrite, isUser, isReserved, isFetch, asTaken, rawFrame, mapFrame, inHeap, valid, demandPage, temporary, translated, clearedIf, copyWords, copied, copyPage, copyTo, copyOnWrite, Faulting, FaultDid, soundFaulting, handleFault}
-use Rattle.fault.proofs.Steps.{raw-inside}
+use Rattle.error_code.specs.ErrorCode.{isPresent, isWrite, isUser, isReserved, isFetch}
+use Rattle.copying.specs.Copying.{asTaken, rawFrame, mapFrame, temporary, translated, clearedIf, copyWords, copied, copyPage, copyTo, copyOnWrite}
+use Rattle.fault.specs.Faults.{inHeap, valid, demandPage, Faulting, FaultDid, soundFaulting, handleFault}
+use Rattle.copying.proofs.Copying.{raw-inside}
 use Rattle.handler.specs.Handler.{overwrite, putOver, mapOver, handleFaultSecond}
 
 -- ---- steps

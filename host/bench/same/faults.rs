@@ -4,7 +4,7 @@ use super::memory::Memory;
 use super::packed::{put, shift, word};
 use super::tables::entry;
 use super::{line, Answer, BROKEN, PAGE};
-use gadulnos::Line;
+use gadulnos::{Line, Marks};
 
 const SLOTS: usize = 256;
 const BYTES: usize = 8 + 8 * SLOTS;
@@ -83,7 +83,7 @@ fn bits_of(code: u64) -> [bool; 5] {
 pub fn handle_page_fault(
     words: &mut [u64],
     fields: &mut [u8],
-    bits: &mut [u8],
+    bits: &mut Marks,
     root: u64,
     marked: &mut [u8],
     addr: u64,
@@ -146,7 +146,7 @@ fn copy(memory: &mut Memory, page: u64, user: bool) -> Answer {
 pub fn handle_page_fault_second(
     words: &mut [u64],
     fields: &mut [u8],
-    bits: &mut [u8],
+    bits: &mut Marks,
     root: u64,
     addr: u64,
     code: u64,

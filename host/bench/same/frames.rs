@@ -2,7 +2,7 @@
 
 use super::packed::{are_zero, put, word};
 use super::{line, Answer, BROKEN};
-use gadulnos::Line;
+use gadulnos::{Line, Marks};
 
 /// A record that was tested.
 #[derive(Clone, Copy)]
@@ -14,8 +14,8 @@ struct Record {
 
 impl Record {
     #[inline(always)]
-    fn read(fields: &[u8], bits: &[u8]) -> Option<Record> {
-        if fields.len() != 24 || bits.len() != 1024 {
+    fn read(fields: &[u8], bits: &Marks) -> Option<Record> {
+        if fields.len() != 24 {
             return None;
         }
         let record =
@@ -37,7 +37,7 @@ impl Record {
 /// The set bits below total. Frames are taken lowest first: words at the front are full, and nothing
 /// is marked behind the first that is not.
 #[inline(never)]
-fn count(bits: &[u8], total: u64) -> u64 {
+fn count(bits: &Marks, total: u64) -> u64 {
     let (whole, rest) = (total as usize / 64, total % 64);
     let ones = |from: usize, end: usize| -> u64 {
         (from..end).map(|k| u64::from(word(bits, k).count_ones())).sum()
@@ -55,13 +55,13 @@ fn count(bits: &[u8], total: u64) -> u64 {
 /// The record with the parts that hold it, for calls that change them.
 pub struct Frames<'a> {
     fields: &'a mut [u8],
-    bits: &'a mut [u8],
+    bits: &'a mut Marks,
     record: Record,
 }
 
 impl<'a> Frames<'a> {
     #[inline(always)]
-    pub fn sound(fields: &'a mut [u8], bits: &'a mut [u8]) -> Option<Frames<'a>> {
+    pub fn sound(fields: &'a mut [u8], bits: &'a mut Marks) -> Option<Frames<'a>> {
         let record = Record::read(fields, bits)?;
         Some(Frames { fields, bits, record })
     }
@@ -123,50 +123,50 @@ impl<'a> Frames<'a> {
 }
 
 #[inline(never)]
-pub fn allocate_frame(fields: &mut [u8], bits: &mut [u8]) -> Line {
+pub fn allocate_frame(fields: &mut [u8], bits: &mut Marks) -> Line {
     line(Frames::sound(fields, bits).ok_or(BROKEN).and_then(|mut frames| frames.take()))
 }
 
 #[inline]
-fn set_frame(fields: &mut [u8], bits: &mut [u8], frame: u64, marked: bool) -> Line {
+fn set_frame(fields: &mut [u8], bits: &mut Marks, frame: u64, marked: bool) -> Line {
     let Some(mut frames) = Frames::sound(fields, bits) else { return Line::refused(BROKEN) };
     frames.set(frame, marked);
     Line::met(0)
 }
 
 #[inline(never)]
-pub fn deallocate_frame(fields: &mut [u8], bits: &mut [u8], frame: u64) -> Line {
+pub fn deallocate_frame(fields: &mut [u8], bits: &mut Marks, frame: u64) -> Line {
     set_frame(fields, bits, frame, false)
 }
 
 #[inline(never)]
-pub fn mark_allocated(fields: &mut [u8], bits: &mut [u8], frame: u64) -> Line {
+pub fn mark_allocated(fields: &mut [u8], bits: &mut Marks, frame: u64) -> Line {
     set_frame(fields, bits, frame, true)
 }
 
 /// A question to a record that is only read.
 #[inline]
-fn asked(fields: &[u8], bits: &[u8], question: impl FnOnce(Record) -> u64) -> Line {
+fn asked(fields: &[u8], bits: &Marks, question: impl FnOnce(Record) -> u64) -> Line {
     Record::read(fields, bits).map_or(Line::refused(BROKEN), |record| Line::met(question(record)))
 }
 
 #[inline(never)]
-pub fn is_allocated(fields: &[u8], bits: &[u8], frame: u64) -> Line {
+pub fn is_allocated(fields: &[u8], bits: &Marks, frame: u64) -> Line {
     let is_marked = |i: u64| word(bits, i as usize / 64) >> (i % 64) & 1;
     asked(fields, bits, |record| record.place(frame).map_or(1, is_marked))
 }
 
 #[inline(never)]
-pub fn free_frames(fields: &[u8], bits: &[u8]) -> Line {
+pub fn free_frames(fields: &[u8], bits: &Marks) -> Line {
     asked(fields, bits, |record| record.total - record.allocated)
 }
 
 #[inline(never)]
-pub fn allocated_frames(fields: &[u8], bits: &[u8]) -> Line {
+pub fn allocated_frames(fields: &[u8], bits: &Marks) -> Line {
     asked(fields, bits, |record| record.allocated)
 }
 
 #[inline(never)]
-pub fn total_frames(fields: &[u8], bits: &[u8]) -> Line {
+pub fn total_frames(fields: &[u8], bits: &Marks) -> Line {
     asked(fields, bits, |record| record.total)
 }

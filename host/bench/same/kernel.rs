@@ -3,7 +3,7 @@
 use super::memory::Memory;
 use super::packed::{are_zero, clear, put, shift, word};
 use super::{is_placed, line, rounded, Answer, BROKEN, PAGE};
-use gadulnos::Line;
+use gadulnos::{Line, Marks};
 
 const SLOTS: usize = 256;
 const BYTES: usize = 8 + 24 * SLOTS;
@@ -31,7 +31,7 @@ fn sound(list: &[u8]) -> Option<usize> {
 pub fn vmalloc(
     words: &mut [u64],
     fields: &mut [u8],
-    bits: &mut [u8],
+    bits: &mut Marks,
     root: u64,
     list: &mut [u8],
     size: u64,
@@ -65,7 +65,7 @@ fn allocate(mut memory: Memory, list: &mut [u8], n: usize, size: u64) -> Answer 
 pub fn vfree(
     words: &mut [u64],
     fields: &mut [u8],
-    bits: &mut [u8],
+    bits: &mut Marks,
     root: u64,
     list: &mut [u8],
     addr: u64,

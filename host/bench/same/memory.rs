@@ -3,6 +3,7 @@
 use super::frames::Frames;
 use super::tables::{entry, frame_of, index, Tables, PRESENT};
 use super::{Answer, PAGE};
+use gadulnos::Marks;
 
 /// All the pages that there are: bits 63 to 48 of an address are ignored.
 const ALL_PAGES: u64 = 1 << 36;
@@ -27,7 +28,7 @@ impl<'a> Memory<'a> {
     pub fn sound(
         words: &'a mut [u64],
         fields: &'a mut [u8],
-        bits: &'a mut [u8],
+        bits: &'a mut Marks,
         root: u64,
     ) -> Option<Memory<'a>> {
         let frames = Frames::sound(fields, bits)?;

@@ -2,7 +2,7 @@
 
 use super::packed::put;
 use super::{BROKEN, PAGE};
-use gadulnos::Line;
+use gadulnos::{Line, Marks};
 
 /// The vmalloc window, and where a fresh search of mmap begins.
 const WINDOW: (u64, u64) = (0xFFFF_FFC0_0000_0000, 0xFFFF_FFE0_0000_0000);
@@ -13,7 +13,7 @@ const FIRST: u64 = 0x0000_1000_0000_0000;
 pub fn start(
     words: &mut [u64],
     fields: &mut [u8],
-    bits: &mut [u8],
+    bits: &mut Marks,
     root: &mut u64,
     kernel: &mut [u8],
     user: &mut [u8],
@@ -21,8 +21,8 @@ pub fn start(
     from: u64,
     to: u64,
 ) -> Line {
-    let lengths = [fields.len(), bits.len(), kernel.len(), user.len(), marked.len()];
-    if lengths != [24, 1024, 6152, 6160, 2056] || from > to || to > 1 << 52 {
+    let lengths = [fields.len(), kernel.len(), user.len(), marked.len()];
+    if lengths != [24, 6152, 6160, 2056] || from > to || to > 1 << 52 {
         return Line::refused(BROKEN);
     }
     let (first, total) = (from / PAGE, ((to - from) / PAGE).min(8192));

@@ -2,7 +2,7 @@
 
 use super::memory::Memory;
 use super::{line, Answer, BROKEN, PAGE};
-use gadulnos::Line;
+use gadulnos::{Line, Marks};
 
 pub const PRESENT: u64 = 1;
 const WRITABLE: u64 = 2;
@@ -131,7 +131,7 @@ pub fn unmap_page(words: &mut [u64], start: u64, total: u64, root: u64, virt: u6
 pub fn map_page(
     words: &mut [u64],
     fields: &mut [u8],
-    bits: &mut [u8],
+    bits: &mut Marks,
     root: u64,
     virt: u64,
     phys: u64,
@@ -149,7 +149,7 @@ pub fn map_page(
 pub fn map_huge_page(
     words: &mut [u64],
     fields: &mut [u8],
-    bits: &mut [u8],
+    bits: &mut Marks,
     root: u64,
     virt: u64,
     phys: u64,

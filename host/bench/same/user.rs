@@ -4,7 +4,7 @@
 use super::memory::Memory;
 use super::packed::{clear, put, shift, word};
 use super::{is_placed, line, rounded, Answer, BROKEN, LAST, PAGE};
-use gadulnos::Line;
+use gadulnos::{Line, Marks};
 
 const SLOTS: usize = 256;
 const BYTES: usize = 16 + 24 * SLOTS;
@@ -94,7 +94,7 @@ struct Asked {
 pub fn mmap(
     words: &mut [u64],
     fields: &mut [u8],
-    bits: &mut [u8],
+    bits: &mut Marks,
     root: u64,
     list: &mut [u8],
     given: bool,
@@ -143,7 +143,7 @@ fn map(mut memory: Memory, list: &mut [u8], n: usize, asked: &Asked) -> Answer {
 pub fn munmap(
     words: &mut [u64],
     fields: &mut [u8],
-    bits: &mut [u8],
+    bits: &mut Marks,
     root: u64,
     list: &mut [u8],
     addr: u64,

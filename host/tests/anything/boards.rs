@@ -1,7 +1,7 @@
 //! Sound boards that calls have led to, with no Rust beside them, so that they stand anywhere.
 
 use crate::guard::Against;
-use crate::port::{self, Port};
+use crate::port;
 use gadulnos::{Board, Line};
 use paper::call::Call;
 use paper::generate::{Generator, Profile, Random};
@@ -40,19 +40,7 @@ pub fn base(random: &mut Random) -> Result<Base, String> {
     let mut generator = Generator::new(random.word(), Profile::Everything);
     let state = port::state(&port)?;
     let calls = (0..40).map(|_| generator.next(&state)).collect();
-    Ok(Base { board: unguarded(&port), calls })
-}
-
-pub fn unguarded(port: &Port) -> Board {
-    Board {
-        words: port.words.to_vec(),
-        fields: port.fields.to_vec(),
-        bits: port.bits.to_vec(),
-        root: port.root,
-        kernel: port.kernel.to_vec(),
-        user: port.user.to_vec(),
-        marked: port.marked.to_vec(),
-    }
+    Ok(Base { board: port::unguarded(&port), calls })
 }
 
 pub fn copy(board: &Board) -> Board {

@@ -12,7 +12,7 @@ pub enum Kind {
     Odd,
     /// Odd, then one part broken, at times two.
     Broken,
-    /// Parts of other lengths.
+    /// Parts of other lengths, but for the bitmap, which has its length by its type.
     Lengths,
     /// A few bytes and words changed, whatever they are.
     Bytes,
@@ -124,10 +124,7 @@ fn any_word(random: &mut Random, one_in: u64, start: u64, total: u64) -> u64 {
 
 /// Other marks, also past the frames; the counter follows.
 fn marks(random: &mut Random, board: &mut Board) {
-    let mut bitmap = match gadulnos::unpack_bitmap(&board.bits) {
-        Some(bitmap) => bitmap,
-        None => return,
-    };
+    let mut bitmap = gadulnos::unpack_bitmap(&board.bits);
     let mut record = board.frames();
     match random.below(4) {
         0 => bitmap.fill_with(|| random.word()),
@@ -140,7 +137,7 @@ fn marks(random: &mut Random, board: &mut Board) {
         }
     }
     record.allocated = (0..record.total as usize).filter(|&i| bit(&bitmap, i)).count() as u64;
-    board.bits = gadulnos::pack_bitmap(&bitmap);
+    *board.bits = gadulnos::pack_bitmap(&bitmap);
     board.fields = record.pack();
 }
 
@@ -386,8 +383,8 @@ fn lengths(random: &mut Random, board: &mut Board) {
     };
     let words = other(board.words.len());
     board.words.resize(words, 7);
-    let Board { fields, bits, kernel, user, marked, .. } = board;
-    for part in [fields, bits, kernel, user, marked] {
+    let Board { fields, kernel, user, marked, .. } = board;
+    for part in [fields, kernel, user, marked] {
         let length = other(part.len());
         part.resize(length, 0);
     }
@@ -396,9 +393,9 @@ fn lengths(random: &mut Random, board: &mut Board) {
 /// A byte of a part, or a word, made any.
 fn any_byte(random: &mut Random, board: &mut Board) {
     let Board { words, fields, bits, kernel, user, marked, .. } = board;
-    let part = match random.below(6) {
+    let part: &mut [u8] = match random.below(6) {
         0 => fields,
-        1 => bits,
+        1 => &mut bits[..],
         2 => kernel,
         3 => user,
         4 => marked,
@@ -423,16 +420,14 @@ fn rubbish(random: &mut Random, board: &mut Board) {
         true => length,
         false => random.below(2 * length as u64 + 2) as usize,
     };
-    let words = length(512 * 4);
-    let Board { fields, bits, kernel, user, marked, .. } = board;
-    for part in [fields, bits, kernel, user, marked] {
+    board.words.resize(length(512 * 4), 0);
+    let Board { words, fields, bits, kernel, user, marked, .. } = board;
+    for part in [&mut *fields, &mut *kernel, &mut *user, &mut *marked] {
         let length = length(part.len());
         part.resize(length, 0);
     }
-    board.words.resize(words, 0);
-    let Board { fields, bits, kernel, user, marked, .. } = board;
-    board.words.fill_with(|| random.word());
-    for part in [fields, bits, kernel, user, marked] {
+    words.fill_with(|| random.word());
+    for part in [&mut fields[..], &mut bits[..], kernel, user, marked] {
         part.fill_with(|| random.word() as u8);
     }
     board.root = random.word() >> random.below(64);

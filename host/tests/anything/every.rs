@@ -1,6 +1,6 @@
 //! Every C function as C calls it, from the one table: pointers and lengths of any kind that the header
-//! allows. Byte parts stand at even and odd addresses, between guards or between bytes that must stay,
-//! and a part of length 0 may be null.
+//! allows, and the bitmap without one. Byte parts stand at even and odd addresses, between guards or
+//! between bytes that must stay, and a part of length 0 may be null.
 
 use crate::boards::{self, Base};
 use crate::guard::{self, Against, Guarded};
@@ -129,7 +129,7 @@ fn call(random: &mut Random, base: &Base, row: &Row) -> Result<(), String> {
         match part(random, base, arg) {
             Some(mut part) => {
                 args.push(part.pointer());
-                if !matches!(arg, Arg::RootOut | Arg::Table | Arg::Indices) {
+                if !arg.has_no_length() {
                     args.push(part.length());
                 }
                 lent.push((arg, part));
@@ -175,9 +175,9 @@ fn is_read(arg: Arg) -> bool {
 /// What a pointer lends: mostly the board's own part.
 fn part(random: &mut Random, base: &Base, arg: Arg) -> Option<Lent> {
     let board = &base.board;
-    let bytes = match arg {
+    let bytes: &[u8] = match arg {
         Arg::Fields | Arg::FieldsMut => &board.fields,
-        Arg::Bits | Arg::BitsMut => &board.bits,
+        Arg::Bits | Arg::BitsMut => &board.bits[..],
         Arg::KernelMut => &board.kernel,
         Arg::UserMut => &board.user,
         Arg::Marked | Arg::MarkedMut => &board.marked,
@@ -200,15 +200,25 @@ fn part(random: &mut Random, base: &Base, arg: Arg) -> Option<Lent> {
         Arg::Indices => return Some(Lent::words(random, &[7; 4])),
         _ => return None,
     };
-    let mut bytes = bytes.clone();
+    let bytes = damaged(random, bytes, arg.has_no_length());
+    Some(Lent::bytes(random, &bytes))
+}
+
+/// Bytes, seldom of another length, unless that stands in their type, or with other contents.
+fn damaged(random: &mut Random, bytes: &[u8], has_no_length: bool) -> Vec<u8> {
+    let mut bytes = bytes.to_vec();
     match random.below(20) {
+        0..=2 if has_no_length => {
+            let at = random.below(bytes.len() as u64) as usize;
+            bytes[at] ^= 1 << random.below(8);
+        }
         0 => bytes.clear(),
         1 => drop(bytes.pop()),
         2 => bytes.push(random.word() as u8),
         3 => bytes.iter_mut().for_each(|byte| *byte = random.word() as u8),
         _ => {}
     }
-    Some(Lent::bytes(random, &bytes))
+    bytes
 }
 
 /// What a number is: mostly one that means something to the board.

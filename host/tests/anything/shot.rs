@@ -133,7 +133,7 @@ fn listed(random: &mut Random, port: &Port) -> Option<Call> {
 
 /// Makes a call and checks it.
 fn fire(port: &mut Port, shot: &Shot, seen: &mut Seen) -> Result<(), String> {
-    let before = boards::unguarded(port);
+    let before = port::unguarded(port);
     let mut model = Model::of(&before);
     let (line, wanted) = match *shot {
         Shot::Call(call) => (port::play(port, &call), model.play(&call)),
@@ -185,10 +185,9 @@ fn walk(
     holds(words[..] == model.words[..], "the model's words")
 }
 
-/// Whether each part but the words has its length.
+/// Whether each part has its length: the words may have any, and the bitmap has it by its type.
 fn has_lengths(board: &Board) -> bool {
     board.fields.len() == Frames::BYTES
-        && board.bits.len() == gadulnos::BITMAP_BYTES
         && board.kernel.len() == Kernel::BYTES
         && board.user.len() == User::BYTES
         && board.marked.len() == Marked::BYTES
@@ -206,15 +205,22 @@ fn same(port: &Port, board: &Board) -> bool {
 
 /// That each part is the model's; one that stands for no record has stayed.
 fn compare(port: &Port, before: &Board, model: &Model) -> Result<(), String> {
-    let parts = [
-        ("fields", &port.fields, &before.fields, model.frames.map(|frames| frames.pack())),
-        ("bits", &port.bits, &before.bits, model.bitmap.map(|bits| gadulnos::pack_bitmap(&bits))),
-        ("kernel", &port.kernel, &before.kernel, model.kernel.as_ref().map(Kernel::pack)),
-        ("user", &port.user, &before.user, model.user.as_ref().map(User::pack)),
-        ("marked", &port.marked, &before.marked, model.marked.as_ref().map(Marked::pack)),
+    let wanted = [
+        model.frames.as_ref().map(Frames::pack),
+        Some(gadulnos::pack_bitmap(&model.bitmap).to_vec()),
+        model.kernel.as_ref().map(Kernel::pack),
+        model.user.as_ref().map(User::pack),
+        model.marked.as_ref().map(Marked::pack),
     ];
-    for (name, part, old, wanted) in parts {
-        let wanted = wanted.as_ref().unwrap_or(old);
+    let parts: [(&str, &[u8], &[u8]); 5] = [
+        ("fields", &port.fields, &before.fields),
+        ("bits", &port.bits[..], &before.bits[..]),
+        ("kernel", &port.kernel, &before.kernel),
+        ("user", &port.user, &before.user),
+        ("marked", &port.marked, &before.marked),
+    ];
+    for ((name, part, old), wanted) in parts.into_iter().zip(&wanted) {
+        let wanted = wanted.as_deref().unwrap_or(old);
         let at = part.iter().zip(wanted).position(|(a, b)| a != b);
         if let Some(at) = at {
             let (got, wanted) = (part[at], wanted[at]);

@@ -6,7 +6,7 @@ use crate::shot::Seen;
 use gadulnos::Line;
 use std::collections::BTreeSet;
 
-/// An argument as C sees it. A part is a pointer and a length.
+/// An argument as C sees it. A part is a pointer and a length, but for the bitmap.
 #[derive(Clone, Copy, PartialEq, Eq, Debug)]
 pub enum Arg {
     Number,
@@ -27,6 +27,7 @@ pub enum Arg {
     WordsMut,
     Fields,
     FieldsMut,
+    /// A pointer to the bitmap's 1024 bytes.
     Bits,
     BitsMut,
     KernelMut,
@@ -36,6 +37,13 @@ pub enum Arg {
 }
 
 use Arg::*;
+
+impl Arg {
+    /// Whether it is a pointer alone, to as many items as its type says.
+    pub fn has_no_length(self) -> bool {
+        matches!(self, RootOut | Table | Indices | Bits | BitsMut)
+    }
+}
 
 #[derive(Clone, Copy, PartialEq, Eq, Debug)]
 pub enum Answer {

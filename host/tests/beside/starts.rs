@@ -46,9 +46,9 @@ pub fn check(options: &Options) -> Checked {
 }
 
 fn unchanged(port: &port::Port, before: &gadulnos::Board) -> Result<(), String> {
-    let parts = [&port.fields, &port.bits, &port.kernel, &port.user, &port.marked];
-    let old = [&before.fields, &before.bits, &before.kernel, &before.user, &before.marked];
-    let same = parts.iter().zip(old).all(|(part, old)| part[..] == old[..]);
+    let parts = [&port.fields[..], &port.bits[..], &port.kernel, &port.user, &port.marked];
+    let old = [&before.fields[..], &before.bits[..], &before.kernel, &before.user, &before.marked];
+    let same = parts == old;
     let same = same && port.words[..] == before.words[..] && port.root == before.root;
     equal_at("a refused start", same, true)
 }

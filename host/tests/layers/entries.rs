@@ -1,6 +1,6 @@
 //! Entries, flags and indices, beside both files' entry types.
 
-use crate::guard::{Against, Guarded};
+use crate::guard::{Against, GuardedArray};
 use crate::options::Options;
 use crate::report::{equal_at, Checked, Report};
 use gadulnos::Line;
@@ -133,8 +133,8 @@ fn get_entry(options: &Options) -> Checked {
     let mut cases = 0;
     for _ in 0..1 + options.amount / 20 {
         let lent: [u64; 512] = std::array::from_fn(|_| random.word());
-        let lent = Guarded::copy(&lent, Against::Behind);
-        let table: &[u64; 512] = lent.array();
+        let lent = GuardedArray::copy(&lent, Against::Behind);
+        let table: &[u64; 512] = &lent;
         let far = [512, 513, 1023, 1 << 32, 1 << 60, 1 << 63, usize::MAX - 511, usize::MAX];
         let any = [random.word() as usize, random.below(1024) as usize];
         for index in (0..512).chain(far).chain(any) {

@@ -118,7 +118,7 @@ fn play(start: &Start, against: Against, calls: &[Call]) -> Result<(), String> {
     let Start { bitmap, frames, init } = *start;
     let Frames { start_frame, total, allocated } = frames;
     let mut rust = access::of(&access::Record { start_frame, total, allocated, bitmap });
-    let (fields, bits) = (frames.pack(), gadulnos::pack_bitmap(&bitmap));
+    let (fields, bits) = (frames.pack(), Box::new(gadulnos::pack_bitmap(&bitmap)));
     let mut ours = port::guarded(&Board { fields, bits, ..Board::lend(0) }, against);
     if let Some((from, to)) = init {
         rust.init(from, to);
@@ -156,7 +156,7 @@ fn compare(ours: &port::Port, rust: &FrameAllocator) -> Result<(), String> {
     let (start_frame, total, allocated) = (record.start_frame, record.total, record.allocated);
     let frames = Frames { start_frame, total, allocated };
     equal_at("the record", ours.frames(), frames)?;
-    equal_at("the bitmap", gadulnos::unpack_bitmap(&ours.bits), Some(record.bitmap))
+    equal_at("the bitmap", gadulnos::unpack_bitmap(&ours.bits), record.bitmap)
 }
 
 /// Any marks, also past the board's frames, and how many of these they mark.

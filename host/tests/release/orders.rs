@@ -140,11 +140,14 @@ fn release(
 
 /// 'one and the same state, every lent word and record equal': every byte of every part.
 fn same(one: &Parts, other: &Parts) -> Result<(), String> {
-    let parts =
-        |b: &Parts| [&b.fields, &b.bits, &b.kernel, &b.user, &b.marked].map(|part| part.to_vec());
-    let names = ["fields", "bitmap", "vmalloc list", "mmap list", "marked pages"];
-    for ((name, a), b) in names.iter().zip(parts(one)).zip(parts(other)) {
-        holds(a == b, &format!("one and the same {name}"))?;
+    for (name, same) in [
+        ("fields", one.fields == other.fields),
+        ("bitmap", one.bits == other.bits),
+        ("vmalloc list", one.kernel == other.kernel),
+        ("mmap list", one.user == other.user),
+        ("marked pages", one.marked == other.marked),
+    ] {
+        holds(same, &format!("one and the same {name}"))?;
     }
     equal(one.root, other.root)?;
     holds(one.words == other.words, "one and the same words")

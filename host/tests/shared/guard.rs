@@ -80,11 +80,6 @@ impl<T: Copy> Guarded<T> {
         guarded.copy_from_slice(items);
         guarded
     }
-
-    /// The items as an array of their length.
-    pub fn array<const N: usize>(&self) -> &[T; N] {
-        self[..].try_into().expect("an array of this length")
-    }
 }
 
 impl<T: Copy> Deref for Guarded<T> {
@@ -107,6 +102,30 @@ impl<T: Copy> Drop for Guarded<T> {
     fn drop(&mut self) {
         // SAFETY: the mapping is ours, and no view of it outlives self.
         unsafe { munmap(self.mapping.cast(), self.bytes) };
+    }
+}
+
+/// An array between two guards, for what is lent without a length.
+pub struct GuardedArray<T: Copy, const N: usize>(Guarded<T>);
+
+impl<T: Copy, const N: usize> GuardedArray<T, N> {
+    /// A guarded copy.
+    pub fn copy(items: &[T; N], against: Against) -> GuardedArray<T, N> {
+        GuardedArray(Guarded::copy(items, against))
+    }
+}
+
+impl<T: Copy, const N: usize> Deref for GuardedArray<T, N> {
+    type Target = [T; N];
+
+    fn deref(&self) -> &[T; N] {
+        self.0[..].try_into().expect("as many items as were copied")
+    }
+}
+
+impl<T: Copy, const N: usize> DerefMut for GuardedArray<T, N> {
+    fn deref_mut(&mut self) -> &mut [T; N] {
+        (&mut self.0[..]).try_into().expect("as many items as were copied")
     }
 }
 

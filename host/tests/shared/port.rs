@@ -2,20 +2,20 @@
 
 #![allow(dead_code)] // no program uses all of it
 
-use crate::guard::{self, Against, Guarded};
-use gadulnos::{Board, Frames, Kernel, Line, Marked, User};
+use crate::guard::{self, Against, Guarded, GuardedArray};
+use gadulnos::{Board, Frames, Kernel, Line, Marked, User, BITMAP_BYTES};
 use paper::call::{user, writable, Call};
 use paper::generate::Random;
 use paper::state::{Region, Slot, State, SLOTS};
 
-pub type Port = Board<Guarded<u64>, Guarded<u8>>;
+pub type Port = Board<Guarded<u64>, Guarded<u8>, GuardedArray<u8, BITMAP_BYTES>>;
 
 /// A copy of lent parts between guards.
 pub fn guarded(board: &Board, against: Against) -> Port {
     Board {
         words: Guarded::copy(&board.words, against),
         fields: Guarded::copy(&board.fields, against),
-        bits: Guarded::copy(&board.bits, against),
+        bits: GuardedArray::copy(&board.bits, against),
         root: board.root,
         kernel: Guarded::copy(&board.kernel, against),
         user: Guarded::copy(&board.user, against),
@@ -28,7 +28,7 @@ pub fn unguarded(port: &Port) -> Board {
     Board {
         words: port.words.to_vec(),
         fields: port.fields.to_vec(),
-        bits: port.bits.to_vec(),
+        bits: Box::new(*port.bits),
         root: port.root,
         kernel: port.kernel.to_vec(),
         user: port.user.to_vec(),
@@ -40,7 +40,7 @@ pub fn unguarded(port: &Port) -> Board {
 pub fn rubbish(random: &mut Random, words: &[u64]) -> Board {
     let mut board = Board { words: words.to_vec(), root: random.word(), ..Board::lend(0) };
     let Board { fields, bits, kernel, user, marked, .. } = &mut board;
-    for part in [fields, bits, kernel, user, marked] {
+    for part in [&mut fields[..], &mut bits[..], kernel, user, marked] {
         part.fill_with(|| random.word() as u8);
     }
     board
@@ -65,7 +65,7 @@ pub fn packed(state: &State) -> Board {
     Board {
         words: state.words.to_vec(),
         fields: Frames { start_frame, total, allocated }.pack(),
-        bits: gadulnos::pack_bitmap(&state.bitmap),
+        bits: Box::new(gadulnos::pack_bitmap(&state.bitmap)),
         root,
         kernel: kernel.pack(),
         user: user.pack(),
@@ -118,7 +118,6 @@ pub fn user_may(port: &Port, virt: u64) -> [Line; 2] {
 /// a slot past the count that is not zero.
 pub fn state(port: &Port) -> Result<State<'_>, String> {
     let frames = Frames::unpack(&port.fields).ok_or("fields")?;
-    let bitmap = gadulnos::unpack_bitmap(&port.bits).ok_or("bits")?;
     let kernel = Kernel::unpack(&port.kernel).ok_or("the vmalloc list")?;
     let user = User::unpack(&port.user).ok_or("the mmap list")?;
     let marked = Marked::unpack(&port.marked).ok_or("the marked pages")?;
@@ -142,7 +141,7 @@ pub fn state(port: &Port) -> Result<State<'_>, String> {
         start_frame: frames.start_frame,
         total: frames.total,
         allocated: frames.allocated,
-        bitmap,
+        bitmap: gadulnos::unpack_bitmap(&port.bits),
         root: port.root,
         vmalloc_count: kernel.count as usize,
         slots: kernel.slots.map(|s| Slot { start: s.start, size: s.size, used: s.used }),

@@ -2,7 +2,7 @@
 use Prim.Native.Nat.{ℕ, _+_, _*_}
 use mathlib.Core.Path.{_≡_, _∙_, sym}
 use native.Mathlib.Omega.{arith}
-use Rattle.bitmap.specs.Bitmap.{count as countBelow}
+use Rattle.bitmap.specs.Bitmap.{count as countBelow, marksIn}
 use Rattle.bitmap.proofs.Marks.{count-le}
 use borrow.Author.Needs.{needs}
 use Rattle.bitmap.proofs.count_whole.Statement.{statement}
@@ -25,7 +25,7 @@ count-words-requires c κs = search needs
 
 add-result : tie.Need-add-result
 add-result c =
-    let bm = c .before .before .before .before .before .before .args .bitmap .now in
+    let bm = marksIn (c .before .before .before .before .before .before .args .bitmap .now) in
     let near = c .before .before .before .near in
     omega (arith, c .count-words .ensures, c .before .before .before .before .full-words .ensures .1, count-le bm (near .result * 64), near .ensures .1)
 
@@ -41,7 +41,7 @@ count-words-requires-2 c κs = search needs
 
 add-result-2 : tie.Need-add-result-2
 add-result-2 c =
-    let bm = c .before .before .before .before .before .before .args .bitmap .now in
+    let bm = marksIn (c .before .before .before .before .before .before .args .bitmap .now) in
     let n = c .before .before .before .before .before .before .args .n in
     omega (arith, c .count-words2 .ensures, c .before .before .before .before .full-words .ensures .1, count-le bm (n * 64))
 

@@ -4,14 +4,14 @@ use mathlib.Core.Path.{_≡_, refl, sym, _∙_, ap, ap₂}
 use native.Mathlib.Omega.{arith}
 use borrow.Author.Needs.{needs}
 use borrow.Author.Tests.{eqb-true}
-use Rattle.bitmap.specs.Bitmap.{count as countBelow}
+use Rattle.bitmap.specs.Bitmap.{count as countBelow, marksIn}
 use Rattle.bitmap.proofs.Marks.{count-le}
 use Rattle.bitmap.proofs.ByWord.{count-word, count-full, joined-clear}
 use Rattle.bitmap.proofs.count_words.Statement.{statement}
 use Rattle.bitmap.proofs.count_words.Tie as tie
 
 abbrev Inv-loop : tie.InvT-loop
-Inv-loop bitmap from end sum₀ k₀ sum k = (from ≤ k) × (k ≤ end) × (countBelow bitmap (from * 64) + sum ≡ countBelow bitmap (k * 64))
+Inv-loop bitmap from end sum₀ k₀ sum k = (from ≤ k) × (k ≤ end) × (countBelow (marksIn bitmap) (from * 64) + sum ≡ countBelow (marksIn bitmap) (k * 64))
 
 abbrev μ-loop : tie.MeasureT-loop
 μ-loop bitmap from end sum₀ k₀ sum k = end - k
@@ -27,16 +27,16 @@ ones-requires c κs = search needs
 
 -- what the loop's word adds
 grown : (c : tie.After-ones Inv-loop μ-loop)
-    → countBelow (c .before .before .before .before .before .args .bitmap .now) (c .before .before .before .before .before .args .from * 64) + (c .before .before .before .loop .sum + c .ones .result)
-    ≡ countBelow (c .before .before .before .before .before .args .bitmap .now) ((c .before .before .before .loop .k + 1) * 64)
+    → countBelow (marksIn (c .before .before .before .before .before .args .bitmap .now)) (c .before .before .before .before .before .args .from * 64) + (c .before .before .before .loop .sum + c .ones .result)
+    ≡ countBelow (marksIn (c .before .before .before .before .before .args .bitmap .now)) ((c .before .before .before .loop .k + 1) * 64)
 grown c =
     let l = c .before .before .before in
-    omega (arith, l .loop .inv .2, c .ones .ensures, count-word (l .before .before .args .bitmap .now) (l .loop .k) (c .before .word .result) (c .before .word .ensures) (c .before .word .ok))
+    omega (arith, l .loop .inv .2, c .ones .ensures, count-word (marksIn (l .before .before .args .bitmap .now)) (l .loop .k) (c .before .word .result) (c .before .word .ensures) (c .before .word .ok))
 
 add-sum : tie.Need-add-sum Inv-loop μ-loop
 add-sum c =
     let l = c .before .before .before in
-    omega (arith, grown c, count-le (l .before .before .args .bitmap .now) ((l .loop .k + 1) * 64))
+    omega (arith, grown c, count-le (marksIn (l .before .before .args .bitmap .now)) ((l .loop .k + 1) * 64))
 
 add-k : tie.Need-add-k Inv-loop μ-loop
 add-k c = search needs
@@ -50,7 +50,7 @@ loop-again c = (search needs, search needs, grown c)
 returns : tie.Need-returns Inv-loop μ-loop
 returns c =
     let l = c .before in
-    l .loop .inv .2 ∙ ap (λ (k : ℕ). countBelow (l .before .before .args .bitmap .now) (k * 64)) (omega (arith, c .loop-test .left, l .loop .inv .1))
+    l .loop .inv .2 ∙ ap (λ (k : ℕ). countBelow (marksIn (l .before .before .args .bitmap .now)) (k * 64)) (omega (arith, c .loop-test .left, l .loop .inv .1))
 
 pub count-words-spec : {M : Type 1} → statement M
 count-words-spec =

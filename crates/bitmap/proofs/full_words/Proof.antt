@@ -4,14 +4,14 @@ use mathlib.Core.Path.{_≡_, refl, sym, _∙_, ap, ap₂}
 use native.Mathlib.Omega.{arith}
 use borrow.Author.Needs.{needs}
 use borrow.Author.Tests.{eqb-true}
-use Rattle.bitmap.specs.Bitmap.{count as countBelow}
+use Rattle.bitmap.specs.Bitmap.{count as countBelow, marksIn}
 use Rattle.bitmap.proofs.Marks.{count-le}
 use Rattle.bitmap.proofs.ByWord.{count-word, count-full, joined-clear}
 use Rattle.bitmap.proofs.full_words.Statement.{statement}
 use Rattle.bitmap.proofs.full_words.Tie as tie
 
 abbrev Inv-loop : tie.InvT-loop
-Inv-loop bitmap n k₀ k = (k ≤ n) × (countBelow bitmap (k * 64) ≡ k * 64)
+Inv-loop bitmap n k₀ k = (k ≤ n) × (countBelow (marksIn bitmap) (k * 64) ≡ k * 64)
 
 abbrev μ-loop : tie.MeasureT-loop
 μ-loop bitmap n k₀ k = n - k
@@ -35,7 +35,7 @@ loop-less c = search needs
 loop-again : tie.Need-loop-again Inv-loop μ-loop
 loop-again c =
     let l = c .before .before .before in
-    (search needs, count-full (l .before .before .args .bitmap .now) (l .loop .k) (c .before .word .result) (c .before .word .ensures) (c .if1 .left) (l .loop .inv .1))
+    (search needs, count-full (marksIn (l .before .before .args .bitmap .now)) (l .loop .k) (c .before .word .result) (c .before .word .ensures) (c .if1 .left) (l .loop .inv .1))
 
 returns-2 : tie.Need-returns-2 Inv-loop μ-loop
 returns-2 c = c .before .loop .inv

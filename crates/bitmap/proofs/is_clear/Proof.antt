@@ -4,14 +4,14 @@ use mathlib.Core.Path.{_≡_, refl, sym, _∙_, ap, ap₂}
 use native.Mathlib.Omega.{arith}
 use borrow.Author.Needs.{needs}
 use borrow.Author.Tests.{eqb-true}
-use Rattle.bitmap.specs.Bitmap.{count as countBelow}
+use Rattle.bitmap.specs.Bitmap.{count as countBelow, marksIn}
 use Rattle.bitmap.proofs.Marks.{count-le}
 use Rattle.bitmap.proofs.ByWord.{count-word, count-full, joined-clear}
 use Rattle.bitmap.proofs.is_clear.Statement.{statement}
 use Rattle.bitmap.proofs.is_clear.Tie as tie
 
 abbrev Inv-loop : tie.InvT-loop
-Inv-loop bitmap from end any₀ k₀ any k = (from ≤ k) × (k ≤ end) × (any ≡ 0 → countBelow bitmap (k * 64) ≡ countBelow bitmap (from * 64))
+Inv-loop bitmap from end any₀ k₀ any k = (from ≤ k) × (k ≤ end) × (any ≡ 0 → countBelow (marksIn bitmap) (k * 64) ≡ countBelow (marksIn bitmap) (from * 64))
 
 abbrev μ-loop : tie.MeasureT-loop
 μ-loop bitmap from end any₀ k₀ any k = end - k
@@ -31,12 +31,12 @@ loop-less c = search needs
 loop-again : tie.Need-loop-again Inv-loop μ-loop
 loop-again c =
     let l = c .before .before in
-    (search needs, search needs, joined-clear (l .before .before .args .bitmap .now) (l .before .before .args .from) (l .loop .k) (c .word .result) (l .loop .any) (c .word .ensures) (l .loop .inv .2))
+    (search needs, search needs, joined-clear (marksIn (l .before .before .args .bitmap .now)) (l .before .before .args .from) (l .loop .k) (c .word .result) (l .loop .any) (c .word .ensures) (l .loop .inv .2))
 
 returns : tie.Need-returns Inv-loop μ-loop
 returns c =
     let l = c .before in
-    λ e. ap (λ (k : ℕ). countBelow (l .before .before .args .bitmap .now) (k * 64)) (omega (arith, c .loop-test .left, l .loop .inv .1)) ∙ l .loop .inv .2 (eqb-true _ _ e)
+    λ e. ap (λ (k : ℕ). countBelow (marksIn (l .before .before .args .bitmap .now)) (k * 64)) (omega (arith, c .loop-test .left, l .loop .inv .1)) ∙ l .loop .inv .2 (eqb-true _ _ e)
 
 pub is-clear-spec : {M : Type 1} → statement M
 is-clear-spec =

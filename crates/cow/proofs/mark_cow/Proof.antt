@@ -39,7 +39,7 @@ place-of-requires c κs =
     let n = c .before in
     let e = n .before .before .before in
     let t = tested (e .before .before .before .before .args .marked .now) (sound e) (n .count .ensures) in
-    (t .0, t .1 .0)
+    (t .0, (t .1 .0, t .1 .1))
 
 stands-at-requires : tie.Need-stands-at-requires
 stands-at-requires c κs =

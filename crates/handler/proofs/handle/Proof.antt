@@ -1,11 +1,11 @@
 -- `handle`: 5, access that was denied, or the page mapped.
 use mathlib.Core.Path.{_≡_, sym, _∙_}
 use mathlib.Core.Bool.{false}
-use Rattle.frame.specs.Frames.{frames as framesOf}
+use Rattle.paging.specs.Kept.{lentMemory}
 use Rattle.paging.specs.Levels.{aboveLast}
-use Rattle.paging.specs.Map.{Memory, memory}
+use Rattle.paging.specs.Map.{Memory}
 use Rattle.paging.proofs.Calls.{told}
-use Rattle.fault.specs.Faults.{isReserved}
+use Rattle.error_code.specs.ErrorCode.{isReserved}
 use Rattle.handler.proofs.Handler.{second-reserved, second-present, second-absent}
 use borrow.Author.Needs.{needs}
 use Rattle.handler.proofs.handle.Statement.{statement}
@@ -16,7 +16,7 @@ is-reserved-requires c κs = search needs
 
 -- what is lent
 abbrev lent : tie.Start → Memory
-lent s = memory (s .args .words .now) (framesOf (s .args .bitmap .now) (s .args .frames))
+lent s = lentMemory (s .args .words .now) (s .args .bitmap .now) (s .args .frames)
 
 plain : (c : tie.Else1) → isReserved (c .before .before .before .args .code) ≡ false
 plain c = sym (c .before .is-reserved .ensures) ∙ c .if1 .left

@@ -1,11 +1,11 @@
 -- `handle_page_fault`: 10, or the second path at the address's page.
 use mathlib.Core.Path.{_≡_}
 use mathlib.Core.Bool.{true}
-use Rattle.frame.specs.Frames.{frames as framesOf}
 use Rattle.frame.proofs.Laws.{passed, failed}
 use Rattle.mapper.proofs.Laws.{passed-on}
+use Rattle.paging.specs.Kept.{lentMemory}
 use Rattle.paging.specs.Levels.{aboveLast}
-use Rattle.paging.specs.Map.{Memory, memory}
+use Rattle.paging.specs.Map.{Memory}
 use Rattle.paging.specs.Calls.{whole}
 use Rattle.paging.proofs.Calls.{told, whole-roomy}
 use Rattle.handler.proofs.Handler.{second-broken, second-is}
@@ -21,7 +21,7 @@ same-length c = search needs
 
 -- what is lent
 abbrev lent : tie.Start → Memory
-lent s = memory (s .args .words .now) (framesOf (s .args .bitmap .now) (s .args .frames))
+lent s = lentMemory (s .args .words .now) (s .args .bitmap .now) (s .args .frames)
 
 -- nothing is broken
 good : (c : tie.Else1) → whole (lent (c .before .before .before .before .before)) (c .before .before .before .before .before .args .root .0) ≡ true

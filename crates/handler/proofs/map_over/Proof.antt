@@ -1,12 +1,12 @@
 -- `map_over`: the tables on the way, then the word over what stands there.
 use native.Mathlib.Omega.{arith}
 use lib.ListN.{take, length-take}
-use Rattle.frame.specs.Frames.{frames as framesOf}
-use Rattle.mapper.proofs.Laws.{made-roomy}
+use Rattle.tables.proofs.Laws.{made-roomy}
+use Rattle.paging.specs.Kept.{lentMemory}
 use Rattle.paging.specs.Levels.{aboveLast}
 use Rattle.paging.specs.Map.{Memory, memory}
 use Rattle.paging.proofs.Map.{roomy-less, roomy-lent}
-use Rattle.fault.proofs.Steps.{frame-low}
+use Rattle.copying.proofs.Copying.{frame-low}
 use Rattle.handler.proofs.Handler.{made-lent, map-over-stop, map-over-put}
 use borrow.Author.Needs.{needs}
 use Rattle.handler.proofs.map_over.Statement.{statement}
@@ -35,7 +35,7 @@ array-read-put-over c = search needs
 
 -- the memory that is lent
 abbrev lent : tie.Start → Memory
-lent s = memory (s .args .words .now) (framesOf (s .args .bitmap .now) (s .args .frames))
+lent s = lentMemory (s .args .words .now) (s .args .bitmap .now) (s .args .frames)
 
 put-over-requires : tie.Need-put-over-requires
 put-over-requires c κs =

@@ -1,8 +1,8 @@
 -- `map_page`: 11, or the page mapped to the frame that was taken.
 use mathlib.Core.Path.{sym, _∙_}
-use Rattle.mapper.proofs.Laws.{stepped}
+use Rattle.tables.proofs.Laws.{stepped}
 use Rattle.paging.specs.Levels.{aboveLast}
-use Rattle.fault.proofs.Steps.{taken-roomy, taken-lent}
+use Rattle.copying.proofs.Copying.{taken-roomy, taken-lent}
 use Rattle.handler.proofs.Handler.{map-new-none, map-new-on}
 use borrow.Author.Needs.{needs}
 use Rattle.handler.proofs.map_page.Statement.{statement}

@@ -4,11 +4,12 @@ use mathlib.Core.Path.{_≡_, sym, _∙_, ap}
 use mathlib.Core.Bool.{true}
 use mathlib.Core.List.{List}
 use lib.ListN.{length, length-set}
-use Rattle.frame.specs.Frames.{frames as framesOf, inside}
+use Rattle.frame.specs.Frames.{inside}
 use Rattle.frame.proofs.Laws.{passed, failed}
 use Rattle.walk.proofs.Laws.{place-asks}
 use Rattle.answer.specs.declared.Outcome.the-variants.{Value}
-use Rattle.paging.specs.Map.{memory, out}
+use Rattle.paging.specs.Kept.{lentMemory}
+use Rattle.paging.specs.Map.{out}
 use Rattle.paging.proofs.Walk.{place-lent, frame-lent}
 use Rattle.paging.proofs.Map.{length-clear}
 use Rattle.handler.proofs.Handler.{put-over-out, put-over-in}
@@ -57,7 +58,7 @@ returns-2 : tie.Need-returns-2
 returns-2 c =
     let s = c .before .before .before .before .before .before .before .before .before in
     λ b.
-    ap (λ (ws : List ℕ). out (Value 0) (memory ws (framesOf b (s .args .frames)))) (c .before .before .zero-frame .ensures)
+    ap (λ (ws : List ℕ). out (Value 0) (lentMemory ws b (s .args .frames))) (c .before .before .zero-frame .ensures)
     ∙ sym (put-over-in _ (s .args .t) (s .args .i) (s .args .e) (s .args .f) (table (c .before .before .before .before .before .before))
     (c .before .before .before .before .before .entry-place .ensures) (c .before .before .before .entry-place2 .ensures))
 

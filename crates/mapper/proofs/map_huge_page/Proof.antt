@@ -4,9 +4,8 @@ use mathlib.Core.Path.{_≡_, refl, sym, _∙_, ap, subst}
 use lib.Dec.{lit≤}
 use mathlib.Core.Bool.{true}
 use Rattle.address.specs.Address.{aligned}
-use Rattle.frame.specs.Frames.{frames}
 use Rattle.frame.proofs.Laws.{passed, failed}
-use Rattle.paging.specs.Map.{memory}
+use Rattle.paging.specs.Kept.{lentMemory}
 use Rattle.paging.specs.Calls.{whole, sizeOf}
 use Rattle.paging.proofs.Calls.{told, whole-roomy, tables-few, huge-broken, huge-virt, huge-phys}
 use Rattle.mapper.proofs.Laws.{huge-told}
@@ -23,12 +22,12 @@ same-length c = refl
 returns : tie.Need-returns
 returns c =
     let a = c .before .before .before .before .before .args in
-    told (huge-broken 3 (memory (a .words .now) (frames (a .bitmap .now) (a .frames))) (a .root .0) (a .virt .0) (a .phys .0) (a .writable) (a .user) (a .size)
+    told (huge-broken 3 (lentMemory (a .words .now) (a .bitmap .now) (a .frames)) (a .root .0) (a .virt .0) (a .phys .0) (a .writable) (a .user) (a .size)
     (failed (c .before .is-whole .ensures) (c .if1 .taken)))
 
 -- nothing is broken
 good : (c : tie.Else1) → let a = c .before .before .before .before .before .args in
-    whole (memory (a .words .now) (frames (a .bitmap .now) (a .frames))) (a .root .0) ≡ true
+    whole (lentMemory (a .words .now) (a .bitmap .now) (a .frames)) (a .root .0) ≡ true
 good c = passed (c .before .is-whole .ensures) (c .if1 .left)
 
 alignment-requires : tie.Need-alignment-requires
@@ -55,7 +54,7 @@ returns-2 : tie.Need-returns-2
 returns-2 c =
     let g = c .before .before .before in
     let a = g .before .before .before .before .before .args in
-    told (huge-virt 3 (memory (a .words .now) (frames (a .bitmap .now) (a .frames))) (a .root .0) (a .virt .0) (a .phys .0) (a .writable) (a .user) (a .size)
+    told (huge-virt 3 (lentMemory (a .words .now) (a .bitmap .now) (a .frames)) (a .root .0) (a .virt .0) (a .phys .0) (a .writable) (a .user) (a .size)
     (good g) (failed (virt-test (c .before)) (c .if2 .taken)))
 
 is-aligned-requires-2 : tie.Need-is-aligned-requires-2
@@ -70,7 +69,7 @@ returns-3 c =
     let g = v .before .before .before in
     let a = g .before .before .before .before .before .args in
     told
-    (huge-phys 3 (memory (a .words .now) (frames (a .bitmap .now) (a .frames))) (a .root .0) (a .virt .0) (a .phys .0) (a .writable) (a .user) (a .size) (good g)
+    (huge-phys 3 (lentMemory (a .words .now) (a .bitmap .now) (a .frames)) (a .root .0) (a .virt .0) (a .phys .0) (a .writable) (a .user) (a .size) (good g)
     (passed (virt-test (v .before)) (v .if2 .left)) (failed (phys-test (c .before)) (c .if3 .taken)))
 
 set-huge-requires : tie.Need-set-huge-requires
@@ -83,7 +82,7 @@ map-entry-requires : tie.Need-map-entry-requires
 map-entry-requires c κs =
     let o = c .before .before .before .before .before .before .before .before .before in
     let a = o .before .before .before .before .before .args in (
-      whole-roomy (memory (a .words .now) (frames (a .bitmap .now) (a .frames))) (a .root .0) (good o) 3 (lit≤ tt),
+      whole-roomy (lentMemory (a .words .now) (a .bitmap .now) (a .frames)) (a .root .0) (good o) 3 (lit≤ tt),
       subst (λ (n : ℕ). n ≤ 3) (sym (c .tables-above .ensures)) (tables-few 3 (a .size)),
     )
 
@@ -99,7 +98,7 @@ returns-4 c =
     let v = p .before .before in
     let o = v .before .before .before in
     let a = o .before .before .before .before .before .args in
-    huge-told (memory (a .words .now) (frames (a .bitmap .now) (a .frames))) (a .root .0) (a .virt .0) (a .phys .0) (a .writable) (a .user) (good o)
+    huge-told (lentMemory (a .words .now) (a .bitmap .now) (a .frames)) (a .root .0) (a .virt .0) (a .phys .0) (a .writable) (a .user) (good o)
     (a .size) (passed (virt-test (v .before)) (v .if2 .left)) (passed (phys-test (p .before)) (p .if3 .left))
     (t .tables-above .result) (t .tables-above .ensures) (h .set-huge .result .0) (h .set-huge .ensures) (r .map-entry .ensures)
 

@@ -3,8 +3,7 @@ use mathlib.Core.Path.{_≡_, refl}
 use lib.Dec.{lit≤}
 use mathlib.Core.Bool.{true}
 use Rattle.frame.proofs.Laws.{passed, failed}
-use Rattle.frame.specs.Frames.{frames}
-use Rattle.paging.specs.Map.{memory}
+use Rattle.paging.specs.Kept.{lentMemory}
 use Rattle.paging.specs.Calls.{whole}
 use Rattle.paging.proofs.Calls.{told, whole-roomy, map-broken}
 use Rattle.mapper.proofs.Laws.{page-told}
@@ -22,12 +21,12 @@ returns : tie.Need-returns
 returns c =
     let a = c .before .before .before .before .before .args in
     told
-    (map-broken 3 (memory (a .words .now) (frames (a .bitmap .now) (a .frames))) (a .root .0) (a .virt .0) (a .phys .0) (a .writable) (a .user)
+    (map-broken 3 (lentMemory (a .words .now) (a .bitmap .now) (a .frames)) (a .root .0) (a .virt .0) (a .phys .0) (a .writable) (a .user)
     (failed (c .before .is-whole .ensures) (c .if1 .taken)))
 
 -- nothing is broken
 good : (c : tie.Else1) → let a = c .before .before .before .before .before .args in
-    whole (memory (a .words .now) (frames (a .bitmap .now) (a .frames))) (a .root .0) ≡ true
+    whole (lentMemory (a .words .now) (a .bitmap .now) (a .frames)) (a .root .0) ≡ true
 good c = passed (c .before .is-whole .ensures) (c .if1 .left)
 
 set-requires : tie.Need-set-requires
@@ -37,7 +36,7 @@ map-entry-requires : tie.Need-map-entry-requires
 map-entry-requires c κs =
     let g = c .before .before .before in
     let a = g .before .before .before .before .before .args in
-    (whole-roomy (memory (a .words .now) (frames (a .bitmap .now) (a .frames))) (a .root .0) (good g) 3 (lit≤ tt), lit≤ tt)
+    (whole-roomy (lentMemory (a .words .now) (a .bitmap .now) (a .frames)) (a .root .0) (good g) 3 (lit≤ tt), lit≤ tt)
 
 same-length-2 : tie.Need-same-length-2
 same-length-2 c = c .before .before .map-entry .kept .0
@@ -47,7 +46,7 @@ returns-2 c =
     let r = c .before .before in
     let e = r .before .before .before in
     let a = e .before .before .before .before .before .before .args in
-    page-told (memory (a .words .now) (frames (a .bitmap .now) (a .frames))) (a .root .0) (a .virt .0) (a .phys .0) (a .writable) (a .user) (good (e .before))
+    page-told (lentMemory (a .words .now) (a .bitmap .now) (a .frames)) (a .root .0) (a .virt .0) (a .phys .0) (a .writable) (a .user) (good (e .before))
     (e .set .result .0) (e .set .ensures) (r .map-entry .ensures)
 
 pub map-page-spec : {M : Type 1} → statement M

@@ -79,7 +79,7 @@ returns-2 c =
     let s = k .before .before in
     let a = s .args in
     on-list asVirt (call s) (lent s .mem) (a .list .now) (good e .0)
-    (no-mapping-left (λ i. k .slice-known2 .given i .fits) (good e .0)
+    (no-mapping-left _ (λ i. k .slice-known2 .given i .fits) (good e .0)
     (mmap-empty aboveLast (lent s) (a .root .0) (a .hint) (a .size) (a .prot) (a .flags) (good e .1) (c .before .if2 .taken)) (c .no-mapping2 .ensures))
 
 page-align-up-requires : tie.Need-page-align-up-requires
@@ -117,7 +117,7 @@ returns-3 c =
     let s = k .before .before in
     let a = s .args in
     on-list asVirt (call s) (lent s .mem) (a .list .now) (g .0)
-    (no-mapping-left (λ i. k .slice-known2 .given i .fits) (g .0)
+    (no-mapping-left _ (λ i. k .slice-known2 .given i .fits) (g .0)
     (mmap-large aboveLast (lent s) (a .root .0) (a .hint) (a .size) (a .prot) (a .flags) (g .1) (t .if2 .left) _ (sym (r .page-align-up .ensures) ∙ e .e .given .1))
     (c .no-mapping3 .ensures))
 

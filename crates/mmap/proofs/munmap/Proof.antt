@@ -76,7 +76,7 @@ returns-2 c =
     let s = k .before .before in
     let a = s .args in
     on-list asAnswer (call s) (lent s .mem) (a .list .now) (good e .0)
-    (not-unmapped-left (λ i. k .slice-known2 .given i .fits) (good e .0)
+    (not-unmapped-left _ (λ i. k .slice-known2 .given i .fits) (good e .0)
     (munmap-empty aboveLast (lent s) (a .root .0) (a .addr .0) (a .size) (good e .1) (c .before .if2 .taken)) (c .not-unmapped2 .ensures))
 
 not-unmapped-requires-3 : tie.Need-not-unmapped-requires-3
@@ -96,7 +96,7 @@ returns-3 c =
     let s = k .before .before in
     let a = s .args in
     on-list asAnswer (call s) (lent s .mem) (a .list .now) (g .0)
-    (not-unmapped-left (λ i. k .slice-known2 .given i .fits) (g .0)
+    (not-unmapped-left _ (λ i. k .slice-known2 .given i .fits) (g .0)
     (munmap-odd aboveLast (lent s) (a .root .0) (a .addr .0) (a .size) (g .1) (e .if2 .left) (c .before .if3 .taken)) (c .not-unmapped3 .ensures))
 
 page-align-up-requires : tie.Need-page-align-up-requires
@@ -131,7 +131,7 @@ returns-4 c =
     let s = k .before .before in
     let a = s .args in
     on-list asAnswer (call s) (lent s .mem) (a .list .now) (g .0)
-    (not-unmapped-left (λ i. k .slice-known2 .given i .fits) (g .0)
+    (not-unmapped-left _ (λ i. k .slice-known2 .given i .fits) (g .0)
     (munmap-large aboveLast (lent s) (a .root .0) (a .addr .0) (a .size) (g .1) (e .if2 .left) (t .if3 .left) _ (sym (r .page-align-up .ensures) ∙ x .e .given .1))
     (c .not-unmapped4 .ensures))
 

@@ -3,8 +3,7 @@ use Prim.Native.Nat.{ℕ}
 use mathlib.Core.Path.{sym, _∙_, ap}
 use mathlib.Core.List.{List}
 use borrow.Author.Needs.{needs}
-use Rattle.frame.specs.Frames.{frames as framesOf}
-use Rattle.paging.specs.Map.{memory}
+use Rattle.paging.specs.Kept.{lentMemory}
 use Rattle.paging.proofs.Pages.{clear-is}
 use Rattle.pages.proofs.clear_page.Statement.{statement}
 use Rattle.pages.proofs.clear_page.Tie as tie
@@ -18,7 +17,7 @@ same-length c = search needs
 returns : tie.Need-returns
 returns c b =
     let u = c .before .before in
-    ap (λ (ws : List ℕ). memory ws (framesOf b (u .before .before .before .args .frames))) (u .unmap-leaf .ensures .1) ∙ sym (clear-is _ _ _ _)
+    ap (λ (ws : List ℕ). lentMemory ws b (u .before .before .before .args .frames)) (u .unmap-leaf .ensures .1) ∙ sym (clear-is _ _ _ _)
 
 pub clear-page-spec : {M : Type 1} → statement M
 clear-page-spec = tie.close (tie.spec unmap-leaf-requires same-length returns)

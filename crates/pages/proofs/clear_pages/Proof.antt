@@ -5,8 +5,7 @@ use mathlib.Core.List.{List}
 use native.Mathlib.Numerals.{unary-clauses}
 use lib.ListN.{length}
 use borrow.Author.Needs.{needs}
-use Rattle.frame.specs.Frames.{frames as framesOf}
-use Rattle.paging.specs.Map.{memory}
+use Rattle.paging.specs.Kept.{lentMemory}
 use Rattle.paging.specs.Pages.{clearPages}
 use Rattle.bits.proofs.Counter.{onward, fewer, next-fits}
 use Rattle.pages.proofs.Laws.{clear-on, clear-end, lent-still}
@@ -16,8 +15,8 @@ use Rattle.pages.proofs.clear_pages.Tie as tie
 abbrev Inv-loop : tie.InvT-loop
 Inv-loop words₀ frames root virt n i₀ words i =
     (i ≤ n) × (length words ≡ length words₀)
-    × ((b : List ℕ) → clearPages 3 (memory words₀ (framesOf b frames)) (root .0) (virt .0) n
-    ≡ clearPages 3 (memory words (framesOf b frames)) (root .0) (virt .0 + i * 4096) (n - i))
+    × ((b : List ℕ) → clearPages 3 (lentMemory words₀ b frames) (root .0) (virt .0) n
+    ≡ clearPages 3 (lentMemory words b frames) (root .0) (virt .0 + i * 4096) (n - i))
 
 abbrev μ-loop : tie.MeasureT-loop
 μ-loop words₀ frames root virt n i₀ words i = n - i
@@ -54,8 +53,8 @@ loop-again c =
       onward (l .loop .i) (a .n) (t .loop-test .taken),
       x .kept .0 ∙ l .loop .inv .1,
       λ b. l .loop .inv .2 b
-          ∙ clear-on (a .root .0) (a .virt .0) (l .loop .i) (a .n) (t .loop-test .taken) 3 (memory (l .loop .words) (framesOf b (a .frames)))
-          (memory (x .last .0) (framesOf b (a .frames))) (x .ensures b),
+          ∙ clear-on (a .root .0) (a .virt .0) (l .loop .i) (a .n) (t .loop-test .taken) 3 (lentMemory (l .loop .words) b (a .frames))
+          (lentMemory (x .last .0) b (a .frames)) (x .ensures b),
     )
 
 same-length : tie.Need-same-length Inv-loop μ-loop

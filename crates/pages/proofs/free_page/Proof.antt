@@ -1,8 +1,8 @@
 -- `free_page`: the leaf, if there is one, and then its frame.
 use mathlib.Core.Path.{sym, _∙_}
 use borrow.Author.Needs.{needs}
-use Rattle.frame.specs.Frames.{frames}
-use Rattle.paging.specs.Map.{memory}
+use Rattle.frame.specs.Frames.{lentFrames}
+use Rattle.paging.specs.Kept.{lentMemory}
 use Rattle.paging.proofs.Pages.{free-none, free-page}
 use Rattle.pages.proofs.Laws.{unmapped, given-back}
 use Rattle.pages.proofs.free_page.Statement.{statement}
@@ -27,7 +27,7 @@ returns : tie.Need-returns
 returns c =
     let u = c .before .before .before .before in
     let a = u .before .before .before .args in
-    sym (free-none 3 (memory (a .words .now) (frames (a .bitmap .now) (a .frames))) (a .root .0) (a .virt .0) _ (u .unmap-leaf .last .0)
+    sym (free-none 3 (lentMemory (a .words .now) (a .bitmap .now) (a .frames)) (a .root .0) (a .virt .0) _ (u .unmap-leaf .last .0)
     (unmapped (u .unmap-leaf .ensures .0) (u .unmap-leaf .ensures .1) (c .enum-told .given .1)))
 
 same-length-2 : tie.Need-same-length-2
@@ -39,8 +39,8 @@ returns-2 c =
     let f = g .before .before .before in
     let u = f .before .before .before .before in
     let a = u .before .before .before .args in
-    given-back (u .unmap-leaf .last .0) (frames (a .bitmap .now) (a .frames)) _ (g .give-frame .ensures .0) (g .give-frame .ensures .1)
-    ∙ sym (free-page 3 (memory (a .words .now) (frames (a .bitmap .now) (a .frames))) (a .root .0) (a .virt .0) _ (u .unmap-leaf .last .0)
+    given-back (u .unmap-leaf .last .0) (lentFrames (a .bitmap .now) (a .frames)) _ (g .give-frame .ensures .0) (g .give-frame .ensures .1)
+    ∙ sym (free-page 3 (lentMemory (a .words .now) (a .bitmap .now) (a .frames)) (a .root .0) (a .virt .0) _ (u .unmap-leaf .last .0)
     (unmapped (u .unmap-leaf .ensures .0) (u .unmap-leaf .ensures .1) (f .f .given .1)))
 
 pub free-page-spec : {M : Type 1} → statement M

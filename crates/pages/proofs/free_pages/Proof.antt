@@ -4,8 +4,9 @@ use Prim.Native.Nat.{_≤_, _-_, _+_, _*_}
 use mathlib.Core.Path.{_≡_, refl, sym, _∙_}
 use lib.ListN.{length}
 use borrow.Author.Needs.{needs}
-use Rattle.frame.specs.Frames.{frames as framesOf}
-use Rattle.paging.specs.Map.{memory, RoomToTake}
+use Rattle.bitmap.specs.Bitmap.{marksIn}
+use Rattle.paging.specs.Kept.{lentMemory}
+use Rattle.paging.specs.Map.{RoomToTake}
 use Rattle.paging.specs.Pages.{freePages}
 use Rattle.pages.specs.Freeing.{Blank}
 use Rattle.pages.proofs.Laws.{free-end}
@@ -16,9 +17,9 @@ use Rattle.pages.proofs.free_pages.Tie as tie
 
 abbrev Inv-loop : tie.InvT-loop
 Inv-loop words₀ bitmap₀ root virt n most empty₀ left₀ done₀ words bitmap empty left done =
-    (done ≤ most) × (most ≤ n) × (length words ≡ length words₀) × RoomToTake (memory words (framesOf bitmap left)) 0 × Blank words empty
-    × (freePages 3 (memory words₀ (framesOf bitmap₀ left₀)) (root .0) (virt .0) n
-    ≡ freePages 3 (memory words (framesOf bitmap left)) (root .0) (virt .0 + done * 4096) (most - done))
+    (done ≤ most) × (most ≤ n) × (length words ≡ length words₀) × RoomToTake (lentMemory words bitmap left) 0 × Blank words (marksIn empty)
+    × (freePages 3 (lentMemory words₀ bitmap₀ left₀) (root .0) (virt .0) n
+    ≡ freePages 3 (lentMemory words bitmap left) (root .0) (virt .0 + done * 4096) (most - done))
 
 abbrev μ-loop : tie.MeasureT-loop
 μ-loop words₀ bitmap₀ root virt n most empty₀ left₀ done₀ words bitmap empty left done = most - done
@@ -66,12 +67,12 @@ loop-again c =
       span-within most (l .loop .done) (x .result .done) (e .1 .1 .0) (l .loop .inv .0),
       l .loop .inv .1,
       x .kept .0 ∙ l .loop .inv .2,
-      span-roomy (memory (l .loop .words) (framesOf (l .loop .bitmap) (l .loop .left))) (a .root .0) (a .virt .0 + l .loop .done * 4096) (x .result .done)
+      span-roomy (lentMemory (l .loop .words) (l .loop .bitmap) (l .loop .left)) (a .root .0) (a .virt .0 + l .loop .done * 4096) (x .result .done)
           (e .1 .1 .1) (l .loop .inv .3),
       e .0,
       l .loop .inv .5
-          ∙ span-on (a .root .0) (a .virt .0) most (l .loop .done) (x .result .done) (memory (l .loop .words) (framesOf (l .loop .bitmap) (l .loop .left)))
-          (memory (x .last .0) (framesOf (x .last .1 .0) (x .result .frames))) (e .1 .1 .0) (l .loop .inv .0) (e .1 .1 .1),
+          ∙ span-on (a .root .0) (a .virt .0) most (l .loop .done) (x .result .done) (lentMemory (l .loop .words) (l .loop .bitmap) (l .loop .left))
+          (lentMemory (x .last .0) (x .last .1 .0) (x .result .frames)) (e .1 .1 .0) (l .loop .inv .0) (e .1 .1 .1),
     )
 
 same-length : tie.Need-same-length Inv-loop μ-loop
@@ -83,7 +84,7 @@ returns c =
     let a = l .before .before .before .args in
     sym
     (l .loop .inv .5 ∙ free-end (a .root .0) (a .virt .0 + l .loop .done * 4096) (l .loop .done) (l .before .at-most .result) (c .loop-test .left)
-    (memory (l .loop .words) (framesOf (l .loop .bitmap) (l .loop .left))) 3)
+    (lentMemory (l .loop .words) (l .loop .bitmap) (l .loop .left)) 3)
 
 pub free-pages-spec : {M : Type 1} → statement M
 free-pages-spec =

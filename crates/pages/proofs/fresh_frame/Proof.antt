@@ -6,7 +6,7 @@ use Rattle.frame.specs.Frames.{inside}
 use Rattle.paging.proofs.Walk.{frame-lent}
 use Rattle.paging.proofs.Map.{roomy-lent}
 use Rattle.walk.proofs.Laws.{place-asks}
-use Rattle.mapper.proofs.Laws.{taken-lent}
+use Rattle.tables.proofs.Laws.{taken-lent}
 use Rattle.pages.proofs.Laws.{fresh-made, fresh-refused}
 use Rattle.pages.proofs.fresh_frame.Statement.{statement}
 use Rattle.pages.proofs.fresh_frame.Tie as tie

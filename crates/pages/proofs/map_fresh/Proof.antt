@@ -1,11 +1,11 @@
 -- `map_fresh`: a fresh frame, then its entry below three tables; 13 where that is refused.
 use mathlib.Core.Path.{sym, _∙_}
 use lib.Dec.{lit≤}
-use Rattle.frame.specs.Frames.{frames}
-use Rattle.paging.specs.Map.{memory}
+use Rattle.bitmap.specs.Bitmap.{marksIn}
+use Rattle.paging.specs.Kept.{lentMemory}
 use borrow.Author.Needs.{needs}
 use Rattle.paging.proofs.Pages.{map-fresh-none}
-use Rattle.mapper.proofs.Laws.{stepped}
+use Rattle.tables.proofs.Laws.{stepped}
 use Rattle.pages.proofs.Laws.{fresh-left, map-fresh-made}
 use Rattle.pages.proofs.map_fresh.Statement.{statement}
 use Rattle.pages.proofs.map_fresh.Tie as tie
@@ -30,7 +30,7 @@ map-entry-requires c κs =
     let r = c .before .before .before .before .before .before .before .before .before .before in
     let a = r .before .before .before .before .args in
     let x = r .fresh-frame in (
-      fresh-left {m = memory (a .words .now) (frames (a .bitmap .now) (a .frames))} {m′ = memory (x .last .0) (frames (x .last .1 .0) (x .result .frames))}
+      fresh-left {m = lentMemory (a .words .now) (a .bitmap .now) (a .frames)} {m′ = lentMemory (x .last .0) (x .last .1 .0) (x .result .frames)}
           (x .ensures) 3 (r .before .before .before .before .pre),
       lit≤ tt,
     )
@@ -47,8 +47,8 @@ returns c =
     let a = r .before .before .before .before .args in
     let x = r .fresh-frame in
     sym
-    (map-fresh-none 3 (a .writable) (a .user) (memory (a .words .now) (frames (a .bitmap .now) (a .frames))) (a .root .0) (a .virt .0) _
-    (memory (x .last .0) (frames (x .last .1 .0) (x .result .frames))) (stepped (x .ensures) (c .before .walked .given .1)))
+    (map-fresh-none 3 (a .writable) (a .user) (lentMemory (a .words .now) (a .bitmap .now) (a .frames)) (a .root .0) (a .virt .0) _
+    (lentMemory (x .last .0) (x .last .1 .0) (x .result .frames)) (stepped (x .ensures) (c .before .walked .given .1)))
 
 same-length-2 : tie.Need-same-length-2
 same-length-2 c =
@@ -65,10 +65,10 @@ returns-2 c =
     let a = b .args in
     let x = r .fresh-frame in
     let y = e .map-entry in
-    map-fresh-made 3 (a .writable) (a .user) (memory (a .words .now) (frames (a .bitmap .now) (a .frames))) (a .root .0) (a .virt .0) (b .pre .held .low) _
-    (memory (x .last .0) (frames (x .last .1 .0) (x .result .frames))) (stepped (x .ensures) (w .walked2 .given .1))
+    map-fresh-made 3 (a .writable) (a .user) (lentMemory (a .words .now) (a .bitmap .now) (a .frames)) (a .root .0) (a .virt .0) (b .pre .held .low) _
+    (lentMemory (x .last .0) (x .last .1 .0) (x .result .frames)) (stepped (x .ensures) (w .walked2 .given .1))
     (s .set .result .0) (s .before .start-address .result) (s .set .ensures) (s .before .start-address .ensures)
-    (y .result) (y .last .0) (y .last .1 .0) (y .ensures) (c .or-failed .result) (c .or-failed .ensures)
+    (y .result) (y .last .0) (marksIn (y .last .1 .0)) (y .ensures) (c .or-failed .result) (c .or-failed .ensures)
 
 pub map-fresh-spec : {M : Type 1} → statement M
 map-fresh-spec =

@@ -5,8 +5,8 @@ use native.Mathlib.Numerals.{unary-clauses}
 use native.Mathlib.Omega.{arith}
 use lib.ListN.{length}
 use borrow.Author.Needs.{needs}
-use Rattle.frame.specs.Frames.{frames as framesOf}
-use Rattle.paging.specs.Map.{memory, RoomToTake}
+use Rattle.paging.specs.Kept.{lentMemory}
+use Rattle.paging.specs.Map.{RoomToTake}
 use Rattle.answer.specs.declared.Outcome.the-variants.{Value}
 use Rattle.paging.specs.Pages.{ran, mapPages}
 use Rattle.paging.proofs.Map.{roomy-less}
@@ -17,9 +17,9 @@ use Rattle.pages.proofs.map_pages.Tie as tie
 
 abbrev Inv-loop : tie.InvT-loop
 Inv-loop words₀ bitmap₀ root virt n writable user left₀ i₀ words bitmap left i =
-    (i ≤ n) × (length words ≡ length words₀) × RoomToTake (memory words (framesOf bitmap left)) ((n - i) * 4)
-    × (mapPages 3 writable user (memory words₀ (framesOf bitmap₀ left₀)) (root .0) (virt .0) 0 n
-    ≡ mapPages 3 writable user (memory words (framesOf bitmap left)) (root .0) (virt .0 + i * 4096) i (n - i))
+    (i ≤ n) × (length words ≡ length words₀) × RoomToTake (lentMemory words bitmap left) ((n - i) * 4)
+    × (mapPages 3 writable user (lentMemory words₀ bitmap₀ left₀) (root .0) (virt .0) 0 n
+    ≡ mapPages 3 writable user (lentMemory words bitmap left) (root .0) (virt .0 + i * 4096) i (n - i))
 
 abbrev μ-loop : tie.MeasureT-loop
 μ-loop words₀ bitmap₀ root virt n writable user left₀ i₀ words bitmap left i = n - i
@@ -52,8 +52,8 @@ returns c =
     let a = l .before .before .args in
     let i = l .loop .i in
     let x = r .map-fresh in
-    turn-stop (a .root .0) (a .virt .0) i (a .n) (t .loop-test .taken) (a .writable) (a .user) (memory (l .loop .words) (framesOf (l .loop .bitmap) (l .loop .left)))
-    (memory (x .last .0) (framesOf (x .last .1 .0) (x .result .frames))) (x .ensures) (l .loop .inv .3) _ (c .before .walked .given .1)
+    turn-stop (a .root .0) (a .virt .0) i (a .n) (t .loop-test .taken) (a .writable) (a .user) (lentMemory (l .loop .words) (l .loop .bitmap) (l .loop .left))
+    (lentMemory (x .last .0) (x .last .1 .0) (x .result .frames)) (x .ensures) (l .loop .inv .3) _ (c .before .walked .given .1)
 
 enum-told : tie.Need-enum-told Inv-loop μ-loop
 enum-told c = c .match .keys2
@@ -78,10 +78,10 @@ loop-again c =
     let x = r .map-fresh in (
       onward i (a .n) (t .loop-test .taken),
       x .kept .0 ∙ l .loop .inv .1,
-      turn-left (a .root .0) (a .virt .0) i (a .n) (t .loop-test .taken) (a .writable) (a .user) (memory (l .loop .words) (framesOf (l .loop .bitmap) (l .loop .left)))
-          (memory (x .last .0) (framesOf (x .last .1 .0) (x .result .frames))) (x .ensures) (l .loop .inv .2),
-      turn-on (a .root .0) (a .virt .0) i (a .n) (t .loop-test .taken) (a .writable) (a .user) (memory (l .loop .words) (framesOf (l .loop .bitmap) (l .loop .left)))
-          (memory (x .last .0) (framesOf (x .last .1 .0) (x .result .frames))) (x .ensures) (l .loop .inv .3) _ (c .enum-told .given .1),
+      turn-left (a .root .0) (a .virt .0) i (a .n) (t .loop-test .taken) (a .writable) (a .user) (lentMemory (l .loop .words) (l .loop .bitmap) (l .loop .left))
+          (lentMemory (x .last .0) (x .last .1 .0) (x .result .frames)) (x .ensures) (l .loop .inv .2),
+      turn-on (a .root .0) (a .virt .0) i (a .n) (t .loop-test .taken) (a .writable) (a .user) (lentMemory (l .loop .words) (l .loop .bitmap) (l .loop .left))
+          (lentMemory (x .last .0) (x .last .1 .0) (x .result .frames)) (x .ensures) (l .loop .inv .3) _ (c .enum-told .given .1),
     )
 
 same-length-2 : tie.Need-same-length-2 Inv-loop μ-loop
@@ -95,9 +95,9 @@ returns-2 c =
     sym
     (l .loop .inv .3
     ∙ run-end (a .root .0) (a .virt .0 + l .loop .i * 4096) (l .loop .i) (a .n) (c .loop-test .left)
-    (memory (l .loop .words) (framesOf (l .loop .bitmap) (l .loop .left))) 3 (a .writable)
+    (lentMemory (l .loop .words) (l .loop .bitmap) (l .loop .left)) 3 (a .writable)
     (a .user)
-    ∙ λ j. ran (Value 0) (e j) (memory (l .loop .words) (framesOf (l .loop .bitmap) (l .loop .left))))
+    ∙ λ j. ran (Value 0) (e j) (lentMemory (l .loop .words) (l .loop .bitmap) (l .loop .left)))
 
 pub map-pages-spec : {M : Type 1} → statement M
 map-pages-spec =

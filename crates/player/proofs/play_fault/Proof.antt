@@ -23,7 +23,7 @@ returns c =
     let v = c .before .before .before .before .before .before in
     let s = v .before .before .before .before .before .before .before .before in
     let a = s .args in
-    fault-turn (a .records) (a .words .now) (a .bitmap .now) (a .marked .now) 5 (c .answer-line .ensures)
+    fault-turn (a .records) (a .words .now) (a .bitmap .now) (a .marked .now) 5 _ (c .answer-line .ensures)
     (λ (f : Faulting). handleFault aboveLast f (a .records .root .0) (a .c .addr) (a .c .code)) (s .pre) (v .handle-page-fault .ensures .0) (v .handle-page-fault .ensures .1)
 
 pub play-fault-spec : {M : Type 1} → statement M

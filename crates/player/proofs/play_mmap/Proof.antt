@@ -38,7 +38,7 @@ returns c =
     let p : SFits w32 (a .c .prot) = search (needs, told) in
     let f : SFits w32 (a .c .flags) = search (needs, told) in
     let e = rw (toZ-ofZ p, toZ-ofZ f, o .opt-addr .ensures) at (v .mmap .ensures) in
-    user-turn (a .records) (a .words .now) (a .bitmap .now) (a .user .now) 3 asVirt virtLine (c .virt-line .ensures)
+    user-turn (a .records) (a .words .now) (a .bitmap .now) (a .user .now) 3 asVirt virtLine _ (c .virt-line .ensures)
     (λ (u : User). mmap aboveLast u (a .records .root .0) (optAddr (a .c .given) (a .c .addr)) (a .c .size) (a .c .prot) (a .c .flags)) (s .pre) (e .0) (e .1)
 
 pub play-mmap-spec : {M : Type 1} → statement M

@@ -27,7 +27,7 @@ returns c =
     let v = c .before .before .before .before .before .before in
     let s = v .before .before .before .before .before .before .before .before in
     let a = s .args in
-    user-turn (a .records) (a .words .now) (a .bitmap .now) (a .user .now) 4 asAnswer answerLine (c .answer-line .ensures)
+    user-turn (a .records) (a .words .now) (a .bitmap .now) (a .user .now) 4 asAnswer answerLine _ (c .answer-line .ensures)
     (λ (u : User). munmap aboveLast u (a .records .root .0) (a .c .addr) (a .c .size)) (s .pre) (v .munmap .ensures .0) (v .munmap .ensures .1)
 
 pub play-munmap-spec : {M : Type 1} → statement M

@@ -26,7 +26,7 @@ returns c =
     let v = c .before .before .before .before .before .before in
     let s = v .before .before .before .before .before .before .before .before in
     let a = s .args in
-    kernel-turn (a .records) (a .words .now) (a .bitmap .now) (a .kernel .now) 1 asVirt virtLine (c .virt-line .ensures)
+    kernel-turn (a .records) (a .words .now) (a .bitmap .now) (a .kernel .now) 1 asVirt virtLine _ (c .virt-line .ensures)
     (λ (k : Kernel). vmalloc aboveLast k (a .records .root .0) (a .size)) (s .pre) (v .vmalloc .ensures .0) (v .vmalloc .ensures .1)
 
 pub play-vmalloc-spec : {M : Type 1} → statement M

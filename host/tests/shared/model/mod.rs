@@ -7,7 +7,7 @@ mod faults;
 mod memory;
 mod regions;
 
-use gadulnos::{Bitmap, Board, Frames, Kernel, Line, Marked, User, SLOTS};
+use gadulnos::{Bitmap, Board, Frames, Kernel, Line, Marked, Marks, User, SLOTS};
 use memory::Memory;
 use paper::call::{user, writable, Call};
 use paper::state::is_multiple;
@@ -24,7 +24,7 @@ const BROKEN: u64 = 10;
 pub struct Model {
     pub words: Vec<u64>,
     pub frames: Option<Frames>,
-    pub bitmap: Option<Bitmap>,
+    pub bitmap: Bitmap,
     pub root: u64,
     pub kernel: Option<Kernel>,
     pub user: Option<User>,
@@ -34,7 +34,12 @@ pub struct Model {
 }
 
 impl Model {
-    pub fn of<W: Deref<Target = [u64]>, B: Deref<Target = [u8]>>(board: &Board<W, B>) -> Model {
+    pub fn of<W, B, M>(board: &Board<W, B, M>) -> Model
+    where
+        W: Deref<Target = [u64]>,
+        B: Deref<Target = [u8]>,
+        M: Deref<Target = Marks>,
+    {
         Model {
             words: board.words.to_vec(),
             frames: Frames::unpack(&board.fields),
@@ -83,7 +88,7 @@ impl Model {
     }
 
     fn on_frames(&mut self, call: &Call) -> Answer {
-        if frames_are_broken(self.frames, self.bitmap) {
+        if frames_are_broken(self.frames, &self.bitmap) {
             return Err(BROKEN);
         }
         let mut memory = self.memory();
@@ -96,7 +101,7 @@ impl Model {
             _ => unreachable!("{call} is no call on frames"),
         };
         let (frames, bitmap) = (memory.frames, memory.bitmap);
-        (self.frames, self.bitmap) = (Some(frames), Some(bitmap));
+        (self.frames, self.bitmap) = (Some(frames), bitmap);
         answer
     }
 
@@ -104,7 +109,7 @@ impl Model {
     pub fn counts(&self) -> [Line; 3] {
         match self.frames {
             Some(Frames { total, allocated, .. })
-                if !frames_are_broken(self.frames, self.bitmap) =>
+                if !frames_are_broken(self.frames, &self.bitmap) =>
             {
                 [total - allocated, allocated, total].map(Line::met)
             }
@@ -126,8 +131,8 @@ impl Model {
 
     pub fn init(&mut self, from: u64, to: u64) -> Line {
         match fresh_frames(from, to) {
-            Some(frames) if self.frames.is_some() && self.bitmap.is_some() => {
-                (self.frames, self.bitmap) = (Some(frames), Some([0; 128]));
+            Some(frames) if self.frames.is_some() => {
+                (self.frames, self.bitmap) = (Some(frames), [0; 128]);
                 Line::met(0)
             }
             _ => Line::refused(BROKEN),
@@ -146,11 +151,10 @@ impl Model {
         if frames.total == 0 {
             return Line::refused(11);
         }
-        let mut bitmap = [0; 128];
-        bitmap[0] = 1;
         self.words[..512].fill(0);
         self.frames = Some(Frames { allocated: 1, ..frames });
-        self.bitmap = Some(bitmap);
+        self.bitmap = [0; 128];
+        self.bitmap[0] = 1;
         self.root = frames.start_frame;
         let (start, size) = (KERNEL_WINDOW.0, KERNEL_WINDOW.1 - KERNEL_WINDOW.0);
         let mut slots = [regions::NO_SLOT; SLOTS];
@@ -168,7 +172,7 @@ impl Model {
         Memory {
             words: &mut self.words,
             frames: self.frames.unwrap_or(none),
-            bitmap: self.bitmap.unwrap_or([0; 128]),
+            bitmap: self.bitmap,
             root: self.root,
         }
     }
@@ -184,7 +188,7 @@ impl Model {
 
     /// Whether words, root and the frame record are sound.
     fn is_whole(&mut self) -> bool {
-        let broken = frames_are_broken(self.frames, self.bitmap);
+        let broken = frames_are_broken(self.frames, &self.bitmap);
         !broken && !self.memory().walk_is_broken()
     }
 
@@ -201,7 +205,7 @@ impl Model {
         let mut memory = self.memory();
         let result = step(&mut memory);
         let (frames, bitmap) = (memory.frames, memory.bitmap);
-        (self.frames, self.bitmap) = (Some(frames), Some(bitmap));
+        (self.frames, self.bitmap) = (Some(frames), bitmap);
         result
     }
 }
@@ -217,10 +221,10 @@ fn fresh_frames(from: u64, to: u64) -> Option<Frames> {
 }
 
 /// 'total above 8192, .. frames ending above 2^52, .. a counter other than the set bits below total'.
-fn frames_are_broken(frames: Option<Frames>, bitmap: Option<Bitmap>) -> bool {
-    let (frames, bitmap) = match (frames, bitmap) {
-        (Some(frames), Some(bitmap)) => (frames, bitmap),
-        _ => return true,
+fn frames_are_broken(frames: Option<Frames>, bitmap: &Bitmap) -> bool {
+    let frames = match frames {
+        Some(frames) => frames,
+        None => return true,
     };
     let ends_high = u128::from(frames.start_frame) + u128::from(frames.total) > 1 << 40;
     if frames.total > 8192 || ends_high {

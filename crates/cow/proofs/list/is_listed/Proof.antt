@@ -8,7 +8,7 @@ count-requires : tie.Need-count-requires
 count-requires c κs = tested (c .before .args .list .now) (c .before .pre) refl .0
 
 place-of-requires : tie.Need-place-of-requires
-place-of-requires c κs = let s = c .before .before in let t = tested (s .args .list .now) (s .pre) (c .count .ensures) in (t .0, t .1 .0)
+place-of-requires c κs = let s = c .before .before in let t = tested (s .args .list .now) (s .pre) (c .count .ensures) in (t .0, (t .1 .0, t .1 .1))
 
 stands-at-requires : tie.Need-stands-at-requires
 stands-at-requires c κs =

@@ -12,7 +12,7 @@ place-of-requires : tie.Need-place-of-requires
 place-of-requires c κs =
     let s = c .before .before .before .before in
     let t = tested (s .args .list .now) (s .pre) (c .before .count .ensures) in
-    (t .0, t .1 .0)
+    (t .0, (t .1 .0, t .1 .1))
 
 stands-at-requires : tie.Need-stands-at-requires
 stands-at-requires c κs =

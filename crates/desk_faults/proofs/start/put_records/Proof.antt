@@ -2,7 +2,6 @@
 use mathlib.Core.Path.{_≡_, refl, sym, _∙_, ap}
 use borrow.Author.Needs.{needs}
 use Rattle.answer.specs.declared.Answer.{Answer}
-use Rattle.packed.specs.Words.{pack}
 use Rattle.layout.specs.Parts.{fieldsOut}
 use Rattle.desk_faults.specs.Board.{leftOf}
 use Rattle.desk_faults.proofs.start.put_records.Statement.{statement}
@@ -16,46 +15,27 @@ enum-told : tie.Need-enum-told
 enum-told c = search needs
 
 put-fields-requires : tie.Need-put-fields-requires
-put-fields-requires c κs = c .before .before .before .before .before .before .before .pre .0
-
-put-bits-requires : tie.Need-put-bits-requires
-put-bits-requires c κs = c .before .before .before .before .before .before .before .before .before .before .before .pre .1
+put-fields-requires c κs = search needs
 
 enum-told-2 : tie.Need-enum-told-2
 enum-told-2 c = search needs
 
 same-length : tie.Need-same-length
-same-length c = c .before .before .before .before .before .before .put-fields .kept .0
-
-same-length-2 : tie.Need-same-length-2
-same-length-2 c = c .before .before .put-bits .kept .0
+same-length c = search needs
 
 returns : tie.Need-returns
 returns c =
-    let bits = c .before .before in
-    let fields = bits .before .before .before .before in
+    let fields = c .before .before in
     let told = fields .before .before .before .before in
-    let a = told .before .before .before .before .args in
+    let a = told .before .before .before .args in
     let e = told .enum-told .given .1 in
-    (written (a .fields .now) _ e (fields .put-fields .ensures), (written (a .bits .now) _ e (bits .put-bits .ensures), written (a .root .now) (a .left .root .0) e refl))
+    (written (a .fields .now) _ e (fields .put-fields .ensures), written (a .root .now) (a .left .root .0) e refl)
 
 returns-2 : tie.Need-returns-2
 returns-2 c =
-    let a = c .before .before .before .before .args in
-    let e = c .enum-told2 .given .1 in (
-      written (a .fields .now) (fieldsOut (a .left .frames)) e refl,
-      (written (a .bits .now) (pack (a .bitmap .now)) e refl, written (a .root .now) (a .left .root .0) e refl),
-    )
+    let a = c .before .before .before .args in
+    let e = c .enum-told2 .given .1 in
+    (written (a .fields .now) (fieldsOut (a .left .frames)) e refl, written (a .root .now) (a .left .root .0) e refl)
 
 pub put-records-spec : {M : Type 1} → statement M
-put-records-spec =
-    tie.close
-    (tie.spec
-    enum-told
-    put-fields-requires
-    put-bits-requires
-    enum-told-2
-    same-length
-    same-length-2
-    returns
-    returns-2)
+put-records-spec = tie.close (tie.spec enum-told put-fields-requires enum-told-2 same-length returns returns-2)

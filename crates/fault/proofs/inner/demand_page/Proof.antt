@@ -2,10 +2,11 @@
 use mathlib.Core.Path.{_≡_, sym, _∙_}
 use mathlib.Core.Bool.{true}
 use Rattle.frame.proofs.Laws.{passed, failed}
-use Rattle.mapper.proofs.Laws.{stepped}
+use Rattle.tables.proofs.Laws.{stepped}
 use Rattle.paging.specs.Levels.{aboveLast}
 use Rattle.fault.specs.Faults.{valid}
-use Rattle.fault.proofs.Steps.{taken-roomy, taken-lent, frame-low, demand-invalid, demand-fetch, demand-none, demand-map}
+use Rattle.copying.proofs.Copying.{taken-roomy, taken-lent, frame-low}
+use Rattle.fault.proofs.Faults.{demand-invalid, demand-fetch, demand-none, demand-map}
 use borrow.Author.Needs.{needs}
 use Rattle.fault.proofs.inner.demand_page.Statement.{statement}
 use Rattle.fault.proofs.inner.demand_page.Tie as tie

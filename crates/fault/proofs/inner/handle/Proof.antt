@@ -6,7 +6,8 @@ use Rattle.paging.specs.Levels.{aboveLast}
 use Rattle.paging.specs.Map.{Memory}
 use Rattle.paging.specs.Kept.{lentMemory}
 use Rattle.cow.specs.Packed.{markedIn, markedFit}
-use Rattle.fault.specs.Faults.{isReserved, Faulting, faulting, FaultDid, protected, handled}
+use Rattle.error_code.specs.ErrorCode.{isReserved}
+use Rattle.fault.specs.Faults.{Faulting, faulting, FaultDid, protected, handled}
 use Rattle.fault.proofs.Faults.{says-same, says-on, handled-reserved, handled-present, handled-absent}
 use borrow.Author.Needs.{needs}
 use Rattle.fault.proofs.inner.handle.Statement.{statement}

@@ -6,12 +6,13 @@ use Rattle.frame.proofs.Laws.{passed, failed}
 use Rattle.paging.specs.Levels.{aboveLast}
 use Rattle.paging.specs.Map.{Memory}
 use Rattle.paging.specs.Kept.{lentMemory}
-use Rattle.mapper.proofs.Laws.{stepped}
+use Rattle.tables.proofs.Laws.{stepped}
 use Rattle.slots.specs.Slots.{listed}
 use Rattle.slots.specs.Sorted.{hasKey}
 use Rattle.cow.specs.Marked.{pageKey}
 use Rattle.cow.specs.Packed.{markedIn, markedFit}
-use Rattle.fault.specs.Faults.{isWrite, Faulting, faulting, FaultDid, protected}
+use Rattle.error_code.specs.ErrorCode.{isWrite}
+use Rattle.fault.specs.Faults.{Faulting, faulting, FaultDid, protected}
 use Rattle.fault.proofs.Faults.{says, says-same, protected-read, protected-plain, protected-stop, protected-met}
 use borrow.Author.Needs.{needs}
 use Rattle.fault.proofs.inner.protected.Statement.{statement}

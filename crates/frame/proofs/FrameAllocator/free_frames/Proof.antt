@@ -2,7 +2,7 @@
 use mathlib.Core.Path.{_≡_, sym}
 use mathlib.Core.Bool.{true}
 use borrow.Author.Needs.{needs}
-use Rattle.frame.specs.Frames.{frames, sound}
+use Rattle.frame.specs.Frames.{lentFrames, sound}
 use Rattle.frame.proofs.Laws.{passed, failed, sound-fits, counted-broken, counted-whole}
 use Rattle.frame.proofs.FrameAllocator.free_frames.Statement.{statement}
 use Rattle.frame.proofs.FrameAllocator.free_frames.Tie as tie
@@ -14,7 +14,7 @@ returns : tie.Need-returns
 returns c = sym (counted-broken _ _ (failed (c .before .is-sound .ensures) (c .if1 .taken)))
 
 -- past the test the record is sound
-tested : (c : tie.Else1) → sound (frames (c .before .before .args .bitmap .now) (c .before .before .args .self)) ≡ true
+tested : (c : tie.Else1) → sound (lentFrames (c .before .before .args .bitmap .now) (c .before .before .args .self)) ≡ true
 tested c = passed (c .before .is-sound .ensures) (c .if1 .left)
 
 sub-t5 : tie.Need-sub-t5

@@ -4,7 +4,7 @@ use mathlib.Core.Bool.{true}
 use native.Mathlib.Omega.{arith}
 use borrow.Author.Needs.{needs}
 use Rattle.answer.specs.declared.FlagAnswer.the-variants.{Flag}
-use Rattle.frame.specs.Frames.{frames, sound}
+use Rattle.frame.specs.Frames.{lentFrames, sound}
 use Rattle.frame.proofs.Laws.{passed, failed, sound-held, allocated-broken, allocated-whole}
 use Rattle.frame.proofs.FrameAllocator.is_allocated.Statement.{statement}
 use Rattle.frame.proofs.FrameAllocator.is_allocated.Tie as tie
@@ -16,7 +16,7 @@ returns : tie.Need-returns
 returns c = sym (allocated-broken _ _ (failed (c .before .is-sound .ensures) (c .if1 .taken)))
 
 -- past the test the record is sound
-tested : (c : tie.Else1) → sound (frames (c .before .before .args .bitmap .now) (c .before .before .args .self)) ≡ true
+tested : (c : tie.Else1) → sound (lentFrames (c .before .before .args .bitmap .now) (c .before .before .args .self)) ≡ true
 tested c = passed (c .before .is-sound .ensures) (c .if1 .left)
 
 frame-marked-requires : tie.Need-frame-marked-requires

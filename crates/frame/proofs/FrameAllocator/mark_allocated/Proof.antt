@@ -3,7 +3,7 @@ use mathlib.Core.Path.{_≡_, _∙_}
 use mathlib.Core.Bool.{true}
 use native.Mathlib.Omega.{arith}
 use borrow.Author.Needs.{needs}
-use Rattle.frame.specs.Frames.{frames, sound}
+use Rattle.frame.specs.Frames.{lentFrames, sound}
 use Rattle.frame.specs.Results.{changed}
 use Rattle.frame.proofs.Laws.{parts, passed, failed, sound-held, mark-broken, mark-whole}
 use Rattle.frame.proofs.FrameAllocator.mark_allocated.Statement.{statement}
@@ -16,7 +16,7 @@ returns : tie.Need-returns
 returns c = parts changed (mark-broken _ _ (failed (c .before .is-sound .ensures) (c .if1 .taken)))
 
 -- past the test the record is sound
-tested : (c : tie.Else1) → sound (frames (c .before .before .before .args .bitmap .now) (c .before .before .before .args .self)) ≡ true
+tested : (c : tie.Else1) → sound (lentFrames (c .before .before .before .args .bitmap .now) (c .before .before .before .args .self)) ≡ true
 tested c = passed (c .before .is-sound .ensures) (c .if1 .left)
 
 mark-frame-requires : tie.Need-mark-frame-requires

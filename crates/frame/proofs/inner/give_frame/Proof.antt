@@ -3,7 +3,7 @@ use Prim.Native.Nat.{_-_, _<_}
 use mathlib.Core.Path.{_≡_, _∙_}
 use mathlib.Core.Bool.{true}
 use borrow.Author.Needs.{needs}
-use Rattle.bitmap.specs.Bitmap.{isMarked}
+use Rattle.bitmap.specs.Bitmap.{isMarked, marksIn}
 use Rattle.bitmap.proofs.Marks.{marked-true}
 use Rattle.frame.specs.Frames.{inside, withoutMark}
 use Rattle.frame.specs.Results.{given}
@@ -41,12 +41,12 @@ returns-2 : tie.Need-returns-2
 returns-2 c = parts given (give-free _ _ (within (c .before .before .before .before .before .before)) (failed (c .before .is-marked .ensures) (c .if2 .taken)))
 
 -- past the second its bit is set
-there : (c : tie.Else2) → isMarked (start-of c .args .bitmap .now) (start-of c .args .frame .0 - start-of c .args .frames .start) ≡ true
+there : (c : tie.Else2) → isMarked (marksIn (start-of c .args .bitmap .now)) (start-of c .args .frame .0 - start-of c .args .frames .start) ≡ true
 there c = passed (c .before .is-marked .ensures) (c .if2 .left)
 
 unmark-requires : tie.Need-unmark-requires
 unmark-requires c κs =
-    (search (needs, low (else-of (c .before))), marked-true _ _ (there (c .before)))
+    (search needs, (search (needs, low (else-of (c .before))), marked-true _ _ (there (c .before))))
 
 one-less-requires : tie.Need-one-less-requires
 one-less-requires c κs = search needs

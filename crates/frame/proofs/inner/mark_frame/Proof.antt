@@ -2,13 +2,13 @@
 use mathlib.Core.Path.{_≡_, sym, _∙_, ap}
 use mathlib.Core.Bool.{false}
 use borrow.Author.Needs.{needs}
-use Rattle.frame.specs.Frames.{Frames, frames, frameMarked}
+use Rattle.frame.specs.Frames.{Frames, lentFrames, frameMarked}
 use Rattle.frame.proofs.Laws.{inside-from, inside-bit, free-inside, free-bit, mark-there, mark-free}
 use Rattle.frame.proofs.inner.mark_frame.Statement.{statement}
 use Rattle.frame.proofs.inner.mark_frame.Tie as tie
 
 abbrev given : tie.Start → Frames
-given c = frames (c .args .bitmap .now) (c .args .frames)
+given c = lentFrames (c .args .bitmap .now) (c .args .frames)
 
 frame-marked-requires : tie.Need-frame-marked-requires
 frame-marked-requires c κs = search needs

@@ -3,8 +3,7 @@ use native.Mathlib.Omega.{arith}
 use Prim.Native.Nat.{_<_}
 use mathlib.Core.Path.{_∙_}
 use lib.Dec.{lit≤}
-use Rattle.frame.specs.Frames.{frames as framesOf}
-use Rattle.paging.specs.Map.{memory}
+use Rattle.paging.specs.Kept.{lentMemory}
 use Rattle.paging.proofs.Map.{roomy-lent}
 use Rattle.paging.proofs.Calls.{told}
 use Rattle.bits.proofs.Counter.{slot-fits}
@@ -43,7 +42,7 @@ put-entry-requires c κs =
     let r = c .before .before .before .before .before .before .before in
     let i = r .before .before .before in
     let a = i .before .before .args in (
-      roomy-lent (made-left (a .user) (memory (a .words .now) (framesOf (a .bitmap .now) (a .frames))) (a .root .0) (i .page-indices .result) (a .k) (r .make-tables .ensures)
+      roomy-lent (made-left (a .user) (lentMemory (a .words .now) (a .bitmap .now) (a .frames)) (a .root .0) (i .page-indices .result) (a .k) (r .make-tables .ensures)
           (i .before .before .pre .1) (i .before .before .pre .0)),
       i .page-indices .ensures .1 _,
     )
@@ -61,8 +60,8 @@ returns c =
     let a = i .before .before .args in
     let x = r .make-tables in
     told
-    (map-at-stop 3 (a .k) (a .user) (memory (a .words .now) (framesOf (a .bitmap .now) (a .frames))) (a .root .0) (a .virt .0) (a .e) (i .page-indices .ensures .0)
-    (memory (x .last .0) (framesOf (x .last .1 .0) (x .result .frames))) (x .ensures) _ (c .before .walked .given .1))
+    (map-at-stop 3 (a .k) (a .user) (lentMemory (a .words .now) (a .bitmap .now) (a .frames)) (a .root .0) (a .virt .0) (a .e) (i .page-indices .ensures .0)
+    (lentMemory (x .last .0) (x .last .1 .0) (x .result .frames)) (x .ensures) _ (c .before .walked .given .1))
 
 same-length-2 : tie.Need-same-length-2
 same-length-2 c =
@@ -77,8 +76,8 @@ returns-2 c =
     let i = r .before .before .before in
     let a = i .before .before .args in
     let x = r .make-tables in
-    map-at-put 3 (a .k) (a .user) (memory (a .words .now) (framesOf (a .bitmap .now) (a .frames))) (a .root .0) (a .virt .0) (a .e) (i .page-indices .ensures .0)
-    (memory (x .last .0) (framesOf (x .last .1 .0) (x .result .frames))) (x .ensures) _ (w .walked2 .given .1)
+    map-at-put 3 (a .k) (a .user) (lentMemory (a .words .now) (a .bitmap .now) (a .frames)) (a .root .0) (a .virt .0) (a .e) (i .page-indices .ensures .0)
+    (lentMemory (x .last .0) (x .last .1 .0) (x .result .frames)) (x .ensures) _ (w .walked2 .given .1)
     (c .as-answer .ensures) (p .put-entry .ensures)
 
 pub map-entry-spec : {M : Type 1} → statement M

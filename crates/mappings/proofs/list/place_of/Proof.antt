@@ -1,25 +1,26 @@
--- `place_of`: the place among the regions left, those before them being passed, is the place among all.
-use Prim.Native.Nat.{ℕ, _+_, _-_, _<_, _≤_}
+-- `place_of`. The invariant: the place is within the half that is left.
+use Prim.Native.Nat.{ℕ, _+_, _-_, _/_, _<_, _≤_}
 use mathlib.Core.Path.{_≡_}
 use mathlib.Core.Bool.{true}
-use mathlib.Core.List.{List, _∷_}
+use mathlib.Core.List.{List}
 use native.Mathlib.Omega.{arith}
 use borrow.Author.Needs.{needs}
 use Rattle.slots.specs.Slots.{listed}
 use Rattle.slots.specs.Sorted.{placeOf}
-use Rattle.slots.proofs.Sorted.{place-end, place-stop, place-on}
+use Rattle.slots.proofs.Sorted.{place-le}
 use Rattle.mappings.specs.Regions.{startKey}
 use Rattle.mappings.specs.Packed.{mmapIn, mmapFit}
-use Rattle.mappings.proofs.Scan.{left, more, no-more}
-use Rattle.mappings.proofs.Sound.{sound-fit, sound-few}
+use Rattle.mappings.proofs.Placing.{place-after, place-before}
+use Rattle.mappings.proofs.Sound.{sound-fit, sound-few, listed-long}
 use Rattle.mappings.proofs.list.place_of.Statement.{statement}
 use Rattle.mappings.proofs.list.place_of.Tie as tie
 
 abbrev Inv-loop : tie.InvT-loop
-Inv-loop list a count i₀ i = (i ≤ count) × (i + placeOf startKey a (left list i) ≡ placeOf startKey a (listed (mmapIn list)))
+Inv-loop list a low₀ high₀ low high =
+    (low ≤ placeOf startKey a (listed (mmapIn list))) × (placeOf startKey a (listed (mmapIn list)) ≤ high) × (high ≤ mmapIn list .count)
 
 abbrev μ-loop : tie.MeasureT-loop
-μ-loop list a count i₀ i = count - i
+μ-loop list a low₀ high₀ low high = high - low
 
 -- the list is sound
 module _ (s : tie.Start Inv-loop μ-loop) where
@@ -36,29 +37,24 @@ count-requires : tie.Need-count-requires Inv-loop μ-loop
 count-requires c κs = fit (c .before)
 
 loop-holds : tie.Need-loop-holds Inv-loop μ-loop
-loop-holds c = (search needs, omega arith)
+loop-holds c =
+    let s = c .before .before in
+    (omega arith, omega (arith, place-le startKey (s .args .a) (listed (mmapIn (bytes s))), listed-long (bytes s) (s .pre), c .count .ensures), omega (arith, c .count .ensures))
 
--- the slot is one of the regions
-below : (c : tie.In-loop Inv-loop μ-loop) → c .before .loop .i < mmapIn (c .before .before .before .before .args .list .now) .count
-below c = omega (arith, c .loop-test .taken, c .before .before .count .ensures)
+-- the middle is one of the regions
+below : (c : tie.In-loop Inv-loop μ-loop) → (c .before .loop .low + c .before .loop .high) / 2 < mmapIn (bytes (c .before .before .before .before)) .count
+below c = omega (arith, c .loop-test .taken, c .before .loop .inv .2)
+
+add-mid : tie.Need-add-mid Inv-loop μ-loop
+add-mid c = omega (arith, c .loop-test .taken, c .before .loop .inv .2, few (c .before .before .before .before))
 
 slot-requires : tie.Need-slot-requires Inv-loop μ-loop
 slot-requires c κs =
     let s = c .before .before .before .before in
     (fit s, omega (arith, below c, few s))
 
--- one more region is left
-one : (c : tie.After-slot Inv-loop μ-loop) → let s = c .before .before .before .before .before in let i = c .before .before .loop .i in
-    left (s .args .list .now) i ≡ c .slot .result ∷ left (s .args .list .now) (i + 1)
-one c = let s = c .before .before .before .before .before in more (s .args .list .now) (few s) _ (below (c .before)) (c .slot .ensures)
-
-returns : tie.Need-returns Inv-loop μ-loop
-returns c =
-    let r = c .before .before in
-    omega (arith, place-stop startKey (r .before .before .before .before .before .args .a) (one r) (c .if1 .taken), r .before .before .loop .inv .1)
-
-add-i : tie.Need-add-i Inv-loop μ-loop
-add-i c = search needs
+add-low : tie.Need-add-low Inv-loop μ-loop
+add-low c = let i = c .before .before .before in omega (arith, below i, few (i .before .before .before .before))
 
 loop-less : tie.Need-loop-less Inv-loop μ-loop
 loop-less c = search needs
@@ -66,19 +62,22 @@ loop-less c = search needs
 loop-again : tie.Need-loop-again Inv-loop μ-loop
 loop-again c =
     let r = c .before .before in
-    (search needs, omega (arith, place-on startKey (r .before .before .before .before .before .args .a) (one r) (c .if1 .left), r .before .before .loop .inv .1))
+    let i = r .before in
+    let s = i .before .before .before .before in
+    (omega (arith, place-after (bytes s) (s .pre) (s .args .a) _ (below i) (r .slot .ensures) (c .if1 .taken)), i .before .loop .inv .1, i .before .loop .inv .2)
 
-returns-2 : tie.Need-returns-2 Inv-loop μ-loop
-returns-2 c =
-    let l = c .before in
-    let s = l .before .before .before in
-    omega (
-      arith,
-      l .loop .inv .0,
-      c .loop-test .left,
-      l .loop .inv .1,
-      place-end startKey (s .args .a) (no-more (s .args .list .now) (few s) (l .loop .i) (omega (arith, c .loop-test .left, l .before .count .ensures))),
-    )
+loop-less-2 : tie.Need-loop-less-2 Inv-loop μ-loop
+loop-less-2 c = search needs
+
+loop-again-2 : tie.Need-loop-again-2 Inv-loop μ-loop
+loop-again-2 c =
+    let r = c .before .before in
+    let i = r .before in
+    let s = i .before .before .before .before in
+    (i .before .loop .inv .0, place-before (bytes s) (s .pre) (s .args .a) _ (below i) (r .slot .ensures) (c .if1 .left), omega (arith, below i))
+
+returns : tie.Need-returns Inv-loop μ-loop
+returns c = omega (arith, c .before .loop .inv .0, c .before .loop .inv .1, c .loop-test .left)
 
 pub place-of-spec : {M : Type 1} → statement M
 place-of-spec =
@@ -88,9 +87,11 @@ place-of-spec =
     μ-loop
     count-requires
     loop-holds
+    add-mid
     slot-requires
-    returns
-    add-i
+    add-low
     loop-less
     loop-again
-    returns-2)
+    loop-less-2
+    loop-again-2
+    returns)

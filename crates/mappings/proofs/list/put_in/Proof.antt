@@ -27,18 +27,18 @@ loop-holds c =
     let s = c .before .before .before in
     (omega (arith, s .pre .1 .0, c .count .ensures), search needs, (s .pre .0, up-first noMappedRegion (mmapIn (s .args .list .now)) (c .count .result), refl))
 
-sub-slot : tie.Need-sub-slot Inv-loop μ-loop
-sub-slot c = search needs
+sub-move-slot : tie.Need-sub-move-slot Inv-loop μ-loop
+sub-move-slot c = search needs
 
 -- one more slot than there are regions
 room : (c : tie.After-count Inv-loop μ-loop) → c .count .result < 256
 room c = omega (arith, c .before .before .before .pre .1 .1, c .count .ensures)
 
-slot-requires : tie.Need-slot-requires Inv-loop μ-loop
-slot-requires c κs = let l = c .before .before in (l .loop .inv .2 .0, omega (arith, l .loop .inv .1, room (l .before)))
-
-put-requires : tie.Need-put-requires Inv-loop μ-loop
-put-requires c κs = let l = c .before .before .before .before in (l .loop .inv .2 .0, omega (arith, l .loop .inv .1, room (l .before)))
+move-slot-requires : tie.Need-move-slot-requires Inv-loop μ-loop
+move-slot-requires c κs =
+    let l = c .before .before in
+    let r = room (l .before) in
+    (l .loop .inv .2 .0, (omega (arith, l .loop .inv .1), omega (arith, l .loop .inv .1)))
 
 sub-j : tie.Need-sub-j Inv-loop μ-loop
 sub-j c = search needs
@@ -48,23 +48,22 @@ loop-less c = search needs
 
 loop-again : tie.Need-loop-again Inv-loop μ-loop
 loop-again c =
-    let p = c .before .before in
-    let r = p .before .before in
-    let l = r .before .before .before in
+    let m = c .before .before in
+    let l = m .before .before .before in
     let n = l .before in
     let bs = n .before .before .before .args .list .now in (
       search needs,
       search needs,
       (
-        p .put .ensures .0,
+        m .move-slot .ensures .0,
         up-turn noMappedRegion (mmapIn bs) (l .loop .j) (n .count .result) (search needs) (l .loop .inv .1) (omega (arith, room n, slots-long bs))
-            (mmapIn (l .loop .list)) (mmapIn (p .put .last .0)) (r .slot .result) (l .loop .inv .2 .1) (r .slot .ensures) (p .put .ensures .1),
-        p .put .ensures .2 ∙ l .loop .inv .2 .2,
+            (mmapIn (l .loop .list)) (mmapIn (m .move-slot .last .0)) _ (l .loop .inv .2 .1) refl (m .move-slot .ensures .1),
+        m .move-slot .ensures .2 ∙ l .loop .inv .2 .2,
       ),
     )
 
-put-requires-2 : tie.Need-put-requires-2 Inv-loop μ-loop
-put-requires-2 c κs = let l = c .before .before in (l .loop .inv .2 .0, omega (arith, l .loop .inv .0, l .loop .inv .1, room (l .before)))
+put-requires : tie.Need-put-requires Inv-loop μ-loop
+put-requires c κs = let l = c .before .before in (l .loop .inv .2 .0, omega (arith, l .loop .inv .0, l .loop .inv .1, room (l .before)))
 
 add-put-count : tie.Need-add-put-count Inv-loop μ-loop
 add-put-count c = omega (arith, room (c .before .before .before .before .before .before .before))
@@ -88,8 +87,8 @@ returns c =
     let a = s .args in (
       q .put-count .ensures .0,
       up-stored noMappedRegion (mmapIn (a .list .now)) (n .count .result) (l .loop .j) (a .at) (n .count .ensures) (a .r) (search needs) (omega (arith, s .pre .1 .0, n .count .ensures))
-          (omega (arith, room n, slots-long (a .list .now))) (l .loop .inv .2 .1) (p .put2 .ensures .1) (q .put-count .ensures .1),
-      q .put-count .ensures .2 ∙ p .put2 .ensures .2 ∙ l .loop .inv .2 .2,
+          (omega (arith, room n, slots-long (a .list .now))) (l .loop .inv .2 .1) (p .put .ensures .1) (q .put-count .ensures .1),
+      q .put-count .ensures .2 ∙ p .put .ensures .2 ∙ l .loop .inv .2 .2,
     )
 
 pub put-in-spec : {M : Type 1} → statement M
@@ -100,13 +99,12 @@ put-in-spec =
     μ-loop
     count-requires
     loop-holds
-    sub-slot
-    slot-requires
-    put-requires
+    sub-move-slot
+    move-slot-requires
     sub-j
     loop-less
     loop-again
-    put-requires-2
+    put-requires
     add-put-count
     put-count-requires
     same-length

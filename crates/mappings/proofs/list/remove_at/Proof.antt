@@ -34,16 +34,14 @@ loop-holds c =
     let s = c .before .before .before in
     (search needs, omega (arith, some c .0), (s .pre .0, down-first noMappedRegion (mmapIn (s .args .list .now)) (s .args .at), refl))
 
-add-slot : tie.Need-add-slot Inv-loop μ-loop
-add-slot c = search needs
+add-move-slot : tie.Need-add-move-slot Inv-loop μ-loop
+add-move-slot c = search needs
 
-slot-requires : tie.Need-slot-requires Inv-loop μ-loop
-slot-requires c κs = let l = c .before .before in (l .loop .inv .2 .0, omega (arith, c .before .loop-test .taken, some (l .before) .1))
-
-put-requires : tie.Need-put-requires Inv-loop μ-loop
-put-requires c κs =
-    let i = c .before .before .before in
-    (i .before .loop .inv .2 .0, omega (arith, i .loop-test .taken, some (i .before .before) .1))
+move-slot-requires : tie.Need-move-slot-requires Inv-loop μ-loop
+move-slot-requires c κs =
+    let l = c .before .before in
+    let few = some (l .before) .1 in
+    (l .loop .inv .2 .0, (omega (arith, c .before .loop-test .taken), omega (arith, c .before .loop-test .taken)))
 
 add-j : tie.Need-add-j Inv-loop μ-loop
 add-j c = search needs
@@ -53,27 +51,26 @@ loop-less c = search needs
 
 loop-again : tie.Need-loop-again Inv-loop μ-loop
 loop-again c =
-    let p = c .before .before in
-    let r = p .before .before in
-    let i = r .before .before in
+    let m = c .before .before in
+    let i = m .before .before in
     let l = i .before in
     let n = l .before in
     let a = n .before .before .before .args in (
       search needs,
       search needs,
       (
-        p .put .ensures .0,
+        m .move-slot .ensures .0,
         down-turn noMappedRegion (mmapIn (a .list .now)) (a .at) (l .loop .j) (l .loop .inv .0) (omega (arith, i .loop-test .taken, some n .1, slots-long (a .list .now)))
-            (mmapIn (l .loop .list)) (mmapIn (p .put .last .0)) (r .slot .result) (l .loop .inv .2 .1) (r .slot .ensures) (p .put .ensures .1),
-        p .put .ensures .2 ∙ l .loop .inv .2 .2,
+            (mmapIn (l .loop .list)) (mmapIn (m .move-slot .last .0)) _ (l .loop .inv .2 .1) refl (m .move-slot .ensures .1),
+        m .move-slot .ensures .2 ∙ l .loop .inv .2 .2,
       ),
     )
 
 no-region-requires : tie.Need-no-region-requires Inv-loop μ-loop
 no-region-requires c κs = search needs
 
-put-requires-2 : tie.Need-put-requires-2 Inv-loop μ-loop
-put-requires-2 c κs = let l = c .before .before .before in (l .loop .inv .2 .0, omega (arith, some (l .before)))
+put-requires : tie.Need-put-requires Inv-loop μ-loop
+put-requires c κs = let l = c .before .before .before in (l .loop .inv .2 .0, omega (arith, some (l .before)))
 
 put-count-requires : tie.Need-put-count-requires Inv-loop μ-loop
 put-count-requires c κs = search needs
@@ -95,8 +92,8 @@ returns c =
     let bs = s .args .list .now in (
       q .put-count .ensures .0,
       down-stored noMappedRegion (mmapIn bs) (n .count .result) (l .loop .j) (s .args .at) (n .count .ensures) (search needs) (some n .0) (omega (arith, some n .1, slots-long bs))
-          (l .loop .inv .2 .1) (put-zero (mmapIn (l .loop .list)) (mmapIn (p .put2 .last .0)) _ _ (b .no-region .ensures) (p .put2 .ensures .1)) (q .put-count .ensures .1),
-      q .put-count .ensures .2 ∙ p .put2 .ensures .2 ∙ l .loop .inv .2 .2,
+          (l .loop .inv .2 .1) (put-zero (mmapIn (l .loop .list)) (mmapIn (p .put .last .0)) _ _ (b .no-region .ensures) (p .put .ensures .1)) (q .put-count .ensures .1),
+      q .put-count .ensures .2 ∙ p .put .ensures .2 ∙ l .loop .inv .2 .2,
     )
 
 pub remove-at-spec : {M : Type 1} → statement M
@@ -108,14 +105,13 @@ remove-at-spec =
     count-requires
     sub-last
     loop-holds
-    add-slot
-    slot-requires
-    put-requires
+    add-move-slot
+    move-slot-requires
     add-j
     loop-less
     loop-again
     no-region-requires
-    put-requires-2
+    put-requires
     put-count-requires
     same-length
     returns)

@@ -61,7 +61,7 @@ returns c =
     let h = a .before .before in
     let k = h .before .before in
     let s = k .before .before in
-    no-mapping-left (λ i. k .slice-known2 .given i .fits) (s .pre .0)
+    no-mapping-left _ (λ i. k .slice-known2 .given i .fits) (s .pre .0)
     (placed-full aboveLast (lent s) (s .args .root .0) (s .args .hint) (s .args .n) (s .args .prot) (s .args .flags) _ (came h ∙ a .a .given .1)
     (sym (f .is-full .ensures (lent s .mem)) ∙ c .before .if1 .taken)) (c .no-mapping2 .ensures)
 
@@ -85,7 +85,7 @@ returns-2 c =
     let h = e .before .before in
     let k = h .before .before in
     let s = k .before .before in
-    no-mapping-left (λ i. k .slice-known2 .given i .fits) (s .pre .0)
+    no-mapping-left _ (λ i. k .slice-known2 .given i .fits) (s .pre .0)
     (placed-stop aboveLast (lent s) (s .args .root .0) (s .args .hint) (s .args .n) (s .args .prot) (s .args .flags) _ (came h ∙ e .e .given .1)) (c .no-mapping .ensures)
 
 same-length-3 : tie.Need-same-length-3

@@ -8,11 +8,11 @@ use mir.Facts.{toZ-ofZ}
 use mir.Syntax.{w32}
 use mir.Val.{ofZ, toZ}
 use borrow.Author.Needs.{needs}
-use Rattle.frame.specs.Frames.{frames}
 use Rattle.answer.specs.declared.Outcome.{Outcome}
+use Rattle.paging.specs.Kept.{lentMemory}
 use Rattle.paging.specs.Levels.{aboveLast}
 use Rattle.paging.specs.Walk.{WordsLent}
-use Rattle.paging.specs.Map.{Memory, memory, startFrame, totalOf, RoomToTake}
+use Rattle.paging.specs.Map.{Memory, startFrame, totalOf, RoomToTake}
 use Rattle.address.specs.Address.{asVirt}
 use Rattle.paging.specs.Pages.{Ran, ran, mapPages}
 use Rattle.paging.proofs.Calls.{whole-roomy}
@@ -42,7 +42,7 @@ run-of s e h =
 
 run : (c : tie.After-map-pages) → let s = c .before .before .before .before .before .before in let p = c .map-pages in
     userPages aboveLast (lent s .mem) (s .args .root .0) (s .args .virt .0) (s .args .n) (s .args .prot)
-    ≡ ran (p .result .walked) (p .result .done) (memory (p .last .0) (frames (p .last .1 .0) (p .result .frames)))
+    ≡ ran (p .result .walked) (p .result .done) (lentMemory (p .last .0) (p .last .1 .0) (p .result .frames))
 run c = run-of (c .before .before .before .before .before .before) (c .before .is-writable .ensures) (c .map-pages .ensures)
 
 is-writable-requires : tie.Need-is-writable-requires
@@ -98,7 +98,7 @@ returns c =
     let k = p .before .before .before .before in
     let s = k .before .before in
     let a = s .args in
-    no-mapping-left (λ i. k .slice-known2 .given i .fits) (s .pre .0)
+    no-mapping-left _ (λ i. k .slice-known2 .given i .fits) (s .pre .0)
     (region-stop aboveLast (lent s) (a .root .0) (a .virt .0) (a .n) (a .prot) (a .flags) (run p) _ (w .walked .given .1) (x .clear-after .ensures (p .map-pages .last .1 .0)))
     (c .no-mapping .ensures)
 

@@ -54,7 +54,7 @@ returns c =
     let h = c .before .before in
     let k = h .before .before .before .before in
     let s = k .before .before in
-    not-unmapped-left (λ i. k .slice-known2 .given i .fits) (s .pre .0)
+    not-unmapped-left _ (λ i. k .slice-known2 .given i .fits) (s .pre .0)
     (unmap-none aboveLast (lent s) (s .args .root .0) (s .args .addr .0) (s .args .n) (failed (h .holds-at .ensures) (c .before .if1 .taken))) (c .not-unmapped .ensures)
 
 -- the region is held

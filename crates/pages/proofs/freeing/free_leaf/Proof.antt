@@ -1,8 +1,8 @@
 -- `free_leaf`: the leaf, if there is one, and then its frame.
 use mathlib.Core.Path.{sym, _∙_}
 use borrow.Author.Needs.{needs}
-use Rattle.frame.specs.Frames.{frames}
-use Rattle.paging.specs.Map.{memory}
+use Rattle.paging.specs.Kept.{lentMemory}
+use Rattle.frame.specs.Frames.{lentFrames}
 use Rattle.pages.proofs.Laws.{unmapped, given-back}
 use Rattle.pages.proofs.Leaves.{leaf-none, leaf-freed}
 use Rattle.pages.proofs.freeing.free_leaf.Statement.{statement}
@@ -27,7 +27,7 @@ returns : tie.Need-returns
 returns c =
     let u = c .before .before .before .before in
     let a = u .before .before .before .args in
-    sym (leaf-none (memory (a .words .now) (frames (a .bitmap .now) (a .frames))) (a .t) (a .i) (u .take-leaf .last .0) _
+    sym (leaf-none (lentMemory (a .words .now) (a .bitmap .now) (a .frames)) (a .t) (a .i) (u .take-leaf .last .0) _
     (unmapped (u .take-leaf .ensures .0) (u .take-leaf .ensures .1) (c .enum-told .given .1)))
 
 same-length-2 : tie.Need-same-length-2
@@ -39,8 +39,8 @@ returns-2 c =
     let f = g .before .before .before in
     let u = f .before .before .before .before in
     let a = u .before .before .before .args in
-    given-back (u .take-leaf .last .0) (frames (a .bitmap .now) (a .frames)) _ (g .give-frame .ensures .0) (g .give-frame .ensures .1)
-    ∙ sym (leaf-freed (memory (a .words .now) (frames (a .bitmap .now) (a .frames))) (a .t) (a .i) (u .take-leaf .last .0) _
+    given-back (u .take-leaf .last .0) (lentFrames (a .bitmap .now) (a .frames)) _ (g .give-frame .ensures .0) (g .give-frame .ensures .1)
+    ∙ sym (leaf-freed (lentMemory (a .words .now) (a .bitmap .now) (a .frames)) (a .t) (a .i) (u .take-leaf .last .0) _
     (unmapped (u .take-leaf .ensures .0) (u .take-leaf .ensures .1) (f .f .given .1)))
 
 pub free-leaf-spec : {M : Type 1} → statement M

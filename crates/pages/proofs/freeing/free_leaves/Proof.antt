@@ -4,8 +4,8 @@ use mathlib.Core.Path.{_≡_, refl, sym, _∙_}
 use native.Mathlib.Numerals.{unary-clauses}
 use lib.ListN.{length}
 use borrow.Author.Needs.{needs}
-use Rattle.frame.specs.Frames.{frames as framesOf}
-use Rattle.paging.specs.Map.{memory, RoomToTake}
+use Rattle.paging.specs.Kept.{lentMemory}
+use Rattle.paging.specs.Map.{RoomToTake}
 use Rattle.pages.specs.Freeing.{freeLeaves}
 use Rattle.bits.proofs.Counter.{onward, fewer, next-fits}
 use Rattle.pages.proofs.Leaves.{leaf-left, leaves-on, leaves-end}
@@ -14,8 +14,8 @@ use Rattle.pages.proofs.freeing.free_leaves.Tie as tie
 
 abbrev Inv-loop : tie.InvT-loop
 Inv-loop words₀ bitmap₀ t i n left₀ j₀ words bitmap left j =
-    (j ≤ n) × (length words ≡ length words₀) × RoomToTake (memory words (framesOf bitmap left)) 0
-    × (freeLeaves (memory words₀ (framesOf bitmap₀ left₀)) t i n ≡ freeLeaves (memory words (framesOf bitmap left)) t (i + j) (n - j))
+    (j ≤ n) × (length words ≡ length words₀) × RoomToTake (lentMemory words bitmap left) 0
+    × (freeLeaves (lentMemory words₀ bitmap₀ left₀) t i n ≡ freeLeaves (lentMemory words bitmap left) t (i + j) (n - j))
 
 abbrev μ-loop : tie.MeasureT-loop
 μ-loop words₀ bitmap₀ t i n left₀ j₀ words bitmap left j = n - j
@@ -48,10 +48,10 @@ loop-again c =
     let x = r .free-leaf in (
       onward (l .loop .j) (a .n) (t .loop-test .taken),
       x .kept .0 ∙ l .loop .inv .1,
-      leaf-left (memory (l .loop .words) (framesOf (l .loop .bitmap) (l .loop .left))) (a .t) (a .i + l .loop .j) (x .ensures) (l .loop .inv .2),
+      leaf-left (lentMemory (l .loop .words) (l .loop .bitmap) (l .loop .left)) (a .t) (a .i + l .loop .j) (x .ensures) (l .loop .inv .2),
       l .loop .inv .3
-          ∙ leaves-on (a .t) (a .i) (l .loop .j) (a .n) (t .loop-test .taken) (memory (l .loop .words) (framesOf (l .loop .bitmap) (l .loop .left)))
-          (memory (x .last .0) (framesOf (x .last .1 .0) (x .result))) (x .ensures),
+          ∙ leaves-on (a .t) (a .i) (l .loop .j) (a .n) (t .loop-test .taken) (lentMemory (l .loop .words) (l .loop .bitmap) (l .loop .left))
+          (lentMemory (x .last .0) (x .last .1 .0) (x .result)) (x .ensures),
     )
 
 same-length : tie.Need-same-length Inv-loop μ-loop

@@ -1,11 +1,10 @@
 -- `free_span`: the pages of a gap, or the leaves of a table.
 use Prim.Native.Nat.{ℕ}
 use mathlib.Core.Path.{refl, ap}
-use Rattle.frame.specs.Frames.{frames}
-use Rattle.paging.specs.Map.{memory}
 use mathlib.Core.List.{List}
 use lib.ListN.{getD}
 use borrow.Author.Needs.{needs}
+use Rattle.paging.specs.Kept.{lentMemory}
 use Rattle.pages.proofs.Steps.{is-gap, is-leaves, gap-step, leaves-fit, leaves-step}
 use Rattle.pages.proofs.freeing.free_span.Statement.{statement}
 use Rattle.pages.proofs.freeing.free_span.Tie as tie
@@ -58,7 +57,7 @@ returns c =
     let s = f .before .before .before in
     let a = s .args in (
       s .pre .1 .0,
-      gap-step (memory (a .words .now) (frames (a .bitmap .now) (a .frames))) (a .root .0) (a .virt .0) _ (a .n)
+      gap-step (lentMemory (a .words .now) (a .bitmap .now) (a .frames)) (a .root .0) (a .virt .0) _ (a .n)
           (is-gap (a .words .now) (a .frames .start) (a .frames .total) (a .root .0) (a .virt .0) (f .find-span .ensures) (c .before .before .k .given .1))
           (s .pre .1 .1) (c .at-most .ensures),
     )
@@ -73,7 +72,7 @@ returns-2 c =
     let f = q .before .before .before .before .before in
     let a = f .before .before .before .args in (
       r .free-table .ensures .1,
-      leaves-step (memory (a .words .now) (frames (a .bitmap .now) (a .frames))) (a .root .0) (a .virt .0) _ _ (a .n) (getD (q .before .page-indices .result) 3 0)
+      leaves-step (lentMemory (a .words .now) (a .bitmap .now) (a .frames)) (a .root .0) (a .virt .0) _ _ (a .n) (getD (q .before .page-indices .result) 3 0)
           (is-leaves (a .words .now) (a .frames .start) (a .frames .total) (a .root .0) (a .virt .0) (f .find-span .ensures) (q .before .before .before .t .given .1))
           (f .before .before .before .pre .1 .1) (q .at-most2 .ensures)
           (ap (λ (is : List ℕ). getD is 3 0) (q .before .page-indices .ensures .0)) (r .free-table .ensures .0),

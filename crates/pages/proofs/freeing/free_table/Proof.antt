@@ -2,10 +2,9 @@
 use Prim.Native.Nat.{_-_}
 use mathlib.Core.Path.{_≡_, sym, _∙_}
 use borrow.Author.Needs.{needs}
-use Rattle.bitmap.specs.Bitmap.{marked}
+use Rattle.paging.specs.Kept.{lentMemory}
+use Rattle.bitmap.specs.Bitmap.{marksIn, marked}
 use Rattle.bitmap.proofs.Marks.{marked-true, marked-false}
-use Rattle.frame.specs.Frames.{frames}
-use Rattle.paging.specs.Map.{memory}
 use Rattle.frame.proofs.Laws.{inside-from, inside-bit}
 use Rattle.pages.proofs.Blanks.{blank-pass, blank-left, blank-more}
 use Rattle.pages.proofs.freeing.free_table.Statement.{statement}
@@ -21,7 +20,7 @@ returns : tie.Need-returns
 returns c =
     let s = c .before .before .before .before .before .before in
     let a = s .args in (
-      blank-pass (memory (a .words .now) (frames (a .bitmap .now) (a .frames))) (a .t) (a .i) (a .n) (s .pre .1 .0) (s .pre .1 .1 .0) (s .pre .1 .1 .1)
+      blank-pass (lentMemory (a .words .now) (a .bitmap .now) (a .frames)) (a .t) (a .i) (a .n) (s .pre .1 .0) (s .pre .1 .1 .0) (s .pre .1 .1 .1)
           (marked-true _ _ (sym (c .before .is-marked .ensures) ∙ c .if1 .taken)),
       s .pre .1 .0,
     )
@@ -30,14 +29,14 @@ free-leaves-requires : tie.Need-free-leaves-requires
 free-leaves-requires c κs = let s = c .before .before .before .before .before .before .before .before in (s .pre .0, s .pre .1 .1 .1)
 
 -- a table that is not marked
-free : (c : tie.Else1) → let s = c .before .before .before .before .before .before in marked (s .args .empty .now) (s .args .t - s .args .frames .start) ≡ 0
+free : (c : tie.Else1) → let s = c .before .before .before .before .before .before in marked (marksIn (s .args .empty .now)) (s .args .t - s .args .frames .start) ≡ 0
 free c = marked-false _ _ (sym (c .before .is-marked .ensures) ∙ c .if1 .left)
 
 mark-requires : tie.Need-mark-requires
 mark-requires c κs =
     let e = c .before .before .before .before .before .before .before in
     let s = e .before .before .before .before .before .before in
-    (search (needs, inside-bit (s .args .frames .start) (s .args .frames .total) (s .args .t) (s .pre .0 .held .few) (s .pre .1 .1 .0)), free e)
+    (search needs, (search (needs, inside-bit (s .args .frames .start) (s .args .frames .total) (s .args .t) (s .pre .0 .held .few) (s .pre .1 .1 .0)), free e))
 
 same-length : tie.Need-same-length
 same-length c = c .before .before .before .before .before .free-leaves .kept .0
@@ -50,7 +49,7 @@ returns-2 c =
     let a = s .args in (
       f .free-leaves .ensures,
       rw (c .mark .ensures)
-          (blank-more (memory (a .words .now) (frames (a .bitmap .now) (a .frames))) (a .t) (a .i) (a .n) (s .pre .1 .0) (s .pre .1 .1 .0) (s .pre .1 .1 .1)
+          (blank-more (lentMemory (a .words .now) (a .bitmap .now) (a .frames)) (a .t) (a .i) (a .n) (s .pre .1 .0) (s .pre .1 .1 .0) (s .pre .1 .1 .1)
           (f .free-leaves .ensures) (c .before .before .if2 .taken) (free e)),
     )
 
@@ -63,7 +62,7 @@ returns-3 c =
     let s = f .before .before .before .before .before .before .before .before .before in
     let a = s .args in (
       f .free-leaves .ensures,
-      blank-left (memory (a .words .now) (frames (a .bitmap .now) (a .frames))) (a .t) (a .i) (a .n) (s .pre .1 .0) (s .pre .1 .1 .0)
+      blank-left (lentMemory (a .words .now) (a .bitmap .now) (a .frames)) (a .t) (a .i) (a .n) (s .pre .1 .0) (s .pre .1 .1 .0)
           (s .pre .1 .1 .1) (f .free-leaves .ensures),
     )
 

@@ -1,0 +1,48 @@
+-- `copy_on_write`: 11, or the copy to the frame that was taken.
+use mathlib.Core.Path.{sym, _∙_}
+use Rattle.tables.proofs.Laws.{stepped}
+use Rattle.paging.specs.Levels.{aboveLast}
+use Rattle.copying.proofs.Copying.{taken-roomy, taken-lent, cow-none, cow-on}
+use borrow.Author.Needs.{needs}
+use Rattle.copying.proofs.copy_on_write.Statement.{statement}
+use Rattle.copying.proofs.copy_on_write.Tie as tie
+
+raw-frame-requires : tie.Need-raw-frame-requires
+raw-frame-requires c κs = search needs
+
+enum-known-walked : tie.Need-enum-known-walked
+enum-known-walked c = search needs
+
+enum-known-walked-2 : tie.Need-enum-known-walked-2
+enum-known-walked-2 c = search needs
+
+copy-to-requires : tie.Need-copy-to-requires
+copy-to-requires c κs =
+    let s = c .before .before .before .before .before .before .before .before .before in
+    let e = c .before .before .before .before .before .before .raw-frame .ensures (s .args .words .now) in
+    (taken-roomy _ e 6 (s .pre), taken-lent _ e _ (c .before .before .before .walked2 .given .1))
+
+returns : tie.Need-returns
+returns c = sym (cow-none aboveLast _ _ _ _ _ _ (stepped (c .before .before .before .before .raw-frame .ensures _) (c .before .walked .given .1)))
+
+same-length : tie.Need-same-length
+same-length c = search needs
+
+returns-2 : tie.Need-returns-2
+returns-2 c =
+    c .before .before .copy-to .ensures ∙ sym (cow-on aboveLast _ _
+    (c .before .before .before .before .before .before .before .before .before .before .before .before .args .page .0) _ _ _
+    (stepped (c .before .before .before .before .before .before .before .before .before .raw-frame .ensures _)
+    (c .before .before .before .before .before .before .walked2 .given .1)))
+
+pub copy-on-write-spec : {M : Type 1} → statement M
+copy-on-write-spec =
+    tie.close
+    (tie.spec
+    raw-frame-requires
+    enum-known-walked
+    enum-known-walked-2
+    copy-to-requires
+    returns
+    same-length
+    returns-2)
