@@ -34,7 +34,6 @@ use Rattle.mmap.specs.Packed.{keptUser, onMmapList}
 use Rattle.layout.specs.Parts.{fieldsIn, fieldsOut, fieldsFit}
 use Rattle.layout.specs.Left.{left, brokenLine, IsRefusal, Unchanged, noLeftovers, regionLeftovers}
 use Rattle.layout.specs.Memory.{ListParts, listParts, plainLine}
-use Rattle.layout.proofs.Fit.{fit-other}
 use Rattle.layout.proofs.Left.{broken-left, unchanged-left, fields-same, list-met}
 use Rattle.layout.proofs.Numbers.{pages-listed}
 use Rattle.desk_regions.specs.Regions.{addressLine, kernelFit, kernelIn, kernelPacked, onKernel, userFit, userIn, userPacked, onUser}
@@ -55,7 +54,7 @@ module _ {A : Type 0} (form : Outcome → A) (line : A → Line) (call : Kernel 
 
   pub kernel-broken : {r : Line} → fieldsFit fields ≡ false → r ≡ brokenLine → left r kernelLent ≡ onKernel kernelSaid call kernelLent
   unfolding onKernel
-  kernel-broken h e = broken-left kernelLent _ (sym (fit-other (fieldsFit fields) (vmFit list) h)) e
+  kernel-broken h e = broken-left {ok = kernelFit kernelLent} kernelLent _ (rw h refl) e
 
   pub kernel-met : kernelSaid (Stop brokenRecord) ≡ brokenLine → {ws fs ls : List ℕ} (bs : List ℕ) {f g : FrameAllocator} {x : A} {r : Line}
       → fieldsFit fields ≡ true → Bytes fields → f ≡ fieldsIn fields
@@ -85,7 +84,7 @@ module _ {A : Type 0} (form : Outcome → A) (line : A → Line) (call : User �
 
   pub user-broken : {r : Line} → fieldsFit fields ≡ false → r ≡ brokenLine → left r userLent ≡ onUser userSaid call userLent
   unfolding onUser
-  user-broken h e = broken-left userLent _ (sym (fit-other (fieldsFit fields) (mmapFit list) h)) e
+  user-broken h e = broken-left {ok = userFit userLent} userLent _ (rw h refl) e
 
   pub user-met : userSaid (Stop brokenRecord) ≡ brokenLine → {ws fs ls : List ℕ} (bs : List ℕ) {f g : FrameAllocator} {x : A} {r : Line}
       → fieldsFit fields ≡ true → Bytes fields → f ≡ fieldsIn fields

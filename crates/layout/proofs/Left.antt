@@ -1,7 +1,7 @@
 -- The one equation of a C function, from the contracts of the functions that it calls: parts that do not fit, or the call on the parts unpacked; and what a refusal leaves.
 -- All is stated over variables and for any call.
 use Prim.Native.Nat.{ℕ}
-use mathlib.Core.Path.{_≡_, refl, sym, _∙_, ap, subst}
+use mathlib.Core.Path.{_≡_, refl, _∙_, ap, subst}
 use mathlib.Core.Bool.{Bool, true, false}
 use mathlib.Core.List.{List}
 use borrow.Author.Tests.{eqb-true}

@@ -1,4 +1,3 @@
-pub mod Fit
 pub mod RoundTrip
 pub mod Left
 pub mod Numbers

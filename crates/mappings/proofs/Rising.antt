@@ -1,18 +1,18 @@
 -- The list in rising order: what storing and removing a region keep and change of it. `holds a n l ≡ true` says that l has a region of n bytes at a.
-use Prim.Native.Nat.{ℕ, zero, suc, _<_, _≤_}
+use Prim.Native.Nat.{ℕ, suc, _<_, _≤_}
 use mathlib.Core.Path.{_≡_, refl, sym, _∙_, ap}
 use mathlib.Core.Bool.{Bool, true, false, true≢false, false≢true}
 use mathlib.Core.List.{List, [], _∷_}
 use native.Mathlib.Omega.{arith}
 use native.Mathlib.Decide.{decLt}
 use lib.Dec.{eqb, leb, ltb}
-use lib.ListN.{length, getD}
+use lib.ListN.{getD}
 use borrow.Author.Tests.{eq-eqb, ne-eqb, eqb-true, eqb-false, leb-true, lt-ltb, le-ltb}
 use Rattle.bits.specs.Bit.{pick, both}
 use Rattle.bits.proofs.Choice.{pick-cases, both-true}
 use Rattle.slots.specs.Slots.{every}
 use Rattle.slots.specs.Sorted.{risingFrom as risingBy, hasKey, insert as insertBy, remove as removeBy, placeOf}
-use Rattle.slots.proofs.Sorted.{none-below, place-stop, place-on, rise-insert, rise-remove}
+use Rattle.slots.proofs.Sorted.{none-below, rise-insert, rise-remove}
 use Rattle.regions.proofs.Placed.{Placed, placed, placed-back}
 use Rattle.mappings.specs.declared.MappedRegion.{MappedRegion}
 use Rattle.mappings.specs.Regions.{noMappedRegion, startKey, risingFrom, wellPlacedMapping, starts, insert, holds, remove}

@@ -5,6 +5,7 @@ use mathlib.Core.List.{List, [], _∷_, _++_, append-assoc}
 use native.Mathlib.Omega.{arith}
 use lib.ListN.{length, take, drop, getD, set, replicate, take-append-drop, length-drop}
 use lib.Seq.{drop-at, getD-drop, length-take-le, sets}
+use Rattle.slots.proofs.Filled.{drop-replicate}
 use Rattle.packed.specs.Words.{number, bytes, pack, unpack}
 use Rattle.packed.specs.Records.{records, packed}
 use Rattle.packed.proofs.Words.{length-bytes, number-bytes, unpack-pack}
@@ -156,11 +157,6 @@ unpack-sets (suc n) (suc k) bs x h l s =
 abbrev pub zeros : ℕ → List ℕ
 zeros n = replicate n 0
 
-drop-zeros : (k m : ℕ) → drop k (zeros m) ≡ zeros (m - k)
-drop-zeros zero m = let e : m ≡ m - 0 = omega arith in ap zeros e
-drop-zeros (suc k) zero = let e : 0 ≡ 0 - suc k = omega arith in ap zeros e
-drop-zeros (suc k) (suc m) = let e : m - k ≡ suc m - suc k = omega arith in drop-zeros k m ∙ ap zeros e
-
 number-zeros : (k m : ℕ) → number k (zeros m) ≡ 0
 unfolding number
 number-zeros zero m = refl
@@ -170,4 +166,4 @@ number-zeros (suc k) (suc m) = omega (arith, number-zeros k m)
 pub unpack-zeros : (n m : ℕ) → unpack n (zeros m) ≡ zeros n
 unfolding unpack
 unpack-zeros zero m = refl
-unpack-zeros (suc n) m = λ j. number-zeros 8 m j ∷ (ap (unpack n) (drop-zeros 8 m) ∙ unpack-zeros n (m - 8)) j
+unpack-zeros (suc n) m = λ j. number-zeros 8 m j ∷ (ap (unpack n) (drop-replicate {A = ℕ} 0 8 m) ∙ unpack-zeros n (m - 8)) j

@@ -7,7 +7,7 @@ use frame::Marks;
 use spans::Span;
 ghost use mathlib.Core.Path.{_≡_};
 ghost use mathlib.Core.Bool.{true};
-ghost use Prim.Native.Nat.{ℕ, _+_, _≤_, _<_, min};
+ghost use Prim.Native.Nat.{_+_, _≤_, _<_, min};
 ghost use Rattle.bitmap.specs.Bitmap.{marksIn};
 ghost use Rattle.frame.specs.Frames.{inside};
 ghost use Rattle.paging.specs.Map.{RoomToTake};

@@ -13,7 +13,7 @@ use Rattle.entry.specs.Entry.{entryOf, hugeEntryOf, indices}
 use Rattle.frame.specs.Frames.{sound}
 use Rattle.frame.specs.declared.Changed.{Changed}
 use Rattle.answer.specs.declared.Outcome.{Outcome}
-use Rattle.answer.specs.declared.Outcome.the-variants.{Value, Stop}
+use Rattle.answer.specs.declared.Outcome.the-variants.{Stop}
 use Rattle.paging.specs.declared.Leaf.{Leaf}
 use Rattle.paging.specs.declared.Leaf.the-variants.{Page, Large, NoLeaf}
 use Rattle.paging.specs.declared.HugePageSize.{HugePageSize}

@@ -12,7 +12,6 @@ use Rattle.allocator.proofs.Round.{round-multiple, round-pos}
 use Rattle.paging.specs.Levels.{aboveLast}
 use Rattle.answer.specs.declared.Outcome.{Outcome}
 use Rattle.answer.specs.declared.Outcome.the-variants.{Value, Stop}
-use Rattle.paging.specs.Map.{Memory}
 use Rattle.paging.specs.Pages.{freePages}
 use Rattle.slots.specs.Slots.{Slots, listed, store}
 use Rattle.slots.proofs.Filled.{filled, listed-filled, store-filled}

@@ -2,7 +2,7 @@
 -- was taken. Left as they are those pages are stranded; cleared, as a refused mmap does it with 13, their frames are lost.
 use Prim.Native.Nat.{ℕ, zero, suc, _+_, _*_, _^_, _<_}
 use mathlib.Core.Path.{_≡_, refl, sym, _∙_, ap, subst}
-use mathlib.Core.Bool.{Bool, true}
+use mathlib.Core.Bool.{Bool}
 use mathlib.Core.Logic.{_⊎_, inl, inr, ⊎-elim}
 use mathlib.Core.List.{List, [], _∷_, _++_, append-assoc, List·Memᴰ, List·Memᴰ·head, List·Memᴰ·tail, Memᴰ·append-left, rel-of-pairwise-cons, Perm·nodup, List·Permᴰ, Permᴰ·symm, Permᴰ·middle}
 use native.Mathlib.Omega.{arith}
@@ -22,7 +22,6 @@ use Rattle.paging.specs.Pages.{zeroed, freshFrame, orFailed, mapFresh, Ran, map
 use Rattle.tree.proofs.Paths.{leads-length, path, length-path, length-upper}
 use Rattle.tree.proofs.Walks.{nowhere}
 use Rattle.tree.proofs.Ordered.{reachIn, Ordered}
-use Rattle.tree.proofs.Release.{Cut}
 use Rattle.tree.proofs.Taken.{Took, Lost, mapFrame, frame-took, frame-lost}
 use Rattle.tree.proofs.Accounts.{Accounted, lost-accounted}
 use Rattle.tree.proofs.Books.{Takes, none, more, takes-plain, takes-accounted, takes-live, Live, cut-live, perm-member}

@@ -32,7 +32,7 @@ use Rattle.regions.specs.Regions.{windowStart, windowEnd, window, noVmRegion}
 use Rattle.regions.proofs.Rows.{Rows, rows-earlier}
 use Rattle.mappings.specs.declared.MappedRegion.{MappedRegion}
 use Rattle.board.specs.Board.{Board}
-use Rattle.release.specs.Calls.{Call, vmallocCall, vfreeCall, mmapCall, munmapCall, after, Event, events}
+use Rattle.release.specs.Calls.{Call, vmallocCall, vfreeCall, mmapCall, munmapCall, Event, events}
 use Rattle.release.specs.Demand3.{bornBy, everLive, pagesFrom, pagesOf, runsTo, runsOf, concat, leadingRuns, different, PageTable, book, neverCut, Ended, partsRise, BookHolds, BookRises, Demand3}
 use Rattle.release.proofs.Lists.{Once, concat-append, concat-member, member-concat}
 use Rattle.release.proofs.Different.{among-member, member-among, different-from, different-all, different-once}

@@ -20,7 +20,7 @@ module _ {A : Type 0} (z : A) where
   pub drop-filled : (l : List A) → drop (length l) (filled l .slots) ≡ replicate (256 - length l) z
   drop-filled l = drop-at l (replicate (256 - length l) z) (length l) refl
 
-  drop-replicate : (k n : ℕ) → drop k (replicate n z) ≡ replicate (n - k) z
+  pub drop-replicate : (k n : ℕ) → drop k (replicate n z) ≡ replicate (n - k) z
   drop-replicate zero n = let e : n - 0 ≡ n = omega arith in rw e
   drop-replicate (suc k) zero = let e : 0 - suc k ≡ 0 = omega arith in rw e
   drop-replicate (suc k) (suc n) = let e : suc n - suc k ≡ n - k = omega arith in rw e (drop-replicate k n)

@@ -1,6 +1,6 @@
 -- What reading a tape comes to, by the tests that code makes.
-use Prim.Native.Nat.{ℕ, suc, _+_, _≤_, _<_}
-use mathlib.Core.Path.{_≡_, refl, sym, _∙_, ap, subst}
+use Prim.Native.Nat.{ℕ, _+_, _≤_, _<_}
+use mathlib.Core.Path.{_≡_, refl, ap}
 use mathlib.Core.Bool.{Bool, true, false}
 use mathlib.Core.List.{List, [], _∷_}
 use native.Mathlib.Omega.{arith}
@@ -14,7 +14,6 @@ use borrow.Author.Tests.{ne-eqb, lt-ltb, le-ltb, le-leb, lt-leb}
 use Rattle.bits.specs.Bit.{pick, both}
 use Rattle.packed.specs.Words.{number}
 use Rattle.tape.specs.declared.Call.the-variants.{Mmap, Translate}
-use Rattle.tape.specs.declared.Next.{Next}
 use Rattle.tape.specs.declared.Next.the-variants.{Read, Finished, Malformed}
 use Rattle.tape.specs.Tape.{bodySize, mmapBody, body, next}
 

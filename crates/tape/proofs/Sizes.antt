@@ -1,6 +1,6 @@
 -- The bytes of a call that is read: no more than there are, and at most 26; so what stands behind the first 26 bytes does not change what is read.
 use Prim.Native.Nat.{ℕ, zero, suc, _+_, _*_, _≤_, _<_}
-use mathlib.Core.Path.{_≡_, refl, sym, _∙_, ap, subst}
+use mathlib.Core.Path.{_≡_, refl, sym, _∙_, ap}
 use mathlib.Core.Bool.{Bool, true, false}
 use mathlib.Core.List.{List, [], _∷_, _++_}
 use native.Mathlib.Omega.{arith}
@@ -14,9 +14,8 @@ use Rattle.bits.specs.Bit.{pick, both}
 use Rattle.packed.specs.Words.{number}
 use Rattle.tape.specs.declared.Call.{Call}
 use Rattle.tape.specs.declared.Call.the-variants.{Vmalloc, Vfree, Mmap, Munmap, Fault, Translate}
-use Rattle.tape.specs.declared.Next.{Next}
-use Rattle.tape.specs.declared.Next.the-variants.{Read, Finished, Malformed}
-use Rattle.tape.specs.Tape.{bodySize, mmapBody, body, next, kindOf, callSize}
+use Rattle.tape.specs.declared.Next.the-variants.{Read, Malformed}
+use Rattle.tape.specs.Tape.{bodySize, body, next, kindOf, callSize}
 use Rattle.tape.proofs.Reading.{size-most}
 
 pub size-of-call : (c : Call) → callSize c ≤ 26

@@ -6,7 +6,7 @@ use crate::MunmapCall;
 use crate::Next;
 ghost use mathlib.Core.Path.{_≡_};
 ghost use Prim.Native.Nat.{_+_, _≤_, _<_};
-ghost use lib.ListN.{length, getD, drop};
+ghost use lib.ListN.{length, drop};
 ghost use Rattle.tape.specs.Tape.{bodySize, next, body, mmapBody, callSize};
 
 // The bytes of a call's body; 0 for an unknown kind.

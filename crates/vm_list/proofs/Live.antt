@@ -10,6 +10,7 @@ use lib.ListN.{length-set, length, length-replicate, getD, take, drop, set, repl
 use lib.Seq.{drop-cons, take-suc, append-snoc, set-at, take-at, length-take-le}
 use borrow.Author.Tests.{eqb-true}
 use Rattle.bits.proofs.Choice.{both-true}
+use Rattle.slots.proofs.Filled.{drop-replicate}
 use Rattle.slots.specs.Slots.{Slots, slotted, listed, every, firstAt, store}
 use Rattle.slots.proofs.Stored.{store-count}
 use Rattle.regions.specs.declared.VMRegion.{VMRegion}
@@ -49,11 +50,6 @@ blanks [] h = refl
 blanks (r ∷ l) h =
     let a = both-true (isNoSlot r) _ h in
     λ j. sym (blank-is r (a .0)) j ∷ blanks l (a .1) j
-
-drop-replicate : {A : Type 0} (d : A) (n m : ℕ) → drop n (replicate m d) ≡ replicate (m - n) d
-drop-replicate d zero m = let e : m ≡ m - 0 = omega arith in ap (λ (k : ℕ). replicate k d) e
-drop-replicate d (suc n) zero = let e : 0 ≡ 0 - suc n = omega arith in ap (λ (k : ℕ). replicate k d) e
-drop-replicate d (suc n) (suc m) = let e : m - n ≡ suc m - suc n = omega arith in drop-replicate d n m ∙ ap (λ (k : ℕ). replicate k d) e
 
 -- so that live slots in front of zero ones are all of them
 pub live-all : (s : Slots VMRegion) → soundRegions s ≡ true → length (s .slots) ≡ 256 → (n : ℕ) → n ≡ s .count → take n (s .slots) ++ drop n (replicate 256 noVmRegion) ≡ s .slots

@@ -1,9 +1,8 @@
 -- `count`: whole words, and the bits of the last one.
-use Prim.Native.Nat.{ℕ, _+_, _*_, _/_, _%_, _^_}
+use Prim.Native.Nat.{ℕ, _+_, _%_, _^_}
 use mathlib.Core.Path.{_≡_, sym, _∙_, ap, ap₂}
 use native.Mathlib.Omega.{arith}
 use lib.Count.{ones}
-use lib.ListN.{getD}
 use lib.Pow.{pow-pos}
 use Rattle.bits.proofs.Masks.{one-shifted}
 use Rattle.bits.proofs.Single.{and-below}

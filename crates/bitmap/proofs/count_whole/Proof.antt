@@ -1,8 +1,7 @@
 -- `count_whole`: full words, then those counted; none is marked behind them.
-use Prim.Native.Nat.{ℕ, _+_, _*_}
-use mathlib.Core.Path.{_≡_, _∙_, sym}
+use Prim.Native.Nat.{_*_}
 use native.Mathlib.Omega.{arith}
-use Rattle.bitmap.specs.Bitmap.{count as countBelow, marksIn}
+use Rattle.bitmap.specs.Bitmap.{marksIn}
 use Rattle.bitmap.proofs.Marks.{count-le}
 use borrow.Author.Needs.{needs}
 use Rattle.bitmap.proofs.count_whole.Statement.{statement}

@@ -1,12 +1,11 @@
 -- `count_words`: the sum is that of the words so far.
 use Prim.Native.Nat.{ℕ, _+_, _*_, _-_, _≤_}
-use mathlib.Core.Path.{_≡_, refl, sym, _∙_, ap, ap₂}
+use mathlib.Core.Path.{_≡_, _∙_, ap}
 use native.Mathlib.Omega.{arith}
 use borrow.Author.Needs.{needs}
-use borrow.Author.Tests.{eqb-true}
 use Rattle.bitmap.specs.Bitmap.{count as countBelow, marksIn}
 use Rattle.bitmap.proofs.Marks.{count-le}
-use Rattle.bitmap.proofs.ByWord.{count-word, count-full, joined-clear}
+use Rattle.bitmap.proofs.ByWord.{count-word}
 use Rattle.bitmap.proofs.count_words.Statement.{statement}
 use Rattle.bitmap.proofs.count_words.Tie as tie
 

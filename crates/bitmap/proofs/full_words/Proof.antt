@@ -1,12 +1,9 @@
 -- `full_words`: the words passed are full.
-use Prim.Native.Nat.{ℕ, _+_, _*_, _-_, _≤_}
-use mathlib.Core.Path.{_≡_, refl, sym, _∙_, ap, ap₂}
-use native.Mathlib.Omega.{arith}
+use Prim.Native.Nat.{_*_, _-_, _≤_}
+use mathlib.Core.Path.{_≡_, refl, ap}
 use borrow.Author.Needs.{needs}
-use borrow.Author.Tests.{eqb-true}
 use Rattle.bitmap.specs.Bitmap.{count as countBelow, marksIn}
-use Rattle.bitmap.proofs.Marks.{count-le}
-use Rattle.bitmap.proofs.ByWord.{count-word, count-full, joined-clear}
+use Rattle.bitmap.proofs.ByWord.{count-full}
 use Rattle.bitmap.proofs.full_words.Statement.{statement}
 use Rattle.bitmap.proofs.full_words.Tie as tie
 

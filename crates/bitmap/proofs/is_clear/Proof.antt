@@ -1,12 +1,11 @@
 -- `is_clear`: if the flag is 0 so far, nothing so far is marked.
-use Prim.Native.Nat.{ℕ, _+_, _*_, _-_, _≤_}
-use mathlib.Core.Path.{_≡_, refl, sym, _∙_, ap, ap₂}
+use Prim.Native.Nat.{ℕ, _*_, _-_, _≤_}
+use mathlib.Core.Path.{_≡_, refl, _∙_, ap}
 use native.Mathlib.Omega.{arith}
 use borrow.Author.Needs.{needs}
 use borrow.Author.Tests.{eqb-true}
 use Rattle.bitmap.specs.Bitmap.{count as countBelow, marksIn}
-use Rattle.bitmap.proofs.Marks.{count-le}
-use Rattle.bitmap.proofs.ByWord.{count-word, count-full, joined-clear}
+use Rattle.bitmap.proofs.ByWord.{joined-clear}
 use Rattle.bitmap.proofs.is_clear.Statement.{statement}
 use Rattle.bitmap.proofs.is_clear.Tie as tie
 

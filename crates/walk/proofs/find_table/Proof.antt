@@ -1,6 +1,6 @@
 -- `find_table`: the way to the last table. The invariant: what is left to walk from `t`, along the indices left, comes where the whole walk comes.
 use Prim.Native.Nat.{_≤_, _-_, _+_}
-use mathlib.Core.Path.{_≡_, refl, sym, _∙_, ap}
+use mathlib.Core.Path.{_≡_, refl, sym, _∙_}
 use lib.Dec.{lit≤}
 use native.Mathlib.Nat.{lt-of-lt-of-le}
 use mathlib.Core.List.{_∷_}
