@@ -12,17 +12,14 @@ use Rattle.bits.specs.Bit.{one, flag}
 use Rattle.bits.proofs.Choice.{one-lt, flag-is}
 use Rattle.bits.proofs.Single.{bit-zero}
 use Rattle.entry.specs.Entry.{frameOf, addrOf, entryOf, hugeEntryOf, index, indices}
-
--- ADDR_MASK
-abbrev pub addrMask : ℕ
-addrMask = 0x000F_FFFF_FFFF_F000
+use Rattle.entry.specs.Joined.{addrMask, joinedWord}
 
 pub addr-mask : (x : ℕ) → bitAnd x addrMask ≡ addrOf x
 addr-mask x = and-high x 40 12
 
 -- the masked address joined with a word whose bits 12 to 62 are clear is a sum
-pub joined : (x f : ℕ) → f % 2 ^ 63 < 2 ^ 12 → bitOr (bitAnd x addrMask) f ≡ addrOf x + f
-joined x f h =
+pub joined-sum : (x f : ℕ) → f % 2 ^ 63 < 2 ^ 12 → joinedWord x f ≡ addrOf x + f
+joined-sum x f h =
     let low : ℕ = f % 2 ^ 63 in
     let high : ℕ = f / 2 ^ 63 in
     let a : bitAnd x addrMask ≡ frameOf x * 2 ^ 12 + 0 = addr-mask x ∙ sym (add-zero (addrOf x)) in
@@ -31,8 +28,8 @@ joined x f h =
     ap₂ bitOr a b ∙ or-block 12 (frameOf x) (high * 2 ^ 51) 0 low (pow-pos 12) h ∙ rw (above, or-zero-l low) (omega arith)
 
 -- the same for the flags of two choices beside those in b
-pub joined-flags : (x f b : ℕ) (w u : Bool) → f ≡ b + 2 * one w + 4 * one u → b < 256 → bitOr (bitAnd x addrMask) f ≡ addrOf x + (b + 2 * one w + 4 * one u)
-joined-flags x f b w u e h = rw e (joined x (b + 2 * one w + 4 * one u) (omega (arith, one-lt w, one-lt u)))
+pub joined-flags : (x f b : ℕ) (w u : Bool) → f ≡ b + 2 * one w + 4 * one u → b < 256 → joinedWord x f ≡ addrOf x + (b + 2 * one w + 4 * one u)
+joined-flags x f b w u e h = rw e (joined-sum x (b + 2 * one w + 4 * one u) (omega (arith, one-lt w, one-lt u)))
 
 -- the address field is a whole number of frames
 pub frame-of-addr : (e : ℕ) → addrOf e / 4096 ≡ frameOf e

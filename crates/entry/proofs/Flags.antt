@@ -1,13 +1,12 @@
--- The flags of page_handler.rs: their bits joined one by one are a sum, and a word's flags and bits say the same.
+-- The flags of page_handler.rs: a word's flags and its bits say the same.
 use Prim.Native.Nat.{ℕ, suc, _+_, _*_, _%_, _^_, _≤_, _<_}
-use mathlib.Core.Path.{_≡_, sym, _∙_, ap, ap₂}
+use mathlib.Core.Path.{_≡_, sym, _∙_, ap}
 use mathlib.Core.Logic.{_⊎_, ⊎-elim}
 use mathlib.Core.Bool.{Bool, true, false}
-use native.Mathlib.Nat.{add-comm, le-of-suc-le-suc, lt-of-lt-of-le, mul-comm, mul-le-mul-right, pow-suc}
+use native.Mathlib.Nat.{add-comm, lt-of-lt-of-le, mul-comm}
 use native.Mathlib.Decide.{decLt}
 use native.Mathlib.Numerals.{one-add}
 use native.Mathlib.Omega.{arith}
-use lib.Bits.{bitAnd, bitOr, or-shifted-r}
 use lib.Pow.{mod-pow-add, pow-mono}
 use Rattle.bits.specs.Bit.{one, bit, flag}
 use Rattle.bits.proofs.Single.{bit-cases, bit-mod, bit-above}
@@ -15,27 +14,8 @@ use Rattle.entry.specs.Entry.{entryOf}
 use Rattle.entry.specs.Flags.{bitsOf, flagsOf, flagEntryOf}
 use Rattle.entry.specs.declared.page_handler.PageFlags.{PageFlags}
 use Rattle.bits.proofs.Choice.{one-lt, flag-is}
-use Rattle.entry.proofs.Entry.{addrMask, joined}
-
--- The word a, joined of the bits below place k, is the sum n.
-pub record Joined (k a n : ℕ) : Type 0 where
-  pub is : a ≡ n
-  pub low : n < 2 ^ k
-
--- joining a bit at place k to a word below 2 ^ k is a sum
-pub join : {k a n r : ℕ} (t : Bool) → Joined k a n → r ≡ one t * 2 ^ k → Joined (suc k) (bitOr a r) (n + one t * 2 ^ k)
-join {k} {a} {n} {r} t j e = record {
-  is = ap₂ bitOr (j .is) e ∙ or-shifted-r (one t) k n (j .low) ∙ add-comm (one t * 2 ^ k) n;
-  low = omega (arith, pow-suc 2 k, mul-le-mul-right (2 ^ k) (le-of-suc-le-suc (one-lt t)));
-}
-
--- a word below 2 ^ k is one below every higher place
-pub widen : {k a n : ℕ} (m : ℕ) → k ≤ m → Joined k a n → Joined m a n
-widen m h j = record { is = j .is; low = lt-of-lt-of-le (j .low) (pow-mono h) }
-
--- the first bit
-pub first : {r : ℕ} (t : Bool) → r ≡ one t * 2 ^ 0 → Joined 1 r (one t * 2 ^ 0)
-first t e = record { is = e; low = omega (arith, one-lt t) }
+use Rattle.entry.specs.Joined.{joinedWord}
+use Rattle.entry.proofs.Entry.{joined-sum}
 
 -- What a sum of ten bits says of each: they are read back, and none is from 9 to 62.
 record Placed (f : PageFlags) : Type 0 where
@@ -72,8 +52,8 @@ placed f =
     }
 
 -- the masked address joined with the flags' bits
-pub joined-bits : (a : ℕ) (f : PageFlags) → bitOr (bitAnd a addrMask) (bitsOf f) ≡ flagEntryOf a f
-joined-bits a f = joined a (bitsOf f) (omega (arith, placed f .clear))
+pub joined-bits : (a : ℕ) (f : PageFlags) → joinedWord a (bitsOf f) ≡ flagEntryOf a f
+joined-bits a f = joined-sum a (bitsOf f) (omega (arith, placed f .clear))
 
 -- flags are read back from their bits
 pub to-from : (f : PageFlags) → flagsOf (bitsOf f) ≡ f

@@ -1,2 +1,3 @@
 pub mod Entry
 pub mod Flags
+pub mod Joined

@@ -4,8 +4,9 @@ pub mod paging;
 
 use address::VirtAddr;
 ghost use mathlib.Core.Path.{_≡_};
-ghost use Prim.Native.Nat.{ℕ, _<_};
+ghost use Prim.Native.Nat.{ℕ, _<_, _≤_, _*_};
 ghost use lib.ListN.{getD};
+ghost use Rattle.bits.specs.Bit.{one};
 ghost use Rattle.entry.specs.Entry.{indices, entryOfTable};
 use paging::PageTableEntry;
 
@@ -13,6 +14,14 @@ use paging::PageTableEntry;
 pub enum EntryAnswer {
     AtEntry(PageTableEntry),
     NoEntry(u64),
+}
+
+// A flag's power of two if it is set, for a sum of flags.
+fn power_if(set: bool, power: u64) -> u64
+    ensures { λ r. ⌜ r ≡ one set * power ⌝ }
+    ensures { λ r. ⌜ r ≤ power ⌝ }
+{
+    if set { power } else { 0 }
 }
 
 // A page address's four indices, the top level's first: bits 47-39, 38-30, 29-21, 20-12.

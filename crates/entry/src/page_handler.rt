@@ -1,7 +1,7 @@
 // The entry and the flags of page_handler.rs.
+use crate::power_if;
 ghost use mathlib.Core.Path.{_≡_};
-ghost use Prim.Native.Nat.{_<_, _*_, _^_};
-ghost use Rattle.bits.specs.Bit.{flag, one};
+ghost use Rattle.bits.specs.Bit.{flag};
 ghost use Rattle.entry.specs.Entry.{addrOf};
 ghost use Rattle.entry.specs.Flags.{noFlags, bitsOf, flagsOf, flagEntryOf};
 
@@ -16,14 +16,6 @@ pub struct PageFlags {
     pub huge: bool,
     pub global: bool,
     pub no_execute: bool,
-}
-
-// The bit at place k if it is set.
-fn bit_if(set: bool, k: u64) -> u64
-    requires { ⌜ k < 64 ⌝ }
-    ensures { λ r. ⌜ r ≡ one set * 2 ^ k ⌝ }
-{
-    if set { 1 << k } else { 0 }
 }
 
 impl PageFlags {
@@ -44,19 +36,20 @@ impl PageFlags {
         }
     }
 
+    // A sum of one power of two for each true flag.
     pub fn to_bits(self) -> u64
         ensures { λ r. ⌜ r ≡ bitsOf self ⌝ }
     {
-        bit_if(self.present, 0)
-            | bit_if(self.writable, 1)
-            | bit_if(self.user, 2)
-            | bit_if(self.write_through, 3)
-            | bit_if(self.cache_disabled, 4)
-            | bit_if(self.accessed, 5)
-            | bit_if(self.dirty, 6)
-            | bit_if(self.huge, 7)
-            | bit_if(self.global, 8)
-            | bit_if(self.no_execute, 63)
+        power_if(self.present, 1 << 0)
+            + power_if(self.writable, 1 << 1)
+            + power_if(self.user, 1 << 2)
+            + power_if(self.write_through, 1 << 3)
+            + power_if(self.cache_disabled, 1 << 4)
+            + power_if(self.accessed, 1 << 5)
+            + power_if(self.dirty, 1 << 6)
+            + power_if(self.huge, 1 << 7)
+            + power_if(self.global, 1 << 8)
+            + power_if(self.no_execute, 1 << 63)
     }
 
     pub fn from_bits(bits: u64) -> Self

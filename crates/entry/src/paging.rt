@@ -1,7 +1,9 @@
 // The entry of paging.rs.
+use crate::power_if;
 use address::PhysAddr;
 ghost use mathlib.Core.Path.{_≡_};
-ghost use Rattle.bits.specs.Bit.{flag};
+ghost use Prim.Native.Nat.{_+_, _*_};
+ghost use Rattle.bits.specs.Bit.{one, flag};
 ghost use Rattle.entry.specs.Entry.{addrOf, entryOf, hugeEntryOf};
 
 pub struct PageTableEntry(pub u64);
@@ -53,31 +55,24 @@ impl PageTableEntry {
         PhysAddr(self.0 & Self::ADDR_MASK)
     }
 
+    // PRESENT and the two choices, a sum of one power of two for each true flag.
+    fn flag_sum(writable: bool, user: bool) -> u64
+        ensures { λ r. ⌜ r ≡ 1 + 2 * one writable + 4 * one user ⌝ }
+    {
+        Self::PRESENT + power_if(writable, Self::WRITABLE) + power_if(user, Self::USER)
+    }
+
     // The word that maps an address.
     pub fn set(addr: PhysAddr, writable: bool, user: bool) -> Self
         ensures { λ r. ⌜ r .0 ≡ entryOf (addr .0) writable user ⌝ }
     {
-        let mut flags = Self::PRESENT;
-        if writable {
-            flags |= Self::WRITABLE;
-        }
-        if user {
-            flags |= Self::USER;
-        }
-        PageTableEntry((addr.0 & Self::ADDR_MASK) | flags)
+        PageTableEntry((addr.0 & Self::ADDR_MASK) | Self::flag_sum(writable, user))
     }
 
     // The word that maps a huge page.
     pub fn set_huge(addr: PhysAddr, writable: bool, user: bool) -> Self
         ensures { λ r. ⌜ r .0 ≡ hugeEntryOf (addr .0) writable user ⌝ }
     {
-        let mut flags = Self::PRESENT | Self::HUGE;
-        if writable {
-            flags |= Self::WRITABLE;
-        }
-        if user {
-            flags |= Self::USER;
-        }
-        PageTableEntry((addr.0 & Self::ADDR_MASK) | flags)
+        PageTableEntry((addr.0 & Self::ADDR_MASK) | (Self::HUGE + Self::flag_sum(writable, user)))
     }
 }

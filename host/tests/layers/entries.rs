@@ -110,21 +110,21 @@ fn flags(options: &Options) -> Checked {
     Ok(words.len() as u64)
 }
 
+/// Each of the 1024 choices at the boundary addresses, and any word as flags at random ones.
 fn second(options: &Options) -> Checked {
     let mut random = options.random(13);
-    let mut cases = 0;
-    for phys in words(&mut random, 10 * options.amount) {
-        for flags in [0, 1, 7, 0x1FF, 1 << 63, u64::MAX, random.word()] {
-            let at = (phys, flags);
-            equal_at(
-                at,
-                gadulnos::handler_entry(phys, flags),
-                pure::second_entry_word(phys, flags),
-            )?;
-            cases += 1;
-        }
+    let mut pairs: Vec<(u64, u64)> = Vec::new();
+    for phys in words(&mut random, 0) {
+        pairs.extend((0..1024).map(|number| (phys, choice(number).to_bits())));
     }
-    Ok(cases)
+    for phys in words(&mut random, 10 * options.amount) {
+        pairs.extend([u64::MAX, random.word()].map(|flags| (phys, flags)));
+    }
+    for &(phys, flags) in &pairs {
+        let ours = gadulnos::handler_entry(phys, flags);
+        equal_at((phys, flags), ours, pure::second_entry_word(phys, flags))?;
+    }
+    Ok(pairs.len() as u64)
 }
 
 /// A table of any words between guards, at each index and at those that have no entry.
