@@ -110,7 +110,7 @@ fn flags(options: &Options) -> Checked {
     Ok(words.len() as u64)
 }
 
-/// Each of the 1024 choices at the boundary addresses, and any word as flags at random ones.
+/// Each of the 1024 choices at the boundary addresses; at these and at random ones some choices, all bits, and any word as flags.
 fn second(options: &Options) -> Checked {
     let mut random = options.random(13);
     let mut pairs: Vec<(u64, u64)> = Vec::new();
@@ -118,7 +118,8 @@ fn second(options: &Options) -> Checked {
         pairs.extend((0..1024).map(|number| (phys, choice(number).to_bits())));
     }
     for phys in words(&mut random, 10 * options.amount) {
-        pairs.extend([u64::MAX, random.word()].map(|flags| (phys, flags)));
+        let flags = [0, 1, 7, 0x1FF, 1 << 63, u64::MAX, random.word()];
+        pairs.extend(flags.map(|flags| (phys, flags)));
     }
     for &(phys, flags) in &pairs {
         let ours = gadulnos::handler_entry(phys, flags);
