@@ -2,7 +2,7 @@
  * (x86-64, System V calling convention). docs/LAYOUT.md explains the layout at length.
  *
  * What is asked of the arguments: each pointer lends as many elements as its length says, one without a
- * length (bits, table, out, root) as many as is said of it here; no two lent parts overlap, a pointer to
+ * length (bits, table, out, root, compared) as many as is said of it here; no two lent parts overlap, a pointer to
  * words or numbers (uint64_t, size_t) is aligned to 8 bytes as C asks (a pointer to bytes may be odd), and a
  * bool holds 0 or 1, as every C compiler makes it. A length may be 0; the pointer is then not read, and may
  * be null. Nothing else is asked. A function touches what it is lent and nothing else, keeps no state and
@@ -167,6 +167,10 @@ struct gadulnos_line gadulnos_mmap(uint64_t *words, size_t words_len, uint8_t *f
 struct gadulnos_line gadulnos_munmap(uint64_t *words, size_t words_len, uint8_t *fields, size_t fields_len,
                                      uint8_t bits[GADULNOS_BITS_BYTES], uint64_t root, uint8_t *user,
                                      size_t user_len, uint64_t addr, uint64_t size);
+/* mmap's search by itself: the address at which `size` bytes, not rounded, are free; 15 if there is none.
+ * Writes how many regions it compared to *compared, with 15 too; 10 leaves it as it was. */
+struct gadulnos_line gadulnos_find_free_region(const uint8_t *user, size_t user_len, uint64_t size,
+                                               uint64_t *compared);
 
 /* ---- Copy-on-write pages and faults */
 

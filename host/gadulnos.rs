@@ -177,6 +177,9 @@ functions! {
     fn munmap = gadulnos_munmap(
         words: &mut [u64], fields: &mut [u8], bits: &mut Marks, root: u64, user: &mut [u8], addr: u64, size: u64
     ) -> Line;
+    /// mmap's search by itself: where `size` bytes, not rounded, are free. How many regions it compared is
+    /// written to `compared`, with 15 too; 10 leaves it as it was.
+    fn find_free_region = gadulnos_find_free_region(user: &[u8], size: u64, compared: &mut u64) -> Line;
     fn mark_cow = gadulnos_mark_cow(marked: &mut [u8], addr: u64) -> Line;
     fn unmark_cow = gadulnos_unmark_cow(marked: &mut [u8], addr: u64) -> Line;
     /// Whether the page of `addr` is marked copy-on-write: 1 or 0.
@@ -483,6 +486,13 @@ where
     pub fn munmap(&mut self, addr: u64, size: u64) -> Line {
         let Board { words, fields, bits, root, user, .. } = self;
         munmap(words, fields, bits, *root, user, addr, size)
+    }
+
+    /// .. and how many regions were compared, none of a broken list.
+    pub fn find_free_region(&self, size: u64) -> (Line, u64) {
+        let mut compared = 0;
+        let line = find_free_region(&self.user, size, &mut compared);
+        (line, compared)
     }
 
     pub fn mark_cow(&mut self, addr: u64) -> Line {

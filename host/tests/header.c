@@ -106,6 +106,7 @@ static void regions(void)
 {
     const uint64_t window = UINT64_C(0xFFFFFFC000000000);
     const uint64_t mapped = UINT64_C(0x100000000000);
+    uint64_t compared = 0;
 
     check("the worked example",
           start() && is(gadulnos_vmalloc(MEMORY, RECORD, root, kernel, sizeof kernel, 1), 0, window)
@@ -113,6 +114,8 @@ static void regions(void)
               && is(gadulnos_vfree(MEMORY, RECORD, root, kernel, sizeof kernel, window), 0, 0)
               && is(gadulnos_mmap(MEMORY, RECORD, root, user, sizeof user, false, 0, 5000, 2, 0), 0, mapped)
               && is(gadulnos_allocated_frames(RECORD), 0, 9));
+    check("the search", is(gadulnos_find_free_region(user, sizeof user, 4096, &compared), 0, mapped + 0x2000)
+                            && compared == 1);
     check("munmap", is(gadulnos_munmap(MEMORY, RECORD, root, user, sizeof user, mapped, 4096), 16, 0)
                         && is(gadulnos_munmap(MEMORY, RECORD, root, user, sizeof user, mapped, 4097), 0, 0));
 }

@@ -1,13 +1,14 @@
 -- The one equation of each C function of vmalloc and mmap, and what their refusals leave.
-use Prim.Native.Nat.{ℕ, _/_}
+use Prim.Native.Nat.{ℕ, suc, _/_}
 use mathlib.Core.Path.{_≡_, refl, sym, _∙_, ap, subst}
 use mathlib.Core.Bool.{true, false}
 use mathlib.Core.List.{List}
 use lib.Dec.{eqb}
 use lib.IntN.{ℤ}
+use lib.ListN.{length}
 use Rattle.bits.proofs.Choice.{pick-cases, both-true}
 use Rattle.allocator.specs.Round.{rounded}
-use Rattle.answer.specs.Numbers.{brokenRecord, answerLine}
+use Rattle.answer.specs.Numbers.{brokenRecord, answerLine, countLine}
 use Rattle.answer.specs.Outcomes.{asAnswer}
 use Rattle.answer.specs.declared.Outcome.{Outcome}
 use Rattle.answer.specs.declared.Outcome.the-variants.{Value, Stop}
@@ -24,8 +25,12 @@ use Rattle.vm_list.specs.Packed.{vmFit}
 use Rattle.vm_list.proofs.RoundTrip.{vm-back}
 use Rattle.vmalloc.specs.Calls.{Kernel, KernelDid, soundKernel, kernelPages, kernelMapped, kernelPlaced, kernelSized, released, vmalloc, vfree}
 use Rattle.vmalloc.specs.Packed.{keptKernel, onVmList}
-use Rattle.mappings.specs.Regions.{holds}
-use Rattle.mappings.specs.Packed.{mmapFit}
+use Rattle.mappings.specs.declared.MappedRegion.{MappedRegion}
+use Rattle.mappings.specs.declared.Searched.{Searched}
+use Rattle.mappings.specs.Regions.{findFree, holds}
+use Rattle.mappings.specs.Compared.{compared, searched}
+use Rattle.mappings.specs.Packed.{mmapIn, nextIn, mmapFit, soundList}
+use Rattle.mappings.proofs.Search.{Ends, search-ends}
 use Rattle.mappings.proofs.RoundTrip.{mmap-back}
 use Rattle.mmap.specs.declared.OptAddr.{OptAddr}
 use Rattle.mmap.specs.Flags.{writable}
@@ -34,10 +39,10 @@ use Rattle.mmap.specs.Packed.{keptUser, onMmapList}
 use Rattle.layout.specs.Parts.{fieldsIn, fieldsOut, fieldsFit}
 use Rattle.layout.specs.Left.{left, brokenLine, IsRefusal, Unchanged, noLeftovers, regionLeftovers}
 use Rattle.layout.specs.Memory.{ListParts, listParts, plainLine}
-use Rattle.layout.proofs.Left.{broken-left, unchanged-left, fields-same, list-met}
+use Rattle.layout.proofs.Left.{broken-left, met-left, unchanged-left, fields-same, list-met}
 use Rattle.layout.proofs.Numbers.{pages-listed}
 use Rattle.desk_regions.specs.Regions.{addressLine, kernelFit, kernelIn, kernelPacked, onKernel, userFit, userIn, userPacked, onUser}
-use Rattle.desk_regions.specs.Regions.{packedVmalloc, packedVfree, packedMmap, packedMunmap}
+use Rattle.desk_regions.specs.Regions.{packedVmalloc, packedVfree, packedMmap, packedMunmap, packedFindFree, searchLeftovers}
 
 -- what is worked out for a call beside its parts
 pub all-three : {A B C : Type 0} {a a′ : A} {b b′ : B} {c c′ : C} → a ≡ a′ → b ≡ b′ → c ≡ c′ → _≡_ {A = A × (B × C)} (a, (b, c)) (a′, (b′, c′))
@@ -194,3 +199,24 @@ module _ (words fields bits list : List ℕ) (b : Bytes fields) (c : Bytes list)
 
   pub munmap-refused : (addr size : ℕ) → let p = listParts words fields bits list in Unchanged noLeftovers p (packedMunmap p root addr size)
   munmap-refused addr size = user-unchanged asAnswer answerLine (λ (u : User). munmap aboveLast u root addr size) words fields bits list noLeftovers b c (munmap-clean aboveLast root addr size)
+
+-- ---- the search by itself
+
+module _ (list : List ℕ) (size old : ℕ) where
+  abbrev regions : List MappedRegion
+  regions = listed (mmapIn list)
+
+  pub search-broken : {r : Line} → soundList list ≡ false → r ≡ brokenLine → left r old ≡ packedFindFree list size old
+  search-broken h e = broken-left old _ h e
+
+  pub search-met : {x : Searched} {r : Line} → soundList list ≡ true → x ≡ searched regions (nextIn list) size → r ≡ countLine (x .outcome)
+      → left r (x .compared) ≡ packedFindFree list size old
+  search-met h e f = met-left old h (λ j. left ((f ∙ ap (λ (x : Searched). countLine (x .outcome)) e) j) (e j .compared))
+
+  -- it is met, or it is 15
+  pub search-unchanged : Unchanged searchLeftovers old (packedFindFree list size old)
+  search-unchanged = unchanged-left searchLeftovers (soundList list) old _ (λ _. by (findFree regions (nextIn list) size) (search-ends (suc (length regions)) regions size (nextIn list)))
+    where
+      by : (o : Outcome) → Ends o → IsRefusal searchLeftovers (countLine o .number) → compared regions (nextIn list) size ≡ old
+      by (Value v) e n = absurd (n .1 refl)
+      by (Stop k) e n = absurd (n .0 e)

@@ -1,14 +1,19 @@
 -- What the C functions of vmalloc and mmap leave: a call on the parts unpacked, and what it leaves packed again.
 use Prim.Native.Nat.{ℕ}
 use mathlib.Core.Bool.{Bool}
+use mathlib.Core.List.{List, [], _∷_}
 use lib.IntN.{ℤ}
 use Rattle.bits.specs.Bit.{both}
+use Rattle.answer.specs.Numbers.{noRegion, countLine}
 use Rattle.answer.specs.declared.Line.{Line}
 use Rattle.address.specs.Address.{virtLine, asVirt}
 use Rattle.answer.specs.declared.Outcome.{Outcome}
 use Rattle.paging.specs.Levels.{aboveLast}
 use Rattle.vm_list.specs.Packed.{vmIn, vmOut, vmFit}
-use Rattle.mappings.specs.Packed.{mmapIn, nextIn, mmapOut, mmapFit}
+use Rattle.slots.specs.Slots.{listed}
+use Rattle.mappings.specs.Regions.{findFree}
+use Rattle.mappings.specs.Compared.{compared}
+use Rattle.mappings.specs.Packed.{mmapIn, nextIn, mmapOut, mmapFit, soundList}
 use Rattle.vmalloc.specs.Calls.{Kernel, kernel, KernelDid, vmalloc, vfree}
 use Rattle.mmap.specs.Calls.{User, user, UserDid, mmap, munmap}
 use Rattle.mmap.specs.declared.OptAddr.{OptAddr}
@@ -59,3 +64,14 @@ packedMmap p root hint size prot flags = onUser addressLine (λ (u : User). mmap
 
 abbrev pub packedMunmap : ListParts → ℕ → ℕ → ℕ → Left ListParts
 packedMunmap p root addr size = onUser plainLine (λ (u : User). munmap aboveLast u root addr size) p
+
+-- ---- the search by itself (document 02, slip 9): it reads the list, and leaves the number of regions that it compared in a number that it is lent, with 15 too
+
+abbrev pub packedFindFree : List ℕ → ℕ → ℕ → Left ℕ
+packedFindFree list size old =
+    unlessFit (soundList list) old
+    (left (countLine (findFree (listed (mmapIn list)) (nextIn list) size)) (compared (listed (mmapIn list)) (nextIn list) size))
+
+-- so that only its 15 changes what it is lent
+abbrev pub searchLeftovers : List ℕ
+searchLeftovers = noRegion ∷ []

@@ -1,4 +1,4 @@
-// mmap, munmap and mprotect: the frames are lent as words; the frame record, its bitmap and the list with next_addr are packed bytes.
+// mmap, munmap, the search by itself and mprotect: the frames are lent as words; the frame record, its bitmap and the list with next_addr are packed bytes.
 use address::Frame;
 use address::VirtAddr;
 use answer::Line;
@@ -9,7 +9,7 @@ ghost use Rattle.mmap.specs.Calls.{mprotect as mprotectOf};
 ghost use Rattle.mmap.specs.Packed.{optAddr};
 ghost use Rattle.layout.specs.Left.{left, Unchanged, noLeftovers, regionLeftovers};
 ghost use Rattle.layout.specs.Memory.{listParts, plainLine};
-ghost use Rattle.desk_regions.specs.Regions.{packedMmap, packedMunmap};
+ghost use Rattle.desk_regions.specs.Regions.{packedMmap, packedMunmap, packedFindFree, searchLeftovers};
 
 #[no_mangle]
 pub extern "C" fn gadulnos_mmap(
@@ -81,6 +81,21 @@ pub extern "C" fn gadulnos_munmap(
     let a = did.answer;
     parts::put_fields(fields, left);
     answer::answer_line(a)
+}
+
+// The search of mmap.rs by itself, the size as it stands.
+#[no_mangle]
+pub extern "C" fn gadulnos_find_free_region(list: &[u8], size: u64, compared: &mut u64) -> Line
+    ensures { λ r. ⌜ left r (now (compared .exit)) ≡ packedFindFree (now (list .entry)) size (now (compared .entry)) ⌝ }
+    ensures refused { λ r. ⌜ Unchanged searchLeftovers (now (compared .entry)) (left r (now (compared .exit))) ⌝ }
+{
+    if !mappings::list::is_sound(list) {
+        return parts::broken();
+    }
+    let found = mappings::list::find_free_region(list, size);
+    let outcome = found.outcome;
+    *compared = found.compared as u64;
+    answer::count_line(outcome)
 }
 
 #[no_mangle]

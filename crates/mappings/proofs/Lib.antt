@@ -5,3 +5,5 @@ pub mod Sound
 pub mod Search
 pub mod Scan
 pub mod Placing
+pub mod Compared
+pub mod Adjoining

@@ -1,20 +1,23 @@
 -- Loops over the listed regions, turn by turn: by the regions that are left, `r ∷ q` or none.
 use Prim.Native.Nat.{ℕ, suc, _+_, _<_, _≤_}
 use mathlib.Core.Path.{_≡_, refl, sym, _∙_, ap}
-use mathlib.Core.Bool.{true, false}
+use mathlib.Core.Bool.{Bool, true, false}
 use mathlib.Core.List.{List, [], _∷_}
 use native.Mathlib.Omega.{arith}
 use lib.Dec.{ltb}
 use lib.ListN.{length, getD}
 use lib.Seq.{slice}
 use borrow.Author.Tests.{lt-ltb, le-ltb}
+use Rattle.bits.specs.Bit.{pick}
 use Rattle.bits.proofs.Choice.{both-false}
 use Rattle.slots.specs.Slots.{listed}
 use Rattle.slots.proofs.Slices.{next, none}
 use Rattle.regions.proofs.Placed.{Placed}
 use Rattle.mappings.specs.declared.MappedRegion.{MappedRegion}
+use Rattle.mappings.specs.declared.InTheWay.{InTheWay}
 use Rattle.mappings.specs.declared.InTheWay.the-variants.{Nothing, Until}
 use Rattle.mappings.specs.Regions.{noMappedRegion, overlaps, inTheWay}
+use Rattle.mappings.specs.Compared.{comparedIn, scanned}
 use Rattle.mappings.specs.Packed.{mmapIn, soundList}
 use Rattle.mappings.proofs.Rising.{Rising, rising-first}
 use Rattle.mappings.proofs.Stores.{slots-long}
@@ -75,3 +78,34 @@ module _ (a n : ℕ) {l : List MappedRegion} where
     pub way-on : r .start + r .size ≤ a → inTheWay a n l ≡ inTheWay a n q
     unfolding inTheWay
     way-on h = rw (e, le-ltb _ _ h)
+
+-- ---- how many regions the scan compares
+
+-- all, where nothing is in the way
+pub compared-all : (a n : ℕ) (l : List MappedRegion) → inTheWay a n l ≡ Nothing → comparedIn a n l ≡ length l
+unfolding inTheWay comparedIn
+compared-all a n [] h = refl
+compared-all a n (r ∷ l) h = by (overlaps a n r) h (compared-all a n l)
+  where
+    by : (x : Bool) → pick x (Until (r .start + r .size)) (inTheWay a n l) ≡ Nothing → (inTheWay a n l ≡ Nothing → comparedIn a n l ≡ length l)
+        → suc (pick x 0 (comparedIn a n l)) ≡ suc (length l)
+    by true g more = let z : _≡_ {A = ℕ} 0 1 = cc in absurd (omega arith)
+    by false g more = ap suc (more g)
+
+module _ (a n : ℕ) {l : List MappedRegion} {r : MappedRegion} {q : List MappedRegion} (e : l ≡ r ∷ q) where
+  pub compared-last : r .start < a + n → a < r .start + r .size → comparedIn a n l ≡ 1
+  unfolding comparedIn
+  compared-last h k = rw (e, lt-ltb _ _ k, lt-ltb _ _ h)
+
+  pub compared-on : r .start + r .size ≤ a → comparedIn a n l ≡ suc (comparedIn a n q)
+  unfolding comparedIn
+  compared-on h = rw (e, le-ltb _ _ h)
+
+-- ---- what a scan reports
+
+module _ (a n : ℕ) (l : List MappedRegion) where
+  pub scan-met : {w : InTheWay} {k : ℕ} → w ≡ inTheWay a n l → k ≡ comparedIn a n l → record { way = w; compared = k } ≡ scanned a n l
+  scan-met p q = λ j. record { way = p j; compared = q j }
+
+  pub scan-free : {k : ℕ} → inTheWay a n l ≡ Nothing → k ≡ length l → record { way = Nothing; compared = k } ≡ scanned a n l
+  scan-free e q = scan-met (sym e) (q ∙ sym (compared-all a n l e))

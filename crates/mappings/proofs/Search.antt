@@ -8,7 +8,7 @@ use lib.Dec.{ltb}
 use lib.ListN.{length}
 use borrow.Author.Tests.{lt-ltb, le-ltb, ltb-true}
 use Rattle.bits.specs.Bit.{pick, one}
-use Rattle.bits.proofs.Choice.{one-lt, both-true}
+use Rattle.bits.proofs.Choice.{one-lt, both-true, pick-cases}
 use Rattle.answer.specs.Numbers.{noRegion}
 use Rattle.answer.specs.declared.Outcome.{Outcome}
 use Rattle.answer.specs.declared.Outcome.the-variants.{Value, Stop}
@@ -72,14 +72,28 @@ search-from (suc k) l n a b g = one (ltb (a + n) userEnd) g (λ c. search-from k
 pub find-from : (l : List MappedRegion) (next n b : ℕ) → findFree l next n ≡ Value b → next ≤ b
 find-from l next n b = search-from (suc (length l)) l n next b
 
+-- it ends at an address, or with 15
+abbrev pub Ends : Outcome → Type 0
+Ends (Value b) = Unit {0}
+Ends (Stop e) = e ≡ noRegion
+
+pub search-ends : (k : ℕ) (l : List MappedRegion) (n a : ℕ) → Ends (searchFrom k l n a)
+unfolding searchFrom
+search-ends zero l n a = refl
+search-ends (suc k) l n a = pick-cases Ends (ltb (a + n) userEnd) _ _ (λ _. by (inTheWay a n l) (search-ends k l n)) (λ _. refl)
+  where
+    by : (w : InTheWay) → ((e : ℕ) → Ends (searchFrom k l n e)) → Ends (orPast w (Value a) (searchFrom k l n))
+    by Nothing more = tt
+    by (Until e) more = more e
+
 -- ---- the scans are enough
 
 -- how many regions end above a
-abbrev ahead : ℕ → List MappedRegion → ℕ
+abbrev pub ahead : ℕ → List MappedRegion → ℕ
 ahead a [] = 0
 ahead a (r ∷ l) = one (ltb a (r .start + r .size)) + ahead a l
 
-ahead-few : (a : ℕ) (l : List MappedRegion) → ahead a l ≤ length l
+pub ahead-few : (a : ℕ) (l : List MappedRegion) → ahead a l ≤ length l
 ahead-few a [] = omega arith
 ahead-few a (r ∷ l) = omega (arith, one-lt (ltb a (r .start + r .size)), ahead-few a l)
 
@@ -95,7 +109,7 @@ ahead-fewer a b [] h = omega arith
 ahead-fewer a b (r ∷ l) h = omega (arith, fewer a b (r .start + r .size) h, ahead-fewer a b l h)
 
 -- the region in the way is behind once it is moved past
-ahead-less : (a n e : ℕ) (l : List MappedRegion) → inTheWay a n l ≡ Until e → ahead e l < ahead a l
+pub ahead-less : (a n e : ℕ) (l : List MappedRegion) → inTheWay a n l ≡ Until e → ahead e l < ahead a l
 unfolding inTheWay
 ahead-less a n e [] k = let z : _≡_ {A = ℕ} 0 1 = cc in absurd (omega arith)
 ahead-less a n e (r ∷ l) k = by (overlaps a n r) refl k (ahead-less a n e l)

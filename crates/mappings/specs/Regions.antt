@@ -76,7 +76,7 @@ inTheWay a n [] = Nothing
 inTheWay a n (r ∷ l) = pick (overlaps a n r) (Until (r .start + r .size)) (inTheWay a n l)
 
 -- here where nothing is in the way, else on from the end of what is
-abbrev pub orPast : InTheWay → Outcome → (ℕ → Outcome) → Outcome
+abbrev pub orPast : {A : Type 0} → InTheWay → A → (ℕ → A) → A
 orPast Nothing here on = here
 orPast (Until end) here on = on end
 

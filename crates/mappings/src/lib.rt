@@ -1,6 +1,7 @@
 // The list of mmap.rs where it stands, as packed bytes: its slots, its count and next_addr are read and written here, and nothing else touches the bytes.
 pub mod list;
 
+use answer::Outcome;
 ghost use mathlib.Core.Path.{_≡_};
 ghost use mathlib.Core.Bool.{true};
 ghost use Prim.Native.Nat.{_<_};
@@ -30,6 +31,18 @@ pub struct MappedRegion {
 pub enum InTheWay {
     Nothing,
     Until(u64),
+}
+
+// A scan: what is in the way, and how many regions were compared until it was met with.
+pub struct Scanned {
+    pub way: InTheWay,
+    pub compared: usize,
+}
+
+// A search: where it ends, and how many regions all its scans compared.
+pub struct Searched {
+    pub outcome: Outcome,
+    pub compared: usize,
 }
 
 // A zero slot.

@@ -25,7 +25,7 @@ ghost use Rattle.paging.specs.Map.{Memory};
 ghost use Rattle.answer.specs.Outcomes.{asAnswer};
 ghost use Rattle.address.specs.Address.{asVirt};
 ghost use Rattle.slots.specs.Slots.{listed};
-ghost use Rattle.mappings.specs.Regions.{starts};
+ghost use Rattle.mappings.specs.Regions.{findFree, starts};
 ghost use Rattle.mappings.specs.Packed.{mmapIn, nextIn, mmapFit, soundList};
 ghost use Rattle.mmap.specs.Flags.{writable, fixed};
 ghost use Rattle.mmap.specs.Calls.{soundUser, fixedAt, hintedAt, chosen, full, leftover, mapRegion, chosenRegion, unmapRegion};
@@ -75,6 +75,15 @@ fn fixed_at(a: u64, n: u64) -> Outcome
     Outcome::Value(a)
 }
 
+// Where the search ends.
+fn search(list: &[u8], n: u64) -> Outcome
+    requires { ⌜ soundList (now list) ≡ true ⌝ }
+    ensures { λ r. ⌜ r ≡ findFree (listed (mmapIn (now (list .entry)))) (nextIn (now (list .entry))) n ⌝ }
+{
+    let found = mappings::list::find_free_region(list, n);
+    found.outcome
+}
+
 // A hint: the address if it is aligned and nothing is in the way, else where the search ends.
 fn hinted_at(list: &[u8], a: u64, n: u64) -> Outcome
     requires { ⌜ soundList (now list) ≡ true ⌝ }
@@ -82,14 +91,14 @@ fn hinted_at(list: &[u8], a: u64, n: u64) -> Outcome
     ensures { λ r. ⌜ r ≡ hintedAt (listed (mmapIn (now (list .entry)))) (nextIn (now (list .entry))) a n ⌝ }
 {
     if a % 4096 != 0 {
-        return mappings::list::find_free_region(list, n);
+        return search(list, n);
     }
     if a > crate::LAST_PAGE - n {
         return Outcome::Stop(answer::TOO_LARGE);
     }
     match mappings::list::in_the_way(list, a, n) {
         InTheWay::Nothing => Outcome::Value(a),
-        InTheWay::Until(_) => mappings::list::find_free_region(list, n),
+        InTheWay::Until(_) => search(list, n),
     }
 }
 
@@ -100,7 +109,7 @@ fn choose(list: &[u8], hint: OptAddr, n: u64, flags: i32) -> Outcome
     ensures { λ r. ⌜ ((m : Memory) → r ≡ chosen (userIn m (now (list .entry))) hint n flags) ⌝ }
 {
     match hint {
-        OptAddr::NoAddr => mappings::list::find_free_region(list, n),
+        OptAddr::NoAddr => search(list, n),
         OptAddr::SomeAddr(a) => {
             if is_fixed(flags) {
                 return fixed_at(a, n);

@@ -169,7 +169,7 @@ fn call(random: &mut Random, base: &Base, row: &Row) -> Result<(), String> {
 }
 
 fn is_read(arg: Arg) -> bool {
-    matches!(arg, Arg::Words | Arg::Fields | Arg::Bits | Arg::Marked | Arg::Table)
+    matches!(arg, Arg::Words | Arg::Fields | Arg::Bits | Arg::User | Arg::Marked | Arg::Table)
 }
 
 /// What a pointer lends: mostly the board's own part.
@@ -179,7 +179,7 @@ fn part(random: &mut Random, base: &Base, arg: Arg) -> Option<Lent> {
         Arg::Fields | Arg::FieldsMut => &board.fields,
         Arg::Bits | Arg::BitsMut => &board.bits[..],
         Arg::KernelMut => &board.kernel,
-        Arg::UserMut => &board.user,
+        Arg::User | Arg::UserMut => &board.user,
         Arg::Marked | Arg::MarkedMut => &board.marked,
         Arg::Words | Arg::WordsMut => {
             let mut words = board.words.clone();
@@ -197,6 +197,7 @@ fn part(random: &mut Random, base: &Base, arg: Arg) -> Option<Lent> {
             let table: Vec<u64> = (0..512).map(|_| random.word()).collect();
             return Some(Lent::words(random, &table));
         }
+        Arg::Compared => return Some(Lent::words(random, &[random.word()])),
         Arg::Indices => return Some(Lent::words(random, &[7; 4])),
         _ => return None,
     };

@@ -7,11 +7,11 @@ use crate::model::Model;
 use crate::port::{self, Port};
 use crate::report::{equal, holds};
 use crate::table;
-use gadulnos::{Board, Frames, Kernel, Marked, User};
+use gadulnos::{Board, Frames, Kernel, Line, Marked, User};
 use paper::call::Call;
 use paper::generate::Random;
 use paper::minimise;
-use paper::PAGE;
+use paper::{PAGE, USER_WINDOW};
 use std::collections::BTreeMap;
 
 /// What a run met with.
@@ -32,6 +32,8 @@ pub enum Shot {
     Start(u64, u64),
     /// A walk on other numbers than the record's: start, total, root, address.
     Walk(u64, u64, u64, u64),
+    /// mmap's search by itself, for so many bytes.
+    Search(u64),
 }
 
 impl Shot {
@@ -41,6 +43,7 @@ impl Shot {
             Shot::Init(..) => "init",
             Shot::Start(..) => "start",
             Shot::Walk(..) => "walk",
+            Shot::Search(..) => "find_free_region",
         }
     }
 
@@ -52,6 +55,7 @@ impl Shot {
             Shot::Walk(start, total, root, virt) => {
                 format!("walk start={start:x} total={total:x} root={root:x} virt={virt:x}\n")
             }
+            Shot::Search(size) => format!("find_free_region size={size:x}\n"),
         }
     }
 }
@@ -76,7 +80,7 @@ pub fn round(random: &mut Random, kind: Kind, seen: &mut Seen) -> Result<u64, St
 
 /// Mostly calls drawn to what stood before the change, and releases of what is listed now.
 fn draw(random: &mut Random, base: &Base, port: &Port) -> Shot {
-    match random.below(20) {
+    match random.below(21) {
         0 => Shot::Init(memory(random).0, memory(random).1),
         1 => {
             let (from, to) = memory(random);
@@ -90,7 +94,13 @@ fn draw(random: &mut Random, base: &Base, port: &Port) -> Shot {
             let root = random.one_of(&[port.root, start, start.wrapping_add(1), any[1]]);
             Shot::Walk(start, total, root, random.word())
         }
-        3..=6 => listed(random, port).map_or_else(|| drawn(random, base), Shot::Call),
+        3 => {
+            let any = [random.word(), random.word() >> 20, random.below(64) * PAGE];
+            let sizes = [0, 1, PAGE, 8 * PAGE, USER_WINDOW.1 - USER_WINDOW.0, USER_WINDOW.1];
+            let few = random.one_of(&sizes);
+            Shot::Search(random.one_of(&[few, any[0], any[1], any[2]]))
+        }
+        4..=7 => listed(random, port).map_or_else(|| drawn(random, base), Shot::Call),
         _ => drawn(random, base),
     }
 }
@@ -142,6 +152,11 @@ fn fire(port: &mut Port, shot: &Shot, seen: &mut Seen) -> Result<(), String> {
             (port.start(from, to), model.start(has_lengths(&before), from, to))
         }
         Shot::Walk(start, total, root, virt) => return walk(port, model, start, total, root, virt),
+        Shot::Search(size) => {
+            let (wanted, compared) = model.find_free_region(size);
+            let line = search(port, size, compared)?;
+            (line, wanted.map_or_else(Line::refused, Line::met))
+        }
     };
     *seen.numbers.entry((shot.name(), line.number)).or_default() += 1;
     table::allows(shot.name(), line)?;
@@ -162,6 +177,15 @@ fn fire(port: &mut Port, shot: &Shot, seen: &mut Seen) -> Result<(), String> {
         }
         _ => Ok(()),
     }
+}
+
+/// The search, with the number of regions that it is to have compared, if it runs.
+fn search(port: &Port, size: u64, wanted: Option<u64>) -> Result<Line, String> {
+    let old = u64::MAX;
+    let mut compared = old;
+    let line = gadulnos::find_free_region(&port.user, size, &mut compared);
+    equal(compared, wanted.unwrap_or(old))?;
+    Ok(line)
 }
 
 /// translate, the user question and unmap_page on any numbers.

@@ -18,6 +18,8 @@ pub enum Arg {
     Root,
     /// A pointer to the root's number, which a start writes.
     RootOut,
+    /// A pointer to a number, which the search writes.
+    Compared,
     /// A pointer to a table of 512 words, which is read.
     Table,
     /// A pointer to four indices, which are written.
@@ -31,6 +33,7 @@ pub enum Arg {
     Bits,
     BitsMut,
     KernelMut,
+    User,
     UserMut,
     Marked,
     MarkedMut,
@@ -41,7 +44,7 @@ use Arg::*;
 impl Arg {
     /// Whether it is a pointer alone, to as many items as its type says.
     pub fn has_no_length(self) -> bool {
-        matches!(self, RootOut | Table | Indices | Bits | BitsMut)
+        matches!(self, RootOut | Compared | Table | Indices | Bits | BitsMut)
     }
 }
 
@@ -150,6 +153,7 @@ rows! {
             WordsMut, FieldsMut, BitsMut, Root, UserMut, Flag, Number, Number, Signed, Signed
         ) [1 2 3 10 15 20] [11 13];
         gadulnos_munmap(WordsMut, FieldsMut, BitsMut, Root, UserMut, Number, Number) [1 2 3 10 16] [];
+        gadulnos_find_free_region(User, Number, Compared) [10] [15];
         gadulnos_mark_cow(MarkedMut, Number) [10 20] [];
         gadulnos_unmark_cow(MarkedMut, Number) [10] [];
         gadulnos_is_cow(Marked, Number) [10] [];
@@ -230,7 +234,7 @@ pub fn check(report: &mut Report, seen: &Seen, rounds: u64) {
 }
 
 fn all(seen: &Seen, calls: &BTreeSet<&'static str>) -> Result<(), String> {
-    holds(calls.len() == 22, "all 22 kinds of calls")?;
+    holds(calls.len() == 23, "all 23 kinds of calls")?;
     for call in calls {
         let Row { bare, leaving, .. } = row(call);
         let met = if *bare == [9] { &[][..] } else { &[0][..] };

@@ -18,6 +18,7 @@ mod port;
 #[path = "../shared/report.rs"]
 mod report;
 mod rounding;
+mod search;
 
 use options::Options;
 use report::Report;
@@ -32,5 +33,6 @@ fn main() {
     addresses::check(&mut report, &options);
     entries::check(&mut report, &options);
     frames::check(&mut report, &options);
+    search::check(&mut report, &options);
     report.finish();
 }

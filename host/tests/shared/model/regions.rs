@@ -62,8 +62,15 @@ impl Model {
 
     /// The regions, if all that mmap and munmap are lent is sound.
     fn sound_user(&mut self) -> Result<(Vec<Region>, u64), u64> {
-        let whole = self.is_whole();
-        let user = self.user.as_ref().filter(|_| whole).ok_or(BROKEN)?;
+        match self.is_whole() {
+            true => self.sound_list(),
+            false => Err(BROKEN),
+        }
+    }
+
+    /// The mmap list alone.
+    fn sound_list(&self) -> Result<(Vec<Region>, u64), u64> {
+        let user = self.user.as_ref().ok_or(BROKEN)?;
         let count = usize::try_from(user.count).ok().filter(|&n| n <= SLOTS).ok_or(BROKEN)?;
         let listed = &user.slots[..count];
         let sound = listed.windows(2).all(|pair| pair[0].start < pair[1].start)
@@ -72,6 +79,17 @@ impl Model {
         match sound {
             true => Ok((listed.to_vec(), user.next_addr)),
             false => Err(BROKEN),
+        }
+    }
+
+    /// The search by itself, and how many regions it compared, if it ran.
+    pub fn find_free_region(&self, size: u64) -> (Answer, Option<u64>) {
+        match self.sound_list() {
+            Ok((list, next_addr)) => {
+                let (found, compared) = search(&list, next_addr, size);
+                (found, Some(compared))
+            }
+            Err(number) => (Err(number), None),
         }
     }
 
@@ -173,35 +191,41 @@ fn merge(list: &mut Vec<Slot>) {
 fn choose(list: &[Region], next_addr: u64, wish: Option<u64>, size: u64, flags: i32) -> Answer {
     let addr = match wish {
         Some(addr) => addr,
-        None => return search(list, next_addr, size),
+        None => return search(list, next_addr, size).0,
     };
     let fixed = flags & MAP_FIXED != 0;
     if addr % PAGE != 0 {
-        return if fixed { Err(2) } else { search(list, next_addr, size) };
+        return if fixed { Err(2) } else { search(list, next_addr, size).0 };
     }
     if addr > LAST - size {
         return Err(3);
     }
     match !fixed && overlapped(list, addr.into(), size).is_some() {
-        true => search(list, next_addr, size),
+        true => search(list, next_addr, size).0,
         false => Ok(addr),
     }
 }
 
-/// The end of the first region that a range overlaps.
-fn overlapped(list: &[Region], start: u128, size: u64) -> Option<u128> {
+/// The first region that a range overlaps: its place and its end.
+fn overlapped(list: &[Region], start: u128, size: u64) -> Option<(usize, u128)> {
     let ends = |region: &Region| u128::from(region.start) + u128::from(region.size);
     let end = start + u128::from(size);
-    list.iter().find(|r| start < ends(r) && end > r.start.into()).map(ends)
+    let found = list.iter().position(|r| start < ends(r) && end > r.start.into());
+    found.map(|place| (place, ends(&list[place])))
 }
 
-fn search(list: &[Region], next_addr: u64, size: u64) -> Answer {
+/// Where a range is free, and how many regions were compared.
+fn search(list: &[Region], next_addr: u64, size: u64) -> (Answer, u64) {
     let mut addr = u128::from(next_addr);
+    let mut compared = 0;
     while addr + u128::from(size) < USER_WINDOW.1.into() {
         match overlapped(list, addr, size) {
-            Some(end) => addr = end,
-            None => return Ok(addr as u64),
+            Some((place, end)) => {
+                compared += place as u64 + 1;
+                addr = end;
+            }
+            None => return (Ok(addr as u64), compared + list.len() as u64),
         }
     }
-    Err(15)
+    (Err(15), compared)
 }

@@ -15,8 +15,8 @@ use Rattle.mmap.proofs.inner.choose.Tie as tie
 enum-told : tie.Need-enum-told
 enum-told c = search needs
 
-find-free-region-requires : tie.Need-find-free-region-requires
-find-free-region-requires c κs = search needs
+search-requires : tie.Need-search-requires
+search-requires c κs = search needs
 
 enum-known-hint : tie.Need-enum-known-hint
 enum-known-hint c = search needs
@@ -46,7 +46,7 @@ hinted-at-requires c κs = search needs
 returns-2 : tie.Need-returns-2
 returns-2 c m =
     let a = c .before .before .before .before .args in
-    c .find-free-region .ensures ∙ sym (chosen-any (userIn m (a .list .now)) (a .n) (a .flags))
+    c .search .ensures ∙ sym (chosen-any (userIn m (a .list .now)) (a .n) (a .flags))
     ∙ ap (λ (x : OptAddr). chosen (userIn m (a .list .now)) x (a .n) (a .flags)) (sym (c .before .enum-told .given .1))
 
 returns-3 : tie.Need-returns-3
@@ -63,7 +63,7 @@ choose-spec =
     tie.close
     (tie.spec
     enum-told
-    find-free-region-requires
+    search-requires
     enum-known-hint
     is-fixed-requires
     fixed-at-requires

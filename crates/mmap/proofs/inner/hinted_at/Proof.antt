@@ -9,13 +9,13 @@ use Rattle.mmap.proofs.Steps.{hint-odd, hint-high, hint-free, hint-take
 use Rattle.mmap.proofs.inner.hinted_at.Statement.{statement}
 use Rattle.mmap.proofs.inner.hinted_at.Tie as tie
 
-find-free-region-requires : tie.Need-find-free-region-requires
-find-free-region-requires c κs = c .before .before .pre .0
+search-requires : tie.Need-search-requires
+search-requires c κs = c .before .before .pre .0
 
 returns : tie.Need-returns
 returns c =
     let s = c .before .before .before .args in
-    c .find-free-region .ensures ∙ sym (hint-odd (s .a) (s .n) (listed (mmapIn (s .list .now))) (nextIn (s .list .now)) (c .before .if1 .taken))
+    c .search .ensures ∙ sym (hint-odd (s .a) (s .n) (listed (mmapIn (s .list .now))) (nextIn (s .list .now)) (c .before .if1 .taken))
 
 sub-if2 : tie.Need-sub-if2
 sub-if2 c = c .before .before .pre .1
@@ -38,8 +38,8 @@ enum-told c = c .match .keys1
 enum-told-2 : tie.Need-enum-told-2
 enum-told-2 c = c .match .keys2
 
-find-free-region-requires-2 : tie.Need-find-free-region-requires-2
-find-free-region-requires-2 c κs = c .before .before .before .before .before .before .pre .0
+search-requires-2 : tie.Need-search-requires-2
+search-requires-2 c κs = c .before .before .before .before .before .before .pre .0
 
 returns-3 : tie.Need-returns-3
 returns-3 c =
@@ -53,7 +53,7 @@ returns-4 c =
     let t = c .before in
     let w = t .before .before in
     let s = w .before .before .before .before .args in
-    c .find-free-region2 .ensures
+    c .search2 .ensures
     ∙ sym (hint-taken (s .a) (s .n) (listed (mmapIn (s .list .now))) (nextIn (s .list .now)) (w .before .before .if1 .left) (ends (w .before)) _
     (sym (w .in-the-way .ensures) ∙ t .enum-told2 .given .1))
 
@@ -61,13 +61,13 @@ pub hinted-at-spec : {M : Type 1} → statement M
 hinted-at-spec =
     tie.close
     (tie.spec
-    find-free-region-requires
+    search-requires
     returns
     sub-if2
     returns-2
     in-the-way-requires
     enum-told
     enum-told-2
-    find-free-region-requires-2
+    search-requires-2
     returns-3
     returns-4)
