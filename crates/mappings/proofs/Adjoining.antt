@@ -1,20 +1,18 @@
 -- Regions of a page each, one behind the other: a search for a page from the first of them on takes as many comparisons as any list of that length can.
 use Prim.Native.Nat.{ℕ, zero, suc, _+_, _*_, _%_, _<_, _≤_}
-use mathlib.Core.Path.{_≡_, refl, sym, _∙_, ap}
-use mathlib.Core.Bool.{true, false}
-use mathlib.Core.List.{List}
+use mathlib.Core.Path.{_≡_, refl, _∙_, ap}
+use mathlib.Core.Bool.{true}
 use lib.IntN.{pos}
 use native.Mathlib.Omega.{arith}
 use lib.ListN.{length}
 use borrow.Author.Tests.{le-leb}
-use Rattle.bits.specs.Bit.{both}
 use Rattle.allocator.specs.Round.{lastPage}
 use Rattle.slots.specs.Slots.{every}
 use Rattle.slots.specs.Sorted.{risingFrom as risingBy}
 use Rattle.regions.proofs.Placed.{placed-back}
 use Rattle.mappings.specs.declared.MappedRegion.{MappedRegion}
 use Rattle.mappings.specs.declared.InTheWay.the-variants.{Nothing, Until}
-use Rattle.mappings.specs.Regions.{userStart, userEnd, mappedRegion, wellPlacedMapping, inTheWay}
+use Rattle.mappings.specs.Regions.{userStart, mappedRegion, wellPlacedMapping, inTheWay}
 use Rattle.mappings.specs.Compared.{comparedIn, compared, adjoining, Reached}
 use Rattle.mappings.proofs.Rising.{Rising, rising-none}
 use Rattle.mappings.proofs.Scan.{way-end, way-here, way-on, compared-all, compared-last, compared-on}

@@ -1,6 +1,6 @@
 -- How many regions a search compares: one scan after the other, and the bounds.
 use Prim.Native.Nat.{ℕ, zero, suc, _+_, _*_, _<_, _≤_}
-use mathlib.Core.Path.{_≡_, refl, sym, _∙_, ap}
+use mathlib.Core.Path.{_≡_, refl, ap}
 use mathlib.Core.Bool.{Bool, true, false}
 use mathlib.Core.List.{List, [], _∷_}
 use native.Mathlib.Omega.{arith}
@@ -128,12 +128,12 @@ places-few j a (r ∷ l) = by (ltb a (r .start + r .size)) (places-few (suc j) a
 pub least-bound : LeastBound
 least-bound l next n = omega (arith, from-few (suc (length l)) l n next, places-few 0 next l)
 
+square : (k : ℕ) → k ≤ k * k
+square zero = omega arith
+square (suc k) = omega arith
+
 pub bound : Bound
-bound l next n = by (length l) (least-bound l next n)
-  where
-    by : (k : ℕ) {c : ℕ} → 2 * c ≤ k * (k + 3) → c ≤ k * (k + 1)
-    by zero h = omega arith
-    by (suc k) h = omega arith
+bound l next n = omega (arith, least-bound l next n, square (length l))
 
 -- with 256 regions it is below 2^17
 pub compared-small : (l : List MappedRegion) (next n : ℕ) → length l ≤ 256 → compared l next n < 131072

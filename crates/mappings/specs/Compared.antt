@@ -9,7 +9,6 @@ use lib.ListN.{length}
 use Rattle.bits.specs.Bit.{pick}
 use Rattle.slots.specs.Slots.{every}
 use Rattle.mappings.specs.declared.MappedRegion.{MappedRegion}
-use Rattle.mappings.specs.declared.InTheWay.{InTheWay}
 use Rattle.mappings.specs.declared.Searched.{Searched}
 use Rattle.mappings.specs.declared.Scanned.{Scanned}
 use Rattle.mappings.specs.Regions.{userStart, userEnd, mappedRegion, risingFrom, wellPlacedMapping, overlaps, inTheWay, orPast, findFree}

@@ -197,7 +197,7 @@ fn part(random: &mut Random, base: &Base, arg: Arg) -> Option<Lent> {
             let table: Vec<u64> = (0..512).map(|_| random.word()).collect();
             return Some(Lent::words(random, &table));
         }
-        Arg::Compared => return Some(Lent::words(random, &[random.word()])),
+        Arg::Compared => return Some(Lent::words(random, &[7])),
         Arg::Indices => return Some(Lent::words(random, &[7; 4])),
         _ => return None,
     };

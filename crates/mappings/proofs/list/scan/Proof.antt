@@ -78,7 +78,7 @@ returns : tie.Need-returns Inv-loop μ-loop
 returns c =
     let r = c .before .before in
     let l = r .before .before in
-    scan-free _ _ _ (sym (l .loop .inv .1) ∙ way-beyond _ _ (one r) (above r) (c .if1 .taken)) (long (l .before))
+    scan-free _ _ _ (sym (l .loop .inv .1) ∙ way-beyond _ _ (one r) (above r) (c .if1 .taken)) (omega (arith, long (l .before)))
 
 add-end : tie.Need-add-end Inv-loop μ-loop
 add-end c = let p = placed (c .before .before .before) in omega (arith, p .end)
@@ -111,7 +111,7 @@ returns-3 c =
     let l = c .before in
     let s = l .before .before .before in
     let none = no-more (bytes s) (few s) (l .loop .i) (omega (arith, c .loop-test .left, l .before .count .ensures)) in
-    scan-free _ _ _ (sym (l .loop .inv .1) ∙ way-end _ _ none) (long (l .before))
+    scan-free _ _ _ (sym (l .loop .inv .1) ∙ way-end _ _ none) (omega (arith, long (l .before)))
 
 pub scan-spec : {M : Type 1} → statement M
 scan-spec =
