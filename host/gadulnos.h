@@ -2,12 +2,12 @@
  * (x86-64, System V calling convention). docs/LAYOUT.md explains the layout at length.
  *
  * What is asked of the arguments: each pointer lends as many elements as its length says, one without a
- * length (bits, table, out, root, compared) as many as is said of it here; no two lent parts overlap, a pointer to
- * words or numbers (uint64_t, size_t) is aligned to 8 bytes as C asks (a pointer to bytes may be odd), and a
- * bool holds 0 or 1, as every C compiler makes it. A length may be 0; the pointer is then not read, and may
- * be null. Nothing else is asked. A function touches what it is lent and nothing else, keeps no state and
- * always ends. A call that cannot be met answers with a number of docs/NUMBERS.md and changes nothing but
- * the leftovers listed there.
+ * length (bits, table, out, root, compared) as many as is said of it here; no two lent parts overlap, a
+ * pointer to words or numbers (uint64_t, size_t) is aligned to 8 bytes as C asks (a pointer to bytes may be
+ * odd), and a bool holds 0 or 1, as every C compiler makes it. A length may be 0; the pointer is then not
+ * read, and may be null. Nothing else is asked. A function touches what it is lent and nothing else, keeps no
+ * state and always ends. A call that cannot be met answers with a number of docs/NUMBERS.md and changes
+ * nothing but the leftovers listed there.
  *
  * The parts of a board's state. All numbers are little-endian, 64 bits unless said otherwise.
  *

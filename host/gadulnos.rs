@@ -488,7 +488,7 @@ where
         munmap(words, fields, bits, *root, user, addr, size)
     }
 
-    /// .. and how many regions were compared, none of a broken list.
+    /// mmap's search by itself, and how many regions it compared, none of a broken list.
     pub fn find_free_region(&self, size: u64) -> (Line, u64) {
         let mut compared = 0;
         let line = find_free_region(&self.user, size, &mut compared);

@@ -85,6 +85,18 @@ fn copy(board: &Board) -> Board {
     }
 }
 
+/// The search on both, and how many regions it compared.
+fn search(random: &mut Random, port: &Board, same: &Board) -> Result<(), String> {
+    let size = random.one_of(&[0, 1, PAGE, 8 * PAGE, USER_WINDOW.1 - USER_WINDOW.0, u64::MAX]);
+    let (mut compared, mut counted) = (7, 7);
+    let one = gadulnos::find_free_region(&port.user, size, &mut compared);
+    let other = same::find_free_region(&same.user, size, &mut counted);
+    match (one, compared) == (other, counted) {
+        true => Ok(()),
+        false => Err(format!("search {size:x}: {one:?} {compared} and {other:?} {counted}")),
+    }
+}
+
 /// A call on both, which must leave both alike.
 fn both(port: &mut Board, same: &mut Board, call: &Call) -> Result<(), String> {
     let (one, other) = (on_port(port, call), on_same(same, call));
@@ -139,6 +151,7 @@ fn sequence(
             on_changed(random, generator, copy(&port), (from, to))?;
         }
         both(&mut port, &mut same, &call)?;
+        search(random, &port, &same)?;
     }
     Ok(())
 }
@@ -165,6 +178,7 @@ fn on_changed(
     }
     let mut same = copy(&port);
     both(&mut port, &mut same, &call)?;
+    search(random, &port, &same)?;
     let end = random.one_of(&[to, from, from.wrapping_sub(1), (1 << 52) + 1]);
     start(&mut port, &mut same, from, end)
 }

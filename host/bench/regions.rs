@@ -1,10 +1,10 @@
-//! vmalloc with vfree, mmap with munmap, and refusals.
+//! vmalloc with vfree, mmap with munmap, the search by itself, and refusals.
 
 use crate::sides::Side;
 use crate::table::{timed, Row, Table, Work};
 use crate::trio::{each, state, Trio};
 use crate::{LARGE, SMALL};
-use paper::PAGE;
+use paper::{PAGE, USER_WINDOW};
 use std::hint::black_box;
 
 /// Frames, pages, regions, and whether the line stands in the first table.
@@ -49,6 +49,17 @@ pub fn rows(table: &mut Table) {
             let trio = user_board(frames, regions);
             let next_addr = state(&trio.port.board).map_or(0, |state| state.next_addr);
             (trio, Mmap { pages, next_addr })
+        });
+    }
+    for (regions, from_first, main) in [(2, false, true), (200, false, false), (200, true, true)] {
+        let from = if from_first { ", from the first on" } else { "" };
+        let on = format!("{regions} regions{from}");
+        table.row(Row { what: "find_free_region", on, goal: None, main }, || {
+            let mut trio = user_board(LARGE, regions + 1);
+            if from_first {
+                each!(trio, side => side.set_next_addr(USER_WINDOW.0));
+            }
+            (trio, Search)
         });
     }
     for (regions, main) in [(2, true), (200, false)] {
@@ -106,6 +117,14 @@ impl Work for Mmap {
         });
         side.set_next_addr(self.next_addr);
         time
+    }
+}
+
+struct Search;
+
+impl Work for Search {
+    fn round<S: Side>(&self, side: &mut S) -> f64 {
+        timed(64, |_| side.find_free_region(black_box(PAGE)))
     }
 }
 

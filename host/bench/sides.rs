@@ -6,6 +6,7 @@ use gadulnos::{Board, Frames, Line, Marked};
 use paper::state::Region;
 use rinux::paging::{HugePageSize, PageMapper, PhysAddr, VirtAddr};
 use rinux::{frame, mmap, oracle, page_fault, page_handler, vmalloc};
+use std::hint::black_box;
 
 /// The calls, and below them what is set between rounds. A met call has its value, 0 if it has none.
 pub trait Side {
@@ -23,6 +24,7 @@ pub trait Side {
     fn vfree(&mut self, addr: u64) -> Option<u64>;
     fn mmap(&mut self, size: u64) -> Option<u64>;
     fn munmap(&mut self, addr: u64, size: u64) -> Option<u64>;
+    fn find_free_region(&self, size: u64) -> Option<u64>;
     fn mark_cow(&mut self, addr: u64) -> Option<u64>;
     fn unmark_cow(&mut self, addr: u64) -> Option<u64>;
     fn is_cow(&self, addr: u64) -> Option<u64>;
@@ -133,6 +135,13 @@ macro_rules! packed_side {
             fn munmap(&mut self, addr: u64, size: u64) -> Option<u64> {
                 let Board { words, fields, bits, root, user, .. } = &mut self.board;
                 met($calls::munmap(words, fields, bits, *root, user, addr, size))
+            }
+
+            fn find_free_region(&self, size: u64) -> Option<u64> {
+                let mut compared = 0;
+                let line = $calls::find_free_region(&self.board.user, size, &mut compared);
+                black_box(compared);
+                met(line)
             }
 
             fn mark_cow(&mut self, addr: u64) -> Option<u64> {
@@ -265,6 +274,11 @@ impl Side for Rust {
 
     fn munmap(&mut self, addr: u64, size: u64) -> Option<u64> {
         mmap::munmap(addr as usize, size as usize).ok().map(|()| 0)
+    }
+
+    /// It counts nothing.
+    fn find_free_region(&self, size: u64) -> Option<u64> {
+        mmap::access::find_free_region(size)
     }
 
     fn mark_cow(&mut self, addr: u64) -> Option<u64> {

@@ -144,6 +144,11 @@ impl Board {
         mmap::access::set(regions, next_addr);
     }
 
+    /// mmap's private search on the present list, or the panic message.
+    pub fn find_free_region(&self, size: u64) -> Result<Option<u64>, String> {
+        play::catch(|| mmap::access::find_free_region(size))
+    }
+
     pub fn set_marked(&mut self, pages: &[u64]) {
         page_fault::access::set(pages.iter().copied());
     }

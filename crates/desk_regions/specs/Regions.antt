@@ -72,6 +72,6 @@ packedFindFree list size old =
     unlessFit (soundList list) old
     (left (countLine (findFree (listed (mmapIn list)) (nextIn list) size)) (compared (listed (mmapIn list)) (nextIn list) size))
 
--- so that only its 15 changes what it is lent
+-- of its refusals only 15 changes what it is lent
 abbrev pub searchLeftovers : List ℕ
 searchLeftovers = noRegion ∷ []

@@ -66,4 +66,4 @@ row-sum k (suc d) i b few e z =
 pub reached : Reached
 reached k few =
     let rising = row-rising k userStart 0 (omega arith) refl (omega arith) in
-    (rising .0, rising .1, omega (arith, row-sum k k 0 userStart few (omega arith) (omega arith)))
+    (row-long k userStart, rising .0, rising .1, omega (arith, row-sum k k 0 userStart few (omega arith) (omega arith)))

@@ -32,6 +32,9 @@ counts (suc k) (suc j) l n a h i = ap (λ (w : ℕ). pick (ltb (a + n) userEnd) 
     by Nothing e more = refl
     by (Until c) e more = let s = ahead-less a n c l e in more c (omega arith) (omega arith)
 
+pub compared-enough : (k : ℕ) (l : List MappedRegion) (next n : ℕ) → length l < k → comparedFrom k l n next ≡ compared l next n
+compared-enough k l next n h = counts k (suc (length l)) l n next (omega (arith, ahead-few next l)) (omega (arith, ahead-few next l))
+
 module _ (l : List MappedRegion) (n a : ℕ) where
   pub compared-none : userEnd ≤ a + n → compared l a n ≡ 0
   unfolding comparedFrom
@@ -54,8 +57,8 @@ module _ (l : List MappedRegion) (n a : ℕ) where
         rw (lt-ltb _ _ h, w) (ap (λ (x : ℕ). comparedIn a n l + x) (counts (length l) (suc (length l)) l n e (omega arith) (omega arith)))
 
 -- what a search reports
-pub search-met : (l : List MappedRegion) (next n : ℕ) {o : Outcome} {k : ℕ} → o ≡ findFree l next n → k ≡ compared l next n → record { outcome = o; compared = k } ≡ searched l next n
-search-met l next n p q = λ j. record { outcome = p j; compared = q j }
+pub search-reports : (l : List MappedRegion) (next n : ℕ) {o : Outcome} {k : ℕ} → o ≡ findFree l next n → k ≡ compared l next n → record { outcome = o; compared = k } ≡ searched l next n
+search-reports l next n p q = λ j. record { outcome = p j; compared = q j }
 
 -- ---- the bounds
 

@@ -104,8 +104,8 @@ module _ (a n : ℕ) {l : List MappedRegion} {r : MappedRegion} {q : List Mapped
 -- ---- what a scan reports
 
 module _ (a n : ℕ) (l : List MappedRegion) where
-  pub scan-met : {w : InTheWay} {k : ℕ} → w ≡ inTheWay a n l → k ≡ comparedIn a n l → record { way = w; compared = k } ≡ scanned a n l
-  scan-met p q = λ j. record { way = p j; compared = q j }
+  pub scan-reports : {w : InTheWay} {k : ℕ} → w ≡ inTheWay a n l → k ≡ comparedIn a n l → record { way = w; compared = k } ≡ scanned a n l
+  scan-reports p q = λ j. record { way = p j; compared = q j }
 
   pub scan-free : {k : ℕ} → inTheWay a n l ≡ Nothing → k ≡ length l → record { way = Nothing; compared = k } ≡ scanned a n l
-  scan-free e q = scan-met (sym e) (q ∙ sym (compared-all a n l e))
+  scan-free e q = scan-reports (sym e) (q ∙ sym (compared-all a n l e))

@@ -18,7 +18,7 @@ unfoldable pub comparedIn : ℕ → ℕ → List MappedRegion → ℕ
 comparedIn a n [] = 0
 comparedIn a n (r ∷ l) = suc (pick (overlaps a n r) 0 (comparedIn a n l))
 
--- in the scans of `searchFrom`: 'restarts included'
+-- in the scans of `searchFrom`: 'restarts included'. More scans compare nothing more (law `compared-enough` of proofs/Compared)
 unfoldable pub comparedFrom : ℕ → List MappedRegion → ℕ → ℕ → ℕ
 comparedFrom zero l n a = 0
 comparedFrom (suc k) l n a = pick (ltb (a + n) userEnd) (comparedIn a n l + orPast (inTheWay a n l) 0 (comparedFrom k l n)) 0
@@ -49,7 +49,7 @@ abbrev pub adjoining : ℕ → ℕ → List MappedRegion
 adjoining zero a = []
 adjoining (suc k) a = mappedRegion a 4096 (pos 0) (pos 0) ∷ adjoining k (a + 4096)
 
--- no smaller bound holds: these lists, which are not broken, take as many
+-- no smaller bound holds: these lists of k regions, which are not broken, take as many
 abbrev pub Reached : Type 0
-Reached = (k : ℕ) → k ≤ 256 → (risingFrom 0 (adjoining k userStart) ≡ true) × (every wellPlacedMapping (adjoining k userStart) ≡ true)
-    × (2 * compared (adjoining k userStart) userStart 4096 ≡ k * (k + 3))
+Reached = (k : ℕ) → k ≤ 256 → let l = adjoining k userStart in
+    (length l ≡ k) × (risingFrom 0 l ≡ true) × (every wellPlacedMapping l ≡ true) × (2 * compared l userStart 4096 ≡ k * (k + 3))

@@ -33,13 +33,13 @@ pub enum InTheWay {
     Until(u64),
 }
 
-// A scan: what is in the way, and how many regions were compared until it was met with.
+// A scan: what is in the way, and how many regions the definition's scan compares until it comes to it.
 pub struct Scanned {
     pub way: InTheWay,
     pub compared: usize,
 }
 
-// A search: where it ends, and how many regions all its scans compared.
+// A search: where it ends, and how many regions all its scans compare.
 pub struct Searched {
     pub outcome: Outcome,
     pub compared: usize,

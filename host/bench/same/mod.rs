@@ -28,7 +28,7 @@ pub use frames::{
 pub use kernel::{vfree, vmalloc};
 pub use start::start;
 pub use tables::{map_huge_page, map_page, translate, unmap_page, user_may};
-pub use user::{mmap, munmap};
+pub use user::{find_free_region, mmap, munmap};
 
 use gadulnos::Line;
 

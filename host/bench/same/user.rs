@@ -40,23 +40,37 @@ fn sound(list: &[u8]) -> Option<usize> {
     (0..n).all(|i| rises(i) && is_placed(word(list, at(i)), word(list, at(i) + 1))).then_some(n)
 }
 
-/// The end of the first region that a range overlaps.
+/// The first region that a range overlaps.
 #[inline]
-fn in_the_way(list: &[u8], n: usize, addr: u64, size: u64) -> Option<u64> {
+fn in_the_way(list: &[u8], n: usize, addr: u64, size: u64) -> Option<usize> {
     let overlaps = |i: &usize| addr < end_of(list, *i) && start_of(list, *i) < addr + size;
-    (0..n).find(overlaps).map(|i| end_of(list, i))
+    (0..n).find(overlaps)
 }
 
+/// Where a range is free; beside it the regions compared are counted.
 #[inline]
-fn search(list: &[u8], n: usize, size: u64) -> Answer {
+fn search(list: &[u8], n: usize, size: u64, compared: &mut u64) -> Answer {
     let mut addr = word(list, 1);
     while size < END && addr < END - size {
-        match in_the_way(list, n, addr, size) {
-            Some(end) => addr = end,
+        let met = in_the_way(list, n, addr, size);
+        *compared += met.map_or(n, |i| i + 1) as u64;
+        match met {
+            Some(i) => addr = end_of(list, i),
             None => return Ok(addr),
         }
     }
     Err(15)
+}
+
+#[inline(never)]
+pub fn find_free_region(list: &[u8], size: u64, compared: &mut u64) -> Line {
+    match sound(list) {
+        Some(n) => {
+            *compared = 0;
+            line(search(list, n, size, compared))
+        }
+        None => Line::refused(BROKEN),
+    }
 }
 
 /// Where a region goes.
@@ -67,7 +81,7 @@ fn choose(list: &[u8], n: usize, wish: Option<u64>, size: u64, fixed: bool) -> A
         Some(addr) if addr % PAGE == 0 && addr > LAST - size => Err(3),
         Some(addr) if fixed => Ok(addr),
         Some(addr) if addr % PAGE == 0 && in_the_way(list, n, addr, size).is_none() => Ok(addr),
-        _ => search(list, n, size),
+        _ => search(list, n, size, &mut 0),
     }
 }
 

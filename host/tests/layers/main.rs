@@ -1,5 +1,5 @@
-//! The compiled calls on numbers and on the frame record beside the original Rust, on limits and on
-//! random inputs, all that is lent to them between guard pages.
+//! The compiled calls on numbers and on the frame record, and mmap's search, beside the original Rust, on
+//! limits and on random inputs, all that is lent to them between guard pages.
 //!
 //! Prints `ok NAME` or `FAILED NAME: why` for each check and ends with the two counts.
 //! Where a sequence of calls differs, the shortest one found is printed.

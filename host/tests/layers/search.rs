@@ -4,7 +4,7 @@
 use crate::guard::{Against, Guarded};
 use crate::options::Options;
 use crate::report::{equal, equal_at, holds, Checked, Report};
-use gadulnos::{Line, Region, User, SLOTS};
+use gadulnos::{Board, Line, Region, User, SLOTS};
 use paper::generate::Random;
 use paper::{LAST, PAGE, USER_WINDOW};
 use rinux::mmap::access;
@@ -42,7 +42,8 @@ fn row(n: usize) -> Vec<Region> {
 
 fn rows() -> Checked {
     for n in 0..=SLOTS {
-        let (line, compared) = search(&row(n), USER_WINDOW.0, PAGE);
+        let user = packed(&row(n), USER_WINDOW.0).pack();
+        let (line, compared) = Board { user, ..Board::lend(0) }.find_free_region(PAGE);
         let wanted = (Line::met(USER_WINDOW.0 + n as u64 * PAGE), n * (n + 3) / 2);
         equal_at(n, (line, compared as usize), wanted)?;
     }
@@ -105,8 +106,9 @@ fn lists(options: &Options, stream: u64, kind: Kind) -> Checked {
             stopped += u64::from(line.number == 15 && compared > 0);
         }
     }
-    let ends = matches!(kind, Kind::Ending);
-    holds(again > 0 && (stopped > 0 || !ends), "searches that start again, and that find nothing")?;
+    // A short run may not come to both.
+    let seen = again > 0 && (stopped > 0 || !matches!(kind, Kind::Ending));
+    holds(seen || options.amount < 100, "searches that start again, and that find nothing")?;
     Ok(cases)
 }
 

@@ -17,7 +17,7 @@ use Rattle.mappings.specs.Compared.{comparedIn, compared, searched}
 use Rattle.mappings.specs.Packed.{mmapIn, nextIn}
 use Rattle.mappings.proofs.Sound.{sound-fit, sound-few, listed-long}
 use Rattle.mappings.proofs.Search.{way-past, find-none, find-here, find-past}
-use Rattle.mappings.proofs.Compared.{compared-none, compared-least, compared-here, compared-past, compared-small, search-met}
+use Rattle.mappings.proofs.Compared.{compared-none, compared-least, compared-here, compared-past, compared-small, search-reports}
 use Rattle.mappings.proofs.list.find_free_region.Statement.{statement}
 use Rattle.mappings.proofs.list.find_free_region.Tie as tie
 
@@ -45,7 +45,7 @@ none : (s : tie.Start Inv-loop μ-loop) {o : Searched} (sum a : ℕ) → o ≡ r
     → sum + compared (regions s) a (s .args .n) ≡ compared (regions s) (nextIn (bytes s)) (s .args .n)
     → o ≡ searched (regions s) (nextIn (bytes s)) (s .args .n)
 none s sum a e far f g =
-    e ∙ search-met (regions s) (nextIn (bytes s)) (s .args .n) (sym (find-none (regions s) (s .args .n) a far) ∙ f)
+    e ∙ search-reports (regions s) (nextIn (bytes s)) (s .args .n) (sym (find-none (regions s) (s .args .n) a far) ∙ f)
     (omega (arith, compared-none (regions s) (s .args .n) a far, g))
 
 returns : tie.Need-returns Inv-loop μ-loop
@@ -105,7 +105,7 @@ returns-2 : tie.Need-returns-2 Inv-loop μ-loop
 returns-2 c =
     let w = c .before .before .before in
     let free = sym (scan-way w) ∙ c .enum-told .given .1 in
-    search-met (regions (s w)) (nextIn (bytes (s w))) (s w .args .n) (sym (find-here (regions (s w)) (s w .args .n) (here w) (below (w .before)) free) ∙ at w .loop .inv .0)
+    search-reports (regions (s w)) (nextIn (bytes (s w))) (s w .args .n) (sym (find-here (regions (s w)) (s w .args .n) (here w) (below (w .before)) free) ∙ at w .loop .inv .0)
     (omega (arith, compared-here (regions (s w)) (s w .args .n) (here w) (below (w .before)) free, scan-compared w, at w .loop .inv .1))
 
 enum-known-way : tie.Need-enum-known-way Inv-loop μ-loop

@@ -12,7 +12,7 @@ use Rattle.mappings.specs.Regions.{inTheWay}
 use Rattle.mappings.specs.Compared.{comparedIn}
 use Rattle.mappings.specs.Packed.{mmapIn, mmapFit}
 use Rattle.mappings.proofs.Rising.{Rising}
-use Rattle.mappings.proofs.Scan.{left, more, no-more, placed-slot, rising-slot, way-end, way-beyond, way-here, way-on, compared-last, compared-on, scan-met, scan-free}
+use Rattle.mappings.proofs.Scan.{left, more, no-more, placed-slot, rising-slot, way-end, way-beyond, way-here, way-on, compared-last, compared-on, scan-reports, scan-free}
 use Rattle.mappings.proofs.Sound.{sound-fit, sound-few, listed-long}
 use Rattle.mappings.proofs.list.scan.Statement.{statement}
 use Rattle.mappings.proofs.list.scan.Tie as tie
@@ -91,7 +91,7 @@ returns-2 c =
     let e = c .before .before in
     let r = e .before .before in
     let inv = r .before .before .loop .inv in
-    scan-met _ _ _ (sym (way-here _ _ (one r) (e .if1 .left) (c .if2 .taken)) ∙ inv .1)
+    scan-reports _ _ _ (sym (way-here _ _ (one r) (e .if1 .left) (c .if2 .taken)) ∙ inv .1)
     (omega (arith, compared-last (s r .args .a) (s r .args .n) (one r) (e .if1 .left) (c .if2 .taken), inv .2))
 
 add-i : tie.Need-add-i Inv-loop μ-loop
