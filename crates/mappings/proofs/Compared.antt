@@ -7,33 +7,29 @@ use native.Mathlib.Omega.{arith}
 use native.Mathlib.Nat.{mul-le-mul-right}
 use lib.Dec.{ltb}
 use lib.ListN.{length}
-use borrow.Author.Tests.{lt-ltb, le-ltb, ltb-true}
+use borrow.Author.Tests.{lt-ltb, le-ltb}
 use Rattle.bits.specs.Bit.{pick}
-use Rattle.bits.proofs.Choice.{both-true}
 use Rattle.answer.specs.declared.Outcome.{Outcome}
 use Rattle.mappings.specs.declared.MappedRegion.{MappedRegion}
 use Rattle.mappings.specs.declared.InTheWay.{InTheWay}
 use Rattle.mappings.specs.declared.InTheWay.the-variants.{Nothing, Until}
 use Rattle.mappings.specs.Regions.{userEnd, overlaps, inTheWay, orPast, findFree}
 use Rattle.mappings.specs.Compared.{comparedIn, comparedFrom, compared, searched, Bound, LeastBound}
-use Rattle.mappings.proofs.Search.{ahead, ahead-few, ahead-less, way-past}
+use Rattle.mappings.proofs.Ahead.{way-compared, weighed, weighed-less, ahead, ahead-few, ahead-less, scans}
 
 -- ---- one scan at a time
 
--- more scans than are needed compare nothing more
-counts : (k j : ℕ) (l : List MappedRegion) (n a : ℕ) → ahead a l < k → ahead a l < j → comparedFrom k l n a ≡ comparedFrom j l n a
-unfolding comparedFrom
-counts zero j l n a h i = absurd (omega arith)
-counts (suc k) zero l n a h i = absurd (omega arith)
-counts (suc k) (suc j) l n a h i = ap (λ (w : ℕ). pick (ltb (a + n) userEnd) (comparedIn a n l + w) 0) (by (inTheWay a n l) refl (λ c. counts k j l n c))
-  where
-    by : (w : InTheWay) → inTheWay a n l ≡ w → ((c : ℕ) → ahead c l < k → ahead c l < j → comparedFrom k l n c ≡ comparedFrom j l n c)
-        → orPast w 0 (comparedFrom k l n) ≡ orPast w 0 (comparedFrom j l n)
-    by Nothing e more = refl
-    by (Until c) e more = let s = ahead-less a n c l e in more c (omega arith) (omega arith)
+module _ (l : List MappedRegion) (n : ℕ) where
+  goes : (k a : ℕ) → comparedFrom (suc k) l n a ≡ pick (ltb (a + n) userEnd) (comparedIn a n l + orPast (inTheWay a n l) 0 (comparedFrom k l n)) 0
+  unfolding comparedFrom
+  goes k a = refl
 
+  compared-scans : (k j a : ℕ) → ahead a l < k → ahead a l < j → comparedFrom k l n a ≡ comparedFrom j l n a
+  compared-scans = scans l n (λ k. comparedFrom k l n) (λ _. 0) (λ a w. pick (ltb (a + n) userEnd) (comparedIn a n l + w) 0) goes
+
+-- more scans than are needed compare nothing more
 pub compared-enough : (k : ℕ) (l : List MappedRegion) (next n : ℕ) → length l < k → comparedFrom k l n next ≡ compared l next n
-compared-enough k l next n h = counts k (suc (length l)) l n next (omega (arith, ahead-few next l)) (omega (arith, ahead-few next l))
+compared-enough k l next n h = compared-scans l n k (suc (length l)) next (omega (arith, ahead-few next l)) (omega (arith, ahead-few next l))
 
 module _ (l : List MappedRegion) (n a : ℕ) where
   pub compared-none : userEnd ≤ a + n → compared l a n ≡ 0
@@ -54,7 +50,7 @@ module _ (l : List MappedRegion) (n a : ℕ) where
     compared-past e w =
         let fewer = ahead-less a n e l w in
         let few = ahead-few a l in
-        rw (lt-ltb _ _ h, w) (ap (λ (x : ℕ). comparedIn a n l + x) (counts (length l) (suc (length l)) l n e (omega arith) (omega arith)))
+        rw (lt-ltb _ _ h, w) (ap (λ (x : ℕ). comparedIn a n l + x) (compared-scans l n (length l) (suc (length l)) e (omega arith) (omega arith)))
 
 -- what a search reports
 pub search-reports : (l : List MappedRegion) (next n : ℕ) {o : Outcome} {k : ℕ} → o ≡ findFree l next n → k ≡ compared l next n → record { outcome = o; compared = k } ≡ searched l next n
@@ -72,38 +68,9 @@ in-few a n (r ∷ l) = by (overlaps a n r) (in-few a n l)
     by true m = omega arith
     by false m = omega arith
 
--- the places, counted from j + 1 on, of the regions that end above a, added up: what is still to be paid for the scans that are started again
+-- the places of the regions ahead, the first one's being j + 1, added up: what the scans that are started again may still cost, each the place of the region that it ends at
 abbrev places : ℕ → ℕ → List MappedRegion → ℕ
-places j a [] = 0
-places j a (r ∷ l) = pick (ltb a (r .start + r .size)) (suc j) 0 + places (suc j) a l
-
-fewer : (j a b x : ℕ) → a ≤ b → pick (ltb b x) (suc j) 0 ≤ pick (ltb a x) (suc j) 0
-fewer j a b x h = by (ltb b x) refl
-  where
-    by : (t : Bool) → ltb b x ≡ t → pick t (suc j) 0 ≤ pick (ltb a x) (suc j) 0
-    by true e = rw (lt-ltb a x (omega (arith, ltb-true b x e))) (omega arith)
-    by false e = omega arith
-
-places-fewer : (j a b : ℕ) (l : List MappedRegion) → a ≤ b → places j b l ≤ places j a l
-places-fewer j a b [] h = omega arith
-places-fewer j a b (r ∷ l) h = omega (arith, fewer j a b (r .start + r .size) h, places-fewer (suc j) a b l h)
-
--- a scan that ends at a region costs that region's place, which is then behind
-places-less : (j a n e : ℕ) (l : List MappedRegion) → inTheWay a n l ≡ Until e → comparedIn a n l + j + places j e l ≤ places j a l
-unfolding inTheWay comparedIn
-places-less j a n e [] k = let z : _≡_ {A = ℕ} 0 1 = cc in absurd (omega arith)
-places-less j a n e (r ∷ l) k = by (overlaps a n r) refl k (places-less (suc j) a n e l)
-  where
-    by : (x : Bool) → overlaps a n r ≡ x → pick x (Until (r .start + r .size)) (inTheWay a n l) ≡ Until e
-        → (inTheWay a n l ≡ Until e → comparedIn a n l + suc j + places (suc j) e l ≤ places (suc j) a l)
-        → suc (pick x 0 (comparedIn a n l)) + j + (pick (ltb e (r .start + r .size)) (suc j) 0 + places (suc j) e l)
-        ≤ pick (ltb a (r .start + r .size)) (suc j) 0 + places (suc j) a l
-    by true o g more =
-        let z : r .start + r .size ≡ e = cc in
-        let lt : ltb a (r .start + r .size) ≡ true = both-true (ltb a (r .start + r .size)) (ltb (r .start) (a + n)) o .0 in
-        let past : ltb e (r .start + r .size) ≡ false = le-ltb e (r .start + r .size) (omega arith) in
-        rw (lt, past) (omega (arith, places-fewer (suc j) a e l (omega (arith, ltb-true a (r .start + r .size) lt))))
-    by false o g more = omega (arith, fewer j a e (r .start + r .size) (omega (arith, way-past a n e l g)), more g)
+places j a l = weighed suc j a l
 
 -- the scan that is not started again compares each region once at most
 from-few : (k : ℕ) (l : List MappedRegion) (n a : ℕ) → comparedFrom k l n a ≤ places 0 a l + length l
@@ -114,7 +81,7 @@ from-few (suc k) l n a = one (ltb (a + n) userEnd) (two (inTheWay a n l) refl (f
     two : (w : InTheWay) → inTheWay a n l ≡ w → ((c : ℕ) → comparedFrom k l n c ≤ places 0 c l + length l)
         → comparedIn a n l + orPast w 0 (comparedFrom k l n) ≤ places 0 a l + length l
     two Nothing e more = omega (arith, in-few a n l)
-    two (Until c) e more = omega (arith, places-less 0 a n c l e, more c)
+    two (Until c) e more = omega (arith, weighed-less suc 0 a n c l e, way-compared a n c l e, more c)
 
     one : {m : ℕ} (x : Bool) → m ≤ places 0 a l + length l → pick x m 0 ≤ places 0 a l + length l
     one true h = h

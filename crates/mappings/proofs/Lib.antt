@@ -2,6 +2,7 @@ pub mod RoundTrip
 pub mod Stores
 pub mod Rising
 pub mod Sound
+pub mod Ahead
 pub mod Search
 pub mod Scan
 pub mod Placing

@@ -16,7 +16,8 @@ use Rattle.mappings.specs.Regions.{userEnd, inTheWay, findFree}
 use Rattle.mappings.specs.Compared.{comparedIn, compared, searched}
 use Rattle.mappings.specs.Packed.{mmapIn, nextIn}
 use Rattle.mappings.proofs.Sound.{sound-fit, sound-few, listed-long}
-use Rattle.mappings.proofs.Search.{way-past, find-none, find-here, find-past}
+use Rattle.mappings.proofs.Ahead.{way-past}
+use Rattle.mappings.proofs.Search.{find-none, find-here, find-past}
 use Rattle.mappings.proofs.Compared.{compared-none, compared-least, compared-here, compared-past, compared-small, search-reports}
 use Rattle.mappings.proofs.list.find_free_region.Statement.{statement}
 use Rattle.mappings.proofs.list.find_free_region.Tie as tie
