@@ -8,7 +8,7 @@ use Rattle.answer.specs.declared.Answer.{Answer}
 use Rattle.answer.specs.declared.Answer.the-variants.{Met, Refused}
 use Rattle.address.specs.declared.FrameAnswer.{FrameAnswer}
 use Rattle.address.specs.declared.FrameAnswer.the-variants.{AtFrame, NoFrame}
-use Rattle.frame.specs.Frames.{Frames, addressEnd, init, takeFrame}
+use Rattle.frame.specs.Frames.{Frames, frames, addressEnd, isLevels, withLevels, init, takeFrame}
 use Rattle.answer.specs.declared.Outcome.{Outcome}
 use Rattle.answer.specs.declared.Outcome.the-variants.{Value, Stop}
 use Rattle.paging.specs.Map.{Memory, memory, zeroFrame}
@@ -57,16 +57,23 @@ ready b Met fr =
     unless (leb (fr .fa .total * 512) (length (b .mem .words))) (boardDid (Stop brokenRecord) b)
     (rooted b (takeFrame fr .answer) (takeFrame fr .frames))
 
--- 'runs `FrameAllocator::init`, takes the lowest frame as root (11 if total is 0), zeroes it, and makes the vmalloc window one free region'. A refused start changes nothing
-unfoldable pub start : Board → ℕ → ℕ → BoardDid
-start b from to = ready b (init (b .mem .frames) from to .answer) (init (b .mem .frames) from to .frames)
+-- the allocator of a board of n levels
+abbrev pub withFrameLevels : Frames → ℕ → Frames
+withFrameLevels fr n = frames (fr .bits) (withLevels (fr .fa) n)
 
--- The same told before anything is written, as code has to: what a start answers by the words lent and the two addresses (law `start-refused` of proofs/Steps).
+-- 'A board is started with 4 or 5 levels .. Another number, at the start .., is refused with 10'. It 'runs `FrameAllocator::init`, takes the lowest frame as root (11 if total is 0), zeroes it, and makes the vmalloc window one free region'. A refused start changes nothing
+unfoldable pub start : Board → ℕ → ℕ → ℕ → BoardDid
+start b from to levels =
+    unless (isLevels levels) (boardDid (Stop brokenRecord) b)
+    (ready b (init (b .mem .frames) from to .answer) (withFrameLevels (init (b .mem .frames) from to .frames) levels))
+
+-- The same told before anything is written, as code has to: what a start answers by the words lent, the two addresses and the levels (law `start-refused` of proofs/Outcomes).
 abbrev pub frameCount : ℕ → ℕ → ℕ
 frameCount from to = min ((to - from) / 4096) 8192
 
-unfoldable pub mayStart : ℕ → ℕ → ℕ → Answer
-mayStart len from to =
-    unless (both (leb from to) (leb to addressEnd)) (Refused brokenRecord)
+unfoldable pub mayStart : ℕ → ℕ → ℕ → ℕ → Answer
+mayStart len from to levels =
+    unless (isLevels levels) (Refused brokenRecord)
+    (unless (both (leb from to) (leb to addressEnd)) (Refused brokenRecord)
     (unless (leb (frameCount from to * 512) len) (Refused brokenRecord)
-    (pick (eqb (frameCount from to) 0) (Refused noFreeFrame) Met))
+    (pick (eqb (frameCount from to) 0) (Refused noFreeFrame) Met)))

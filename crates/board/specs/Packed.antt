@@ -86,7 +86,7 @@ packedBy p (Value x) b = record { answer = Met; board = boardOut b }
 packedBy p (Stop n) b = record { answer = Refused n; board = p }
 
 -- 10 and nothing changed where a list has another length
-unfoldable pub startOn : BoardBytes → ℕ → ℕ → StartedBytes
-startOn p from to =
+unfoldable pub startOn : BoardBytes → ℕ → ℕ → ℕ → StartedBytes
+startOn p from to levels =
     unless (listsLong p) (record { answer = Refused brokenRecord; board = p })
-    (let d = start (boardIn p) from to in packedBy p (d .answer) (d .board))
+    (let d = start (boardIn p) from to levels in packedBy p (d .answer) (d .board))

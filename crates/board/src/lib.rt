@@ -39,9 +39,12 @@ fn frame_count(from: u64, to: u64) -> u64
 }
 
 // Whether a board with `len` words can start: 10 or 11, before anything is written.
-fn may_start(len: usize, from: u64, to: u64) -> Answer
-    ensures { λ r. ⌜ r ≡ mayStart len from to ⌝ }
+fn may_start(len: usize, from: u64, to: u64, levels: u64) -> Answer
+    ensures { λ r. ⌜ r ≡ mayStart len from to levels ⌝ }
 {
+    if !frame::is_levels(levels) {
+        return Answer::Refused(answer::BROKEN_RECORD);
+    }
     if from > to {
         return Answer::Refused(answer::BROKEN_RECORD);
     }
@@ -81,18 +84,20 @@ fn begin(
     records: Records,
     from: u64,
     to: u64,
+    levels: u64,
 ) -> Records
-    requires { ⌜ mayStart (length (now words)) from to ≡ Answer.Met ⌝ }
+    requires { ⌜ mayStart (length (now words)) from to levels ≡ Answer.Met ⌝ }
     requires { ⌜ listsLong (boardBytes (now words) (now bitmap) (now kernel) (now user) (now marked) records) ≡ true ⌝ }
     ensures { λ r. ⌜ boardBytes (now (words .exit)) (now (bitmap .exit)) (now (kernel .exit)) (now (user .exit)) (now (marked .exit)) r
         ≡ boardOut (startOf (boardOf (now (words .entry)) (now (bitmap .entry)) (now (kernel .entry)) (now (user .entry)) (now (marked .entry)) records)
-        from to .board) ⌝ }
+        from to levels .board) ⌝ }
     ensures { λ r. ⌜ BoardStands (boardBytes (now (words .exit)) (now (bitmap .exit)) (now (kernel .exit)) (now (user .exit)) (now (marked .exit)) r)
-        (startOf (boardOf (now (words .entry)) (now (bitmap .entry)) (now (kernel .entry)) (now (user .entry)) (now (marked .entry)) records) from to .board) ⌝ }
+        (startOf (boardOf (now (words .entry)) (now (bitmap .entry)) (now (kernel .entry)) (now (user .entry)) (now (marked .entry)) records) from to levels .board) ⌝ }
 {
     let old = records.frames;
     let fresh = frame::held::init(old, bitmap, from, to);
-    let unused = fresh.frames;
+    let mut unused = fresh.frames;
+    unused.levels = levels;
     let root = unused.start;
     let frames = frame::inner::mark_frame(bitmap, unused, root);
     tables::zero_frame(words, 0);
@@ -115,12 +120,13 @@ pub fn start(
     records: Records,
     from: u64,
     to: u64,
+    levels: u64,
 ) -> Started
     ensures { λ r. ⌜ startedBytes r (now (words .exit)) (now (bitmap .exit)) (now (kernel .exit)) (now (user .exit)) (now (marked .exit))
-        ≡ startOn (boardBytes (now (words .entry)) (now (bitmap .entry)) (now (kernel .entry)) (now (user .entry)) (now (marked .entry)) records) from to ⌝ }
+        ≡ startOn (boardBytes (now (words .entry)) (now (bitmap .entry)) (now (kernel .entry)) (now (user .entry)) (now (marked .entry)) records) from to levels ⌝ }
     ensures { λ r. ⌜ (r .answer ≡ Answer.Met
         → BoardStands (boardBytes (now (words .exit)) (now (bitmap .exit)) (now (kernel .exit)) (now (user .exit)) (now (marked .exit)) (r .records))
-        (startOf (boardOf (now (words .entry)) (now (bitmap .entry)) (now (kernel .entry)) (now (user .entry)) (now (marked .entry)) records) from to .board)) ⌝ }
+        (startOf (boardOf (now (words .entry)) (now (bitmap .entry)) (now (kernel .entry)) (now (user .entry)) (now (marked .entry)) records) from to levels .board)) ⌝ }
 {
     if !are_long(kernel.len(), user.len(), marked.len()) {
         return Started {
@@ -128,14 +134,24 @@ pub fn start(
             records,
         };
     }
-    match may_start(words.len(), from, to) {
+    match may_start(words.len(), from, to, levels) {
         Answer::Refused(n) => Started {
             answer: Answer::Refused(n),
             records,
         },
         Answer::Met => Started {
             answer: Answer::Met,
-            records: begin(words, bitmap, kernel, user, marked, records, from, to),
+            records: begin(
+                words,
+                bitmap,
+                kernel,
+                user,
+                marked,
+                records,
+                from,
+                to,
+                levels,
+            ),
         },
     }
 }

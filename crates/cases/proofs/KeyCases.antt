@@ -1,5 +1,5 @@
 -- The key cases hold.
-use Prim.Native.Nat.{ℕ, _%_}
+use Prim.Native.Nat.{ℕ, zero, suc, _%_}
 use mathlib.Core.Path.{_≡_, refl, ap, subst}
 use mathlib.Core.Bool.{Bool, true, false, false≢true}
 use mathlib.Core.List.{List, [], _∷_}
@@ -18,15 +18,16 @@ use Rattle.answer.specs.declared.FlagAnswer.the-variants.{Flag}
 use Rattle.slots.specs.Slots.{listed, every}
 use Rattle.regions.specs.Regions.{window, firstFit}
 use Rattle.regions.specs.Regions.{noVmRegion}
-use Rattle.vmalloc.specs.Calls.{vmalloc}
+use Rattle.vmalloc.specs.Calls.{soundKernel, vmalloc}
 use Rattle.mappings.specs.declared.MappedRegion.{MappedRegion}
 use Rattle.mappings.specs.Regions.{userStart, emptySlots, inTheWay, searchFrom, risingFrom, wellPlacedMapping, soundMappings, holds}
 use Rattle.mmap.specs.Calls.{User, onPage, soundUser, mmap, munmap}
 use Rattle.mappings.proofs.Rising.{holds-one}
 use Rattle.board.specs.Board.{Board, BoardDid, boardDid, start}
 use Rattle.board.proofs.Outcomes.{start-cases}
+use Rattle.release.specs.Calls.{kernelOf}
 use Rattle.release.proofs.Sound.{kernel-sound}
-use Rattle.release.proofs.Run.{fresh-inv}
+use Rattle.release.proofs.Run.{fresh-inv, some-levels}
 use Rattle.cases.specs.KeyCases.{KeyCases}
 
 -- a region of two pages has no other size
@@ -61,14 +62,19 @@ pub record Fresh (b : Board) : Type 0 where
   pub user : b .user ≡ emptySlots
   pub next : b .next ≡ userStart
 
-fresh-lists : (old fresh : Board) (from to : ℕ) → start old from to ≡ boardDid (Value 0) fresh → Fresh fresh
-fresh-lists old fresh from to =
-    start-cases old from to (λ (d : BoardDid). d ≡ boardDid (Value 0) fresh → Fresh fresh)
-    (λ _ _ _ _ e. subst Fresh (ap (λ (d : BoardDid). d .board) e) (record { kernel = refl; user = refl; next = refl }))
+fresh-lists : (old fresh : Board) (from to levels : ℕ) → start old from to levels ≡ boardDid (Value 0) fresh → Fresh fresh
+fresh-lists old fresh from to levels =
+    start-cases old from to levels (λ (d : BoardDid). d ≡ boardDid (Value 0) fresh → Fresh fresh)
+    (λ _ _ _ _ _ e. subst Fresh (ap (λ (d : BoardDid). d .board) e) (record { kernel = refl; user = refl; next = refl }))
     (λ e. absurd (refused (ap (λ (d : BoardDid). d .answer) e))) (λ e. absurd (refused (ap (λ (d : BoardDid). d .answer) e)))
   where
     refused : {n : ℕ} → Stop n ≡ Value 0 → ⊥
     refused q = let z : _≡_ {A = ℕ} 0 1 = cc in omega arith
+
+-- and it is not broken
+fresh-sound : (old fresh : Board) (from to levels : ℕ) → start old from to levels ≡ boardDid (Value 0) fresh → soundKernel (kernelOf fresh) (fresh .root) ≡ true
+fresh-sound old fresh from to zero h = absurd (some-levels old fresh from to h)
+fresh-sound old fresh from to (suc up) h = kernel-sound (fresh-inv old fresh from to up h)
 
 pub key-cases : KeyCases
 unfolding rounded init isAllocated inTheWay searchFrom firstFit vmalloc mmap munmap
@@ -84,8 +90,8 @@ key-cases = record {
     rw h (ap Flag (reads-outside fr 255 (inside-low (fr .fa .start) (fr .fa .total) 255 (omega arith)))),
     rw h (ap Flag (reads-outside fr 8448 (inside-high (fr .fa .start) (fr .fa .total) 8448 (omega arith) (omega arith)))),
   );
-  k9 = λ old fresh from to h. let f = fresh-lists old fresh from to h in (rw (f .user, f .next), rw (f .user, f .next));
-  k10 = λ old fresh from to h. let f = fresh-lists old fresh from to h in rw (kernel-sound (fresh-inv old fresh from to h), ap listed (f .kernel));
+  k9 = λ old fresh from to levels h. let f = fresh-lists old fresh from to levels h in (rw (f .user, f .next), rw (f .user, f .next));
+  k10 = λ old fresh from to levels h. let f = fresh-lists old fresh from to levels h in rw (fresh-sound old fresh from to levels h, ap listed (f .kernel));
   k11 = λ s root a h g. let e = sound-start s root a 8192 h g in (rw (h, e, g), rw (h, e, one-size a _ g));
   k12 = λ s root hint prot flags h. rw h;
 }

@@ -12,15 +12,14 @@ use Rattle.allocator.specs.Round.{rounded}
 use Rattle.entry.specs.Entry.{indices, entryOf, hugeEntryOf}
 use Rattle.frame.specs.Frames.{Frames, init, sound, isAllocated}
 use Rattle.slots.specs.Slots.{listed}
-use Rattle.vmalloc.specs.Calls.{vmalloc}
+use Rattle.vmalloc.specs.Calls.{vmallocOf}
 use Rattle.vmalloc.specs.Calls.{kernelDid}
 use Rattle.mappings.specs.Regions.{userStart, findFree, holds}
 use Rattle.mmap.specs.declared.OptAddr.{OptAddr}
-use Rattle.mmap.specs.Calls.{User, soundUser, mmap, munmap}
+use Rattle.mmap.specs.Calls.{User, soundUser, mmapOf, munmapOf}
 use Rattle.mmap.specs.Calls.{userDid}
 use Rattle.board.specs.Board.{Board, boardDid, start}
 use Rattle.release.specs.Calls.{kernelOf}
-use Rattle.paging.specs.Levels.{aboveLast}
 
 pub record KeyCases : Type 0 where
   -- K1 4096 rounds to 4096
@@ -40,13 +39,13 @@ pub record KeyCases : Type 0 where
   -- K8 with 8192 frames from 256, frames 255 and 8448 read allocated
   pub k8 : (fr : Frames) → fr .fa .start ≡ 256 → fr .fa .total ≡ 8192 → sound fr ≡ true → (isAllocated fr 255 ≡ Flag true) × (isAllocated fr 8448 ≡ Flag true)
   -- K9 fresh search: 0x6FFFFFFFE000 found, 0x6FFFFFFFF000 is 15. Fresh is what a met start leaves
-  pub k9 : (old fresh : Board) (from to : ℕ) → start old from to ≡ boardDid (Value 0) fresh
+  pub k9 : (old fresh : Board) (from to levels : ℕ) → start old from to levels ≡ boardDid (Value 0) fresh
       → (findFree (listed (fresh .user)) (fresh .next) 0x6FFF_FFFF_E000 ≡ Value userStart) × (findFree (listed (fresh .user)) (fresh .next) 0x6FFF_FFFF_F000 ≡ Stop noRegion)
   -- K10 fresh vmalloc of 2^37+1 bytes: 15
-  pub k10 : (old fresh : Board) (from to : ℕ) → start old from to ≡ boardDid (Value 0) fresh
-      → vmalloc aboveLast (kernelOf fresh) (fresh .root) (2 ^ 37 + 1) ≡ kernelDid (Stop noRegion) (kernelOf fresh)
+  pub k10 : (old fresh : Board) (from to levels : ℕ) → start old from to levels ≡ boardDid (Value 0) fresh
+      → vmallocOf (kernelOf fresh) (fresh .root) (2 ^ 37 + 1) ≡ kernelDid (Stop noRegion) (kernelOf fresh)
   -- K11 a two-page region: munmap with 4097 met, with 4096 is 16
   pub k11 : (s : User) (root a : ℕ) → soundUser s root ≡ true → holds a 8192 (listed (s .regions)) ≡ true
-      → (munmap aboveLast s root a 4097 .answer ≡ Value 0) × (munmap aboveLast s root a 4096 ≡ userDid (Stop regionNotFound) s)
+      → (munmapOf s root a 4097 .answer ≡ Value 0) × (munmapOf s root a 4096 ≡ userDid (Stop regionNotFound) s)
   -- K12 mmap size 2^64−4095: 3
-  pub k12 : (s : User) (root : ℕ) (hint : OptAddr) (prot flags : ℤ) → soundUser s root ≡ true → mmap aboveLast s root hint (2 ^ 64 - 4095) prot flags ≡ userDid (Stop tooLarge) s
+  pub k12 : (s : User) (root : ℕ) (hint : OptAddr) (prot flags : ℤ) → soundUser s root ≡ true → mmapOf s root hint (2 ^ 64 - 4095) prot flags ≡ userDid (Stop tooLarge) s

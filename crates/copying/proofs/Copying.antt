@@ -4,6 +4,7 @@ use mathlib.Core.Path.{_≡_, refl, sym, _∙_, ap, subst}
 use mathlib.Core.Bool.{Bool, true, false}
 use mathlib.Core.List.{List}
 use native.Mathlib.Nat.{mod-eq-of-lt}
+use native.Mathlib.Numerals.{add-one}
 use native.Mathlib.Omega.{arith}
 use lib.ListN.{length, getD, set, take, length-set, length-take}
 use Rattle.bits.proofs.Choice.{pick-cases}
@@ -25,7 +26,7 @@ use Rattle.frame.proofs.Laws.{inside-yes, inside-from, inside-under, take-cases
 use Rattle.tables.proofs.Laws.{stepped}
 use Rattle.answer.specs.declared.Outcome.{Outcome}
 use Rattle.answer.specs.declared.Outcome.the-variants.{Value, Stop}
-use Rattle.paging.specs.Walk.{place}
+use Rattle.paging.specs.Walk.{place, leaf, address}
 use Rattle.paging.specs.Map.{Memory, memory, startFrame, totalOf, Out, out, goOn, RoomToTake}
 use Rattle.paging.specs.Calls.{asChanged, mapAt}
 use Rattle.address.specs.Address.{asPhys}
@@ -161,6 +162,10 @@ phys-none (Value x) e = let z : _≡_ {A = ℕ} 0 1 = cc in absurd (omega arith)
 phys-none (Stop n) e = cc
 
 module _ (up : ℕ) (m : Memory) (root v : ℕ) where
+  -- code walks along up + 1 levels
+  pub walk-up : asPhys (address v (leaf (m .words) (startFrame m) (totalOf m) root (indices (up + 1) v))) ≡ asPhys (translated up m root v)
+  walk-up = rw (add-one up)
+
   pub cleared-there : (a : ℕ) → translated up m root v ≡ Value a → clearedIfMapped up m root v ≡ clearPage up m root v
   cleared-there a e = rw e
 

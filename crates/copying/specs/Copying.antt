@@ -1,4 +1,4 @@
--- The copy of a copy-on-write page, and the two steps that demand paging shares with it: a frame taken, and a page mapped to it. A board has `up` levels above the last; document 01's has 3.
+-- The copy of a copy-on-write page, and the two steps that demand paging shares with it: a frame taken, and a page mapped to it. A board has `up` levels above the last.
 use Prim.Native.Nat.{ℕ, zero, suc, _*_, _/_, _^_}
 use mathlib.Core.Bool.{Bool, true, false}
 use mathlib.Core.List.{List}

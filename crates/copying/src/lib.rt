@@ -17,7 +17,7 @@ ghost use Prim.Native.Nat.{ℕ, _+_, _*_, _^_, _<_, _≤_};
 ghost use lib.ListN.{length};
 ghost use Rattle.frame.specs.Frames.{inside, RoomToCount};
 ghost use Rattle.paging.specs.Walk.{WordsLent};
-ghost use Rattle.paging.specs.Levels.{aboveLast};
+ghost use Rattle.paging.specs.Levels.{mostAbove};
 ghost use Rattle.paging.specs.Map.{out, RoomToTake};
 ghost use Rattle.paging.specs.Kept.{lentMemory};
 ghost use Rattle.copying.specs.Copying.{rawFrame, mapFrame, clearedIfMapped, copyWords, copiedFrom, copyPage, remapped, copyTo, copyOnWrite, outOf};
@@ -50,19 +50,21 @@ pub fn map_frame(
     words: &mut [u64],
     bitmap: &mut Marks,
     frames: FrameAllocator,
+    up: u64,
     root: Frame,
     virt: VirtAddr,
     f: u64,
     writable: bool,
     user: bool,
 ) -> Entered
-    requires { ⌜ RoomToTake (lentMemory (now words) (now bitmap) frames) aboveLast ⌝ }
+    requires { ⌜ RoomToTake (lentMemory (now words) (now bitmap) frames) mostAbove ⌝ }
     requires { ⌜ f < 2 ^ 40 ⌝ }
+    requires { ⌜ up ≤ mostAbove ⌝ }
     ensures { λ r. ⌜ outOf r (now (words .exit)) (now (bitmap .exit))
-        ≡ mapFrame aboveLast (lentMemory (now (words .entry)) (now (bitmap .entry)) frames) (root .0) (virt .0) f writable user ⌝ }
+        ≡ mapFrame up (lentMemory (now (words .entry)) (now (bitmap .entry)) frames) (root .0) (virt .0) f writable user ⌝ }
 {
     let e = PageTableEntry::set(PhysAddr(Frame(f).start_address()), writable, user);
-    let mapped = mapper::inner::map_entry(words, bitmap, frames, root, virt, 3, user, e.0);
+    let mapped = mapper::inner::map_entry(words, bitmap, frames, up, root, virt, up, user, e.0);
     let answer = mapped.answer;
     let left = mapped.frames;
     match answer {
@@ -89,14 +91,15 @@ fn copy_words(words: &mut [u64], from: usize, to: usize)
 }
 
 // A page unmapped where it is mapped.
-fn clear_if_mapped(words: &mut [u64], frames: FrameAllocator, root: Frame, virt: VirtAddr)
+fn clear_if_mapped(words: &mut [u64], frames: FrameAllocator, up: u64, root: Frame, virt: VirtAddr)
     requires { ⌜ WordsLent (now words) (frames .start) (frames .total) ⌝ }
+    requires { ⌜ up ≤ mostAbove ⌝ }
     ensures { λ _. ⌜ ((b : List ℕ) → lentMemory (now (words .exit)) b frames
-        ≡ clearedIfMapped aboveLast (lentMemory (now (words .entry)) b frames) (root .0) (virt .0)) ⌝ }
+        ≡ clearedIfMapped up (lentMemory (now (words .entry)) b frames) (root .0) (virt .0)) ⌝ }
 {
-    match walk::walk(words, frames.start, frames.total, root, virt) {
+    match walk::walk(words, frames.start, frames.total, up + 1, root, virt) {
         PhysAnswer::AtPhys(_) => {
-            pages::clear_page(words, frames, root, virt);
+            pages::clear_page(words, frames, up, root, virt);
         }
         PhysAnswer::NoPhys(_) => {}
     }
@@ -106,16 +109,18 @@ fn clear_if_mapped(words: &mut [u64], frames: FrameAllocator, root: Frame, virt:
 fn copy_from(
     words: &mut [u64],
     frames: FrameAllocator,
+    up: u64,
     root: Frame,
     page: VirtAddr,
     f: u64,
 ) -> Outcome
     requires { ⌜ WordsLent (now words) (frames .start) (frames .total) ⌝ }
     requires { ⌜ inside (frames .start) (frames .total) f ≡ true ⌝ }
+    requires { ⌜ up ≤ mostAbove ⌝ }
     ensures { λ r. ⌜ ((b : List ℕ) → out r (lentMemory (now (words .exit)) b frames)
-        ≡ copiedFrom aboveLast (lentMemory (now (words .entry)) b frames) (root .0) (page .0) f) ⌝ }
+        ≡ copiedFrom up (lentMemory (now (words .entry)) b frames) (root .0) (page .0) f) ⌝ }
 {
-    match walk::walk(words, frames.start, frames.total, root, page) {
+    match walk::walk(words, frames.start, frames.total, up + 1, root, page) {
         PhysAnswer::NoPhys(_) => Outcome::Stop(answer::PAGE_TABLE_ERROR),
         PhysAnswer::AtPhys(a) => {
             let old = Frame::containing_address(a.0).0;
@@ -135,18 +140,20 @@ fn copy_page(
     words: &mut [u64],
     bitmap: &mut Marks,
     frames: FrameAllocator,
+    up: u64,
     root: Frame,
     page: VirtAddr,
     f: u64,
 ) -> Entered
-    requires { ⌜ RoomToTake (lentMemory (now words) (now bitmap) frames) aboveLast ⌝ }
+    requires { ⌜ RoomToTake (lentMemory (now words) (now bitmap) frames) mostAbove ⌝ }
     requires { ⌜ inside (frames .start) (frames .total) f ≡ true ⌝ }
+    requires { ⌜ up ≤ mostAbove ⌝ }
     ensures { λ r. ⌜ outOf r (now (words .exit)) (now (bitmap .exit))
-        ≡ copyPage aboveLast (lentMemory (now (words .entry)) (now (bitmap .entry)) frames) (root .0) (page .0) f ⌝ }
+        ≡ copyPage up (lentMemory (now (words .entry)) (now (bitmap .entry)) frames) (root .0) (page .0) f ⌝ }
 {
     let temp = VirtAddr(TEMP_MAP_ADDR);
-    clear_if_mapped(words, frames, root, temp);
-    let mapped = map_frame(words, bitmap, frames, root, temp, f, true, false);
+    clear_if_mapped(words, frames, up, root, temp);
+    let mapped = map_frame(words, bitmap, frames, up, root, temp, f, true, false);
     let walked = mapped.walked;
     let left = mapped.frames;
     match walked {
@@ -155,8 +162,8 @@ fn copy_page(
             frames: left,
         },
         Outcome::Value(_) => {
-            let copied = copy_from(words, left, root, page, f);
-            pages::clear_page(words, left, root, temp);
+            let copied = copy_from(words, left, up, root, page, f);
+            pages::clear_page(words, left, up, root, temp);
             Entered {
                 walked: copied,
                 frames: left,
@@ -170,18 +177,20 @@ fn remap_page(
     words: &mut [u64],
     bitmap: &mut Marks,
     frames: FrameAllocator,
+    up: u64,
     root: Frame,
     page: VirtAddr,
     f: u64,
     user: bool,
 ) -> Entered
-    requires { ⌜ RoomToTake (lentMemory (now words) (now bitmap) frames) aboveLast ⌝ }
+    requires { ⌜ RoomToTake (lentMemory (now words) (now bitmap) frames) mostAbove ⌝ }
     requires { ⌜ f < 2 ^ 40 ⌝ }
+    requires { ⌜ up ≤ mostAbove ⌝ }
     ensures { λ r. ⌜ outOf r (now (words .exit)) (now (bitmap .exit))
-        ≡ remapped aboveLast (lentMemory (now (words .entry)) (now (bitmap .entry)) frames) (root .0) (page .0) f user ⌝ }
+        ≡ remapped up (lentMemory (now (words .entry)) (now (bitmap .entry)) frames) (root .0) (page .0) f user ⌝ }
 {
-    let left = pages::free_page(words, bitmap, frames, root, page);
-    map_frame(words, bitmap, left, root, page, f, true, user)
+    let left = pages::free_page(words, bitmap, frames, up, root, page);
+    map_frame(words, bitmap, left, up, root, page, f, true, user)
 }
 
 // A page that is written to gets a frame of its own, with its words.
@@ -189,13 +198,15 @@ pub fn copy_on_write(
     words: &mut [u64],
     bitmap: &mut Marks,
     frames: FrameAllocator,
+    up: u64,
     root: Frame,
     page: VirtAddr,
     user: bool,
 ) -> Entered
-    requires { ⌜ RoomToTake (lentMemory (now words) (now bitmap) frames) (1 + 2 * aboveLast) ⌝ }
+    requires { ⌜ RoomToTake (lentMemory (now words) (now bitmap) frames) (1 + 2 * mostAbove) ⌝ }
+    requires { ⌜ up ≤ mostAbove ⌝ }
     ensures { λ r. ⌜ outOf r (now (words .exit)) (now (bitmap .exit))
-        ≡ copyOnWrite aboveLast (lentMemory (now (words .entry)) (now (bitmap .entry)) frames) (root .0) (page .0) user ⌝ }
+        ≡ copyOnWrite up (lentMemory (now (words .entry)) (now (bitmap .entry)) frames) (root .0) (page .0) user ⌝ }
 {
     let taken = raw_frame(bitmap, frames);
     let walked = taken.walked;
@@ -205,7 +216,7 @@ pub fn copy_on_write(
             walked: Outcome::Stop(n),
             frames: left,
         },
-        Outcome::Value(f) => copy_to(words, bitmap, left, root, page, f, user),
+        Outcome::Value(f) => copy_to(words, bitmap, left, up, root, page, f, user),
     }
 }
 
@@ -214,17 +225,19 @@ fn copy_to(
     words: &mut [u64],
     bitmap: &mut Marks,
     frames: FrameAllocator,
+    up: u64,
     root: Frame,
     page: VirtAddr,
     f: u64,
     user: bool,
 ) -> Entered
-    requires { ⌜ RoomToTake (lentMemory (now words) (now bitmap) frames) (2 * aboveLast) ⌝ }
+    requires { ⌜ RoomToTake (lentMemory (now words) (now bitmap) frames) (2 * mostAbove) ⌝ }
     requires { ⌜ inside (frames .start) (frames .total) f ≡ true ⌝ }
+    requires { ⌜ up ≤ mostAbove ⌝ }
     ensures { λ r. ⌜ outOf r (now (words .exit)) (now (bitmap .exit))
-        ≡ copyTo aboveLast (lentMemory (now (words .entry)) (now (bitmap .entry)) frames) (root .0) (page .0) f user ⌝ }
+        ≡ copyTo up (lentMemory (now (words .entry)) (now (bitmap .entry)) frames) (root .0) (page .0) f user ⌝ }
 {
-    let copied = copy_page(words, bitmap, frames, root, page, f);
+    let copied = copy_page(words, bitmap, frames, up, root, page, f);
     let walked = copied.walked;
     let left = copied.frames;
     match walked {
@@ -232,6 +245,6 @@ fn copy_to(
             walked: Outcome::Stop(n),
             frames: left,
         },
-        Outcome::Value(_) => remap_page(words, bitmap, left, root, page, f, user),
+        Outcome::Value(_) => remap_page(words, bitmap, left, up, root, page, f, user),
     }
 }

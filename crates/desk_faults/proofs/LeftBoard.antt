@@ -27,11 +27,11 @@ use Rattle.layout.specs.Memory.{plainLine}
 use Rattle.layout.proofs.Left.{broken-left, unchanged-left}
 use Rattle.desk_faults.specs.Board.{BoardParts, boardParts, boardFit, boardOfParts, boardPacked, leftOf, startLeft, packedStart}
 
-module _ (words fields bits : List ℕ) (root : ℕ) (kernel user marked : List ℕ) (from to : ℕ) where
+module _ (words fields bits : List ℕ) (root : ℕ) (kernel user marked : List ℕ) (from to levels : ℕ) where
   abbrev lent : BoardParts
   lent = boardParts words fields bits root kernel user marked
 
-  pub start-broken : {r : Line} → fieldsFit fields ≡ false → r ≡ brokenLine → left r lent ≡ packedStart lent from to
+  pub start-broken : {r : Line} → fieldsFit fields ≡ false → r ≡ brokenLine → left r lent ≡ packedStart lent from to levels
   unfolding packedStart
   start-broken h e = broken-left {ok = boardFit lent} lent _ (rw h refl) e
 
@@ -55,31 +55,31 @@ module _ (words fields bits : List ℕ) (root : ℕ) (kernel user marked : List 
     abbrev given : BoardBytes
     given = boardBytes words bits kernel user marked none
 
-    started : (a : Answer) → mayStart (length words) from to ≡ a
-        → let d = start (boardIn given) from to in wrote (packedBy given (d .answer) (d .board)) ≡ startLeft lent (start (boardOfParts lent) from to)
-    started Met e = rw (start-met (boardIn given) from to e, start-met (boardOfParts lent) from to e) refl
-    started (Refused n) e = rw (start-stopped (boardIn given) from to n e, start-stopped (boardOfParts lent) from to n e) refl
+    started : (a : Answer) → mayStart (length words) from to levels ≡ a
+        → let d = start (boardIn given) from to levels in wrote (packedBy given (d .answer) (d .board)) ≡ startLeft lent (start (boardOfParts lent) from to levels)
+    started Met e = rw (start-met (boardIn given) from to levels e, start-met (boardOfParts lent) from to levels e) refl
+    started (Refused n) e = rw (start-stopped (boardIn given) from to levels n e, start-stopped (boardOfParts lent) from to levels n e) refl
 
     tested : (ok : Bool) → fieldsFit fields ≡ true
-        → let d = start (boardIn given) from to in
+        → let d = start (boardIn given) from to levels in
         wrote (unless ok (record { answer = Refused brokenRecord; board = given }) (packedBy given (d .answer) (d .board)))
-        ≡ unlessFit (both (fieldsFit fields) ok) lent (startLeft lent (start (boardOfParts lent) from to))
-    tested true fit = rw fit (started (mayStart (length words) from to) refl)
+        ≡ unlessFit (both (fieldsFit fields) ok) lent (startLeft lent (start (boardOfParts lent) from to levels))
+    tested true fit = rw fit (started (mayStart (length words) from to levels) refl)
     tested false fit = rw fit refl
 
     pub start-did : {ws fs ks us ms : List ℕ} (bs : List ℕ) {rt : ℕ} {x : Started} {r : Line} → fieldsFit fields ≡ true
-        → startedBytes x ws bs ks us ms ≡ startOn given from to → r ≡ answerLine (x .answer)
+        → startedBytes x ws bs ks us ms ≡ startOn given from to levels → r ≡ answerLine (x .answer)
         → (fs ≡ leftOf (x .answer) fields (fieldsOut (x .records .frames))) × (rt ≡ leftOf (x .answer) root (x .records .root .0))
-        → left r (boardParts ws fs bs rt ks us ms) ≡ packedStart lent from to
+        → left r (boardParts ws fs bs rt ks us ms) ≡ packedStart lent from to levels
     unfolding packedStart startOn
     start-did {ws = ws} {ks = ks} {us = us} {ms = ms} bs fit e r (fs, rt) =
         (λ j. left (r j) (boardParts ws (fs j) bs (rt j) ks us ms)) ∙ ap wrote e ∙ tested (both (eqb (length kernel) vmSize) (both (mmapFit user) (markedFit marked))) fit
 
   -- 10 and 11
-  pub start-refused : Unchanged noLeftovers lent (packedStart lent from to)
+  pub start-refused : Unchanged noLeftovers lent (packedStart lent from to levels)
   unfolding packedStart
-  start-refused = unchanged-left noLeftovers (boardFit lent) lent _ (λ _. by (start (boardOfParts lent) from to .answer))
+  start-refused = unchanged-left noLeftovers (boardFit lent) lent _ (λ _. by (start (boardOfParts lent) from to levels .answer))
     where
-      by : (w : Outcome) → IsRefusal noLeftovers (plainLine w .number) → leftOf (asAnswer w) lent (boardPacked (start (boardOfParts lent) from to .board)) ≡ lent
+      by : (w : Outcome) → IsRefusal noLeftovers (plainLine w .number) → leftOf (asAnswer w) lent (boardPacked (start (boardOfParts lent) from to levels .board)) ≡ lent
       by (Value x) h = absurd (h refl)
       by (Stop n) h = refl

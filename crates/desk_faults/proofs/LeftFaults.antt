@@ -33,9 +33,9 @@ use Rattle.cow.specs.Packed.{markedIn, markedOut, markedFit, MarkedBytes, marke
 use Rattle.cow.proofs.RoundTrip.{marked-back}
 use Rattle.error_code.specs.ErrorCode.{isPresent, isWrite, isUser, isReserved, isFetch}
 use Rattle.copying.specs.Copying.{asTaken, rawFrame, onlyError, mapFrame, temporary, translated, clearedIfMapped, copied, copyPage, copyTo, copyOnWrite}
-use Rattle.fault.specs.Faults.{inHeap, valid, demandPage, Faulting, faulting, FaultDid, soundFaulting, unmarking, handled, handleFault}
+use Rattle.fault.specs.Faults.{inHeap, valid, demandPage, Faulting, faulting, FaultDid, soundFaulting, unmarking, handled, handleFault, handleFaultOf}
 use Rattle.fault.specs.Packed.{onPages}
-use Rattle.handler.specs.Handler.{overwrite, putOver, mapOver, handleFaultSecond}
+use Rattle.handler.specs.Handler.{overwrite, putOver, mapOver, handleFaultSecond, handleFaultSecondOf}
 use Rattle.layout.specs.Parts.{fieldsIn, fieldsOut, fieldsFit}
 use Rattle.layout.specs.Left.{left, brokenLine, IsRefusal, Unchanged, noLeftovers, faultLeftovers, secondLeftovers}
 use Rattle.layout.specs.Memory.{ListParts, listParts, plainLine, memoryParts}
@@ -83,7 +83,8 @@ module _ (call : Faulting → FaultDid) (words fields bits marked : List ℕ) wh
   unfolding onFault onPages
   fault-met = list-met answerLine words fields bits marked (λ (m : Memory). onPages call m marked) (markedFit marked) (Refused brokenRecord) _ refl refl
 
-  fault-unchanged : (leftovers : List ℕ) → Bytes fields → Bytes marked → ((s : Faulting) → IsRefusal leftovers (plainLine (call s .answer) .number) → call s .state ≡ s)
+  fault-unchanged : (leftovers : List ℕ) → Bytes fields → Bytes marked
+      → ((s : Faulting) → IsRefusal leftovers (plainLine (call s .answer) .number) → call s .state ≡ s)
       → Unchanged leftovers faultLent (onFault call faultLent)
   unfolding onFault
   fault-unchanged leftovers b c law =
@@ -219,7 +220,7 @@ second-clean up root addr code m =
 
 module _ (words fields bits : List ℕ) (b : Bytes fields) (root addr code : ℕ) where
   pub fault-refused : (marked : List ℕ) → Bytes marked → let p = listParts words fields bits marked in Unchanged faultLeftovers p (packedFault p root addr code)
-  fault-refused marked c = fault-unchanged (λ (s : Faulting). handleFault aboveLast s root addr code) words fields bits marked faultLeftovers b c (fault-clean aboveLast root addr code)
+  fault-refused marked c = fault-unchanged (λ (s : Faulting). handleFaultOf s root addr code) words fields bits marked faultLeftovers b c (λ s. fault-clean (aboveLast (s .mem)) root addr code s)
 
   pub second-refused : let p = memoryParts words fields bits in Unchanged secondLeftovers p (packedFaultSecond p root addr code)
-  second-refused = memory-unchanged (λ (m : Memory). handleFaultSecond aboveLast m root addr code) words fields bits secondLeftovers b (second-clean aboveLast root addr code)
+  second-refused = memory-unchanged (λ (m : Memory). handleFaultSecondOf m root addr code) words fields bits secondLeftovers b (λ m. second-clean (aboveLast m) root addr code m)

@@ -63,5 +63,5 @@ leftOf (Refused n) old new = old
 abbrev pub startLeft : BoardParts → BoardDid → Left BoardParts
 startLeft p d = left (plainLine (d .answer)) (leftOf (asAnswer (d .answer)) p (boardPacked (d .board)))
 
-unfoldable pub packedStart : BoardParts → ℕ → ℕ → Left BoardParts
-packedStart p from to = unlessFit (boardFit p) p (startLeft p (start (boardOfParts p) from to))
+unfoldable pub packedStart : BoardParts → ℕ → ℕ → ℕ → Left BoardParts
+packedStart p from to levels = unlessFit (boardFit p) p (startLeft p (start (boardOfParts p) from to levels))

@@ -6,12 +6,11 @@ use Rattle.bits.specs.Bit.{unless, both}
 use Rattle.answer.specs.Numbers.{answerLine, flagLine}
 use Rattle.answer.specs.declared.Line.{Line}
 use Rattle.paging.specs.Map.{Memory}
-use Rattle.paging.specs.Levels.{aboveLast}
 use Rattle.slots.specs.Slots.{Slots}
 use Rattle.cow.specs.Marked.{MarkedDid, markCow, unmarkCow, isCow}
 use Rattle.cow.specs.Packed.{markedIn, markedOut, markedFit}
-use Rattle.fault.specs.Faults.{Faulting, faulting, FaultDid, handleFault}
-use Rattle.handler.specs.Handler.{handleFaultSecond}
+use Rattle.fault.specs.Faults.{Faulting, faulting, FaultDid, handleFaultOf}
+use Rattle.handler.specs.Handler.{handleFaultSecondOf}
 use Rattle.layout.specs.Parts.{fieldsFit}
 use Rattle.layout.specs.Left.{Left, left, brokenLine, unlessFit}
 use Rattle.layout.specs.Memory.{plainLine, MemoryParts, ListParts, listMemory, listPacked, onMemory}
@@ -45,8 +44,8 @@ unfoldable pub onFault : (Faulting → FaultDid) → ListParts → Left ListPart
 onFault call p = unlessFit (faultFit p) p (left (plainLine (call (faultingIn p) .answer)) (faultPacked (call (faultingIn p) .state)))
 
 abbrev pub packedFault : ListParts → ℕ → ℕ → ℕ → Left ListParts
-packedFault p root addr code = onFault (λ (s : Faulting). handleFault aboveLast s root addr code) p
+packedFault p root addr code = onFault (λ (s : Faulting). handleFaultOf s root addr code) p
 
 -- the second path: no marked pages
 abbrev pub packedFaultSecond : MemoryParts → ℕ → ℕ → ℕ → Left MemoryParts
-packedFaultSecond p root addr code = onMemory (λ (m : Memory). handleFaultSecond aboveLast m root addr code) p
+packedFaultSecond p root addr code = onMemory (λ (m : Memory). handleFaultSecondOf m root addr code) p

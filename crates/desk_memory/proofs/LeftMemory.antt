@@ -1,5 +1,5 @@
 -- The one equation of each C function of the frame allocator and of the mapper, and what their refusals leave.
-use Prim.Native.Nat.{ℕ, suc}
+use Prim.Native.Nat.{ℕ, suc, _-_}
 use mathlib.Core.Path.{_≡_, refl, _∙_, ap}
 use mathlib.Core.Bool.{Bool, true, false}
 use mathlib.Core.List.{List}
@@ -21,10 +21,10 @@ use Rattle.frame.proofs.Laws.{init-cases, take-cases}
 use Rattle.answer.specs.declared.Outcome.{Outcome}
 use Rattle.answer.specs.declared.Outcome.the-variants.{Value, Stop}
 use Rattle.paging.specs.declared.HugePageSize.{HugePageSize}
-use Rattle.paging.specs.Levels.{aboveLast, levels}
-use Rattle.paging.specs.Walk.{mayWalk, place, reach}
+use Rattle.paging.specs.Levels.{aboveLast}
+use Rattle.paging.specs.Walk.{place, reach}
 use Rattle.paging.specs.Map.{Memory, Out, Left as Stored, left as stored, takeLeaf, unmapEntry}
-use Rattle.paging.specs.Calls.{whole, mapPage, sizeOf, tablesAbove, mapHuge, unmapPage}
+use Rattle.paging.specs.Calls.{whole, lentWalk, mapPage, mapPageOf, sizeOf, tablesAbove, mapHuge, mapHugeOf, unmapPage}
 use Rattle.layout.specs.Parts.{fieldsIn, fieldsOut, fieldsFit}
 use Rattle.layout.specs.Left.{left, brokenLine, IsRefusal, Unchanged, noLeftovers, tableLeftovers}
 use Rattle.layout.specs.Memory.{plainLine, memoryParts}
@@ -114,28 +114,31 @@ module _ (up : ℕ) (root v p : ℕ) (w u : Bool) (m : Memory) where
 
 module _ (words fields bits : List ℕ) (b : Bytes fields) (root v p : ℕ) (w u : Bool) where
   pub map-refused : Unchanged tableLeftovers (memoryParts words fields bits) (packedMapPage (memoryParts words fields bits) root v p w u)
-  map-refused = memory-unchanged (λ (m : Memory). mapPage aboveLast m root v p w u) words fields bits tableLeftovers b (λ m. map-clean aboveLast root v p w u m)
+  map-refused = memory-unchanged (λ (m : Memory). mapPageOf m root v p w u) words fields bits tableLeftovers b (λ m. map-clean (aboveLast m) root v p w u m)
 
   pub huge-refused : (s : HugePageSize) → Unchanged tableLeftovers (memoryParts words fields bits) (packedMapHuge (memoryParts words fields bits) root v p s w u)
-  huge-refused s = memory-unchanged (λ (m : Memory). mapHuge aboveLast m root v p s w u) words fields bits tableLeftovers b (λ m. huge-clean aboveLast root v p w u m s)
+  huge-refused s = memory-unchanged (λ (m : Memory). mapHugeOf m root v p s w u) words fields bits tableLeftovers b (λ m. huge-clean (aboveLast m) root v p w u m s)
 
 -- ---- unmap_page
 
-pub unmap-left : (ws : List ℕ) (start total root v : ℕ) {x : FrameAnswer} {rest : List ℕ} {r : Line}
-    → let d = unmapPage aboveLast ws start total root v in (x ≡ asFrame (d .walked)) × (rest ≡ d .words) → r ≡ frameLine x → left r rest ≡ leftUnmap ws start total root v
-unmap-left ws start total root v (x, w) r = λ j. left ((r ∙ ap frameLine x) j) (w j)
+pub unmap-left : (ws : List ℕ) (start total levels root v : ℕ) {x : FrameAnswer} {rest : List ℕ} {r : Line}
+    → let d = unmapPage levels ws start total root v in (x ≡ asFrame (d .walked)) × (rest ≡ d .words) → r ≡ frameLine x → left r rest ≡ leftUnmap ws start total levels root v
+unmap-left ws start total levels root v (x, w) r = λ j. left ((r ∙ ap frameLine x) j) (w j)
 
 -- its refusals: 10, 14 and 19
-pub unmap-refused : (ws : List ℕ) (start total root v : ℕ) → Unchanged noLeftovers ws (leftUnmap ws start total root v)
+pub unmap-refused : (ws : List ℕ) (start total levels root v : ℕ) → Unchanged noLeftovers ws (leftUnmap ws start total levels root v)
 unfolding unmapPage unmapEntry takeLeaf
-unmap-refused ws start total root v =
-    pick-cases Clean (mayWalk (length ws) start total root) _ _ (λ _. by (reach ws start total root (take aboveLast (indices levels v)))) (λ _ _. refl)
+unmap-refused ws start total levels root v =
+    pick-cases Clean (lentWalk levels (length ws) start total root) _ _ (λ _. by (reach ws start total root (take up (indices (suc up) v)))) (λ _ _. refl)
   where
+    up : ℕ
+    up = levels - 1
+
     Clean : Stored → Type 0
     Clean l = IsRefusal noLeftovers (frameLine (asFrame (l .walked)) .number) → l .words ≡ ws
 
-    by : (w : Outcome) → Clean (andThen w (λ n. stored (Stop n) ws) (λ t. takeLeaf ws start total t (getD (indices levels v) aboveLast 0)))
+    by : (w : Outcome) → Clean (andThen w (λ n. stored (Stop n) ws) (λ t. takeLeaf ws start total t (getD (indices (suc up) v) up 0)))
     by (Stop n) = λ _. refl
     by (Value t) =
         pick-cases Clean (inside start total t) _ _
-        (λ _. pick-cases Clean (flag 0 (getD ws (place start t (getD (indices levels v) aboveLast 0)) 0)) _ _ (λ _ h. absurd (h refl)) (λ _ _. refl)) (λ _ _. refl)
+        (λ _. pick-cases Clean (flag 0 (getD ws (place start t (getD (indices (suc up) v) up 0)) 0)) _ _ (λ _ h. absurd (h refl)) (λ _ _. refl)) (λ _ _. refl)

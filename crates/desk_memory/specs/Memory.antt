@@ -11,8 +11,7 @@ use Rattle.frame.specs.Frames.{Frames, FramesDid, init, isAllocated, markAlloca
 use Rattle.paging.specs.declared.HugePageSize.{HugePageSize}
 use Rattle.paging.specs.declared.HugePageSize.the-variants.{Size2MB, Size1GB}
 use Rattle.paging.specs.Map.{Memory}
-use Rattle.paging.specs.Calls.{translate, userMay, mapPage, mapHuge, unmapPage}
-use Rattle.paging.specs.Levels.{aboveLast}
+use Rattle.paging.specs.Calls.{translate, userMay, mapPageOf, mapHugeOf, unmapPage}
 use Rattle.layout.specs.Parts.{framesIn, fieldsFit, fieldsOut}
 use Rattle.layout.specs.Left.{Left, left, brokenLine, unlessFit}
 use Rattle.layout.specs.Memory.{MemoryParts, onMemory}
@@ -69,20 +68,20 @@ abbrev pub hugeOf : Bool → HugePageSize
 hugeOf true = Size1GB
 hugeOf false = Size2MB
 
-abbrev pub lineTranslate : List ℕ → ℕ → ℕ → ℕ → ℕ → Line
-lineTranslate words start total root virt = physLine (asPhys (translate aboveLast words start total root virt))
+abbrev pub lineTranslate : List ℕ → ℕ → ℕ → ℕ → ℕ → ℕ → Line
+lineTranslate words start total levels root virt = physLine (asPhys (translate levels words start total root virt))
 
-abbrev pub lineUserMay : List ℕ → ℕ → ℕ → ℕ → ℕ → Bool → Line
-lineUserMay words start total root virt write = flagLine (userMay aboveLast words start total root virt write)
+abbrev pub lineUserMay : List ℕ → ℕ → ℕ → ℕ → ℕ → ℕ → Bool → Line
+lineUserMay words start total levels root virt write = flagLine (userMay levels words start total root virt write)
 
 abbrev pub packedMapPage : MemoryParts → ℕ → ℕ → ℕ → Bool → Bool → Left MemoryParts
-packedMapPage p root virt phys writable user = onMemory (λ (m : Memory). mapPage aboveLast m root virt phys writable user) p
+packedMapPage p root virt phys writable user = onMemory (λ (m : Memory). mapPageOf m root virt phys writable user) p
 
 abbrev pub packedMapHuge : MemoryParts → ℕ → ℕ → ℕ → HugePageSize → Bool → Bool → Left MemoryParts
-packedMapHuge p root virt phys size writable user = onMemory (λ (m : Memory). mapHuge aboveLast m root virt phys size writable user) p
+packedMapHuge p root virt phys size writable user = onMemory (λ (m : Memory). mapHugeOf m root virt phys size writable user) p
 
 -- the words are all that it is lent, and they need not be unpacked
-abbrev pub leftUnmap : List ℕ → ℕ → ℕ → ℕ → ℕ → Left (List ℕ)
-leftUnmap words start total root virt =
-    let d = unmapPage aboveLast words start total root virt in
+abbrev pub leftUnmap : List ℕ → ℕ → ℕ → ℕ → ℕ → ℕ → Left (List ℕ)
+leftUnmap words start total levels root virt =
+    let d = unmapPage levels words start total root virt in
     left (frameLine (asFrame (d .walked))) (d .words)

@@ -17,12 +17,13 @@ pub extern "C" fn gadulnos_translate(
     words: &[u64],
     start: u64,
     total: u64,
+    levels: u64,
     root: u64,
     virt: u64,
 ) -> Line
-    ensures { λ r. ⌜ r ≡ lineTranslate (now (words .entry)) start total root virt ⌝ }
+    ensures { λ r. ⌜ r ≡ lineTranslate (now (words .entry)) start total levels root virt ⌝ }
 {
-    address::phys_line(walk::translate(words, start, total, Frame(root), VirtAddr(virt)))
+    address::phys_line(walk::translate(words, start, total, levels, Frame(root), VirtAddr(virt)))
 }
 
 #[no_mangle]
@@ -30,13 +31,22 @@ pub extern "C" fn gadulnos_user_may(
     words: &[u64],
     start: u64,
     total: u64,
+    levels: u64,
     root: u64,
     virt: u64,
     write: bool,
 ) -> Line
-    ensures { λ r. ⌜ r ≡ lineUserMay (now (words .entry)) start total root virt write ⌝ }
+    ensures { λ r. ⌜ r ≡ lineUserMay (now (words .entry)) start total levels root virt write ⌝ }
 {
-    answer::flag_line(walk::user_may(words, start, total, Frame(root), VirtAddr(virt), write))
+    answer::flag_line(walk::user_may(
+        words,
+        start,
+        total,
+        levels,
+        Frame(root),
+        VirtAddr(virt),
+        write,
+    ))
 }
 
 #[no_mangle]
@@ -142,13 +152,21 @@ pub extern "C" fn gadulnos_unmap_page(
     words: &mut [u64],
     start: u64,
     total: u64,
+    levels: u64,
     root: u64,
     virt: u64,
 ) -> Line
     ensures { λ r. ⌜ left r (now (words .exit))
-        ≡ leftUnmap (now (words .entry)) start total root virt ⌝ }
+        ≡ leftUnmap (now (words .entry)) start total levels root virt ⌝ }
     ensures refused { λ r. ⌜ Unchanged noLeftovers (now (words .entry))
         (left r (now (words .exit))) ⌝ }
 {
-    address::frame_line(mapper::unmap_page(words, start, total, Frame(root), VirtAddr(virt)))
+    address::frame_line(mapper::unmap_page(
+        words,
+        start,
+        total,
+        levels,
+        Frame(root),
+        VirtAddr(virt),
+    ))
 }

@@ -12,7 +12,6 @@ ghost use Rattle.allocator.specs.Round.{alignDown, alignUp, rounded};
 ghost use Rattle.entry.specs.Entry.{addrOf, entryOf, hugeEntryOf, indices, entryOfTable};
 ghost use Rattle.entry.specs.Flags.{bitsOf, flagsOf, flagEntryOf};
 ghost use Rattle.desk_numbers.specs.Line.{entryLine, tenFlags};
-ghost use Rattle.paging.specs.Levels.{levels};
 
 #[no_mangle]
 pub extern "C" fn gadulnos_align_down(addr: u64, align: u64) -> u64
@@ -179,7 +178,7 @@ pub extern "C" fn gadulnos_get_entry(table: &[u64; 512], index: usize) -> Line
 
 #[no_mangle]
 pub extern "C" fn gadulnos_page_indices(virt: u64, out: &mut [usize; 4])
-    ensures { λ _. ⌜ now (out .exit) ≡ indices levels virt ⌝ }
+    ensures { λ _. ⌜ now (out .exit) ≡ indices 4 virt ⌝ }
 {
     *out = entry::page_indices(VirtAddr(virt));
 }

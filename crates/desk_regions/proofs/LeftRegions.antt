@@ -23,7 +23,7 @@ use Rattle.slots.specs.Slots.{listed}
 use Rattle.regions.specs.Regions.{firstFit, usedSize}
 use Rattle.vm_list.specs.Packed.{vmFit}
 use Rattle.vm_list.proofs.RoundTrip.{vm-back}
-use Rattle.vmalloc.specs.Calls.{Kernel, KernelDid, soundKernel, kernelPages, kernelMapped, kernelPlaced, kernelSized, released, vmalloc, vfree}
+use Rattle.vmalloc.specs.Calls.{Kernel, KernelDid, soundKernel, kernelPages, kernelMapped, kernelPlaced, kernelSized, released, vmalloc, vmallocOf, vfree, vfreeOf}
 use Rattle.vmalloc.specs.Packed.{keptKernel, onVmList}
 use Rattle.mappings.specs.declared.MappedRegion.{MappedRegion}
 use Rattle.mappings.specs.declared.Searched.{Searched}
@@ -34,7 +34,7 @@ use Rattle.mappings.proofs.Search.{Ends, search-ends}
 use Rattle.mappings.proofs.RoundTrip.{mmap-back}
 use Rattle.mmap.specs.declared.OptAddr.{OptAddr}
 use Rattle.mmap.specs.Flags.{writable}
-use Rattle.mmap.specs.Calls.{User, UserDid, soundUser, onPage, chosen, full, userPages, userMapped, userPlaced, userSized, unmapped, mmap, munmap}
+use Rattle.mmap.specs.Calls.{User, UserDid, soundUser, onPage, chosen, full, userPages, userMapped, userPlaced, userSized, unmapped, mmap, mmapOf, munmap, munmapOf}
 use Rattle.mmap.specs.Packed.{keptUser, onMmapList}
 use Rattle.layout.specs.Parts.{fieldsIn, fieldsOut, fieldsFit}
 use Rattle.layout.specs.Left.{left, brokenLine, IsRefusal, Unchanged, noLeftovers, regionLeftovers}
@@ -71,7 +71,8 @@ module _ {A : Type 0} (form : Outcome → A) (line : A → Line) (call : Kernel 
       (keptKernel form (call (kernelIn kernelLent))) e refl
 
   kernel-unchanged : (leftovers : List ℕ) → Bytes fields → Bytes list
-      → ((k : Kernel) → IsRefusal leftovers (kernelSaid (call k .answer) .number) → call k .kernel ≡ k) → Unchanged leftovers kernelLent (onKernel kernelSaid call kernelLent)
+      → ((k : Kernel) → IsRefusal leftovers (kernelSaid (call k .answer) .number) → call k .kernel ≡ k)
+      → Unchanged leftovers kernelLent (onKernel kernelSaid call kernelLent)
   unfolding onKernel
   kernel-unchanged leftovers b c law =
       unchanged-left leftovers (kernelFit kernelLent) kernelLent _ (λ fit n.
@@ -101,7 +102,8 @@ module _ {A : Type 0} (form : Outcome → A) (line : A → Line) (call : User �
       (keptUser form (call (userIn userLent))) e refl
 
   user-unchanged : (leftovers : List ℕ) → Bytes fields → Bytes list
-      → ((u : User) → IsRefusal leftovers (userSaid (call u .answer) .number) → call u .user ≡ u) → Unchanged leftovers userLent (onUser userSaid call userLent)
+      → ((u : User) → IsRefusal leftovers (userSaid (call u .answer) .number) → call u .user ≡ u)
+      → Unchanged leftovers userLent (onUser userSaid call userLent)
   unfolding onUser
   user-unchanged leftovers b c law =
       unchanged-left leftovers (userFit userLent) userLent _ (λ fit n.
@@ -148,10 +150,10 @@ module _ (up : ℕ) (root addr : ℕ) (k : Kernel) where
 
 module _ (words fields bits list : List ℕ) (b : Bytes fields) (c : Bytes list) (root : ℕ) where
   pub vmalloc-refused : (size : ℕ) → let p = listParts words fields bits list in Unchanged regionLeftovers p (packedVmalloc p root size)
-  vmalloc-refused size = kernel-unchanged asVirt virtLine (λ (k : Kernel). vmalloc aboveLast k root size) words fields bits list regionLeftovers b c (vmalloc-clean aboveLast root size)
+  vmalloc-refused size = kernel-unchanged asVirt virtLine (λ (k : Kernel). vmallocOf k root size) words fields bits list regionLeftovers b c (λ k. vmalloc-clean (aboveLast (k .mem)) root size k)
 
   pub vfree-refused : (addr : ℕ) → let p = listParts words fields bits list in Unchanged noLeftovers p (packedVfree p root addr)
-  vfree-refused addr = kernel-unchanged asAnswer answerLine (λ (k : Kernel). vfree aboveLast k root addr) words fields bits list noLeftovers b c (vfree-clean aboveLast root addr)
+  vfree-refused addr = kernel-unchanged asAnswer answerLine (λ (k : Kernel). vfreeOf k root addr) words fields bits list noLeftovers b c (λ k. vfree-clean (aboveLast (k .mem)) root addr k)
 
 -- ---- refusals of mmap: 10, 1, 3, 2, 15 and 20; 11 and 13 have leftovers
 
@@ -195,10 +197,10 @@ module _ (up : ℕ) (root a size : ℕ) (u : User) where
 module _ (words fields bits list : List ℕ) (b : Bytes fields) (c : Bytes list) (root : ℕ) where
   pub mmap-refused : (hint : OptAddr) (size : ℕ) (prot flags : ℤ) → let p = listParts words fields bits list in Unchanged regionLeftovers p (packedMmap p root hint size prot flags)
   mmap-refused hint size prot flags =
-      user-unchanged asVirt virtLine (λ (u : User). mmap aboveLast u root hint size prot flags) words fields bits list regionLeftovers b c (mmap-clean aboveLast root hint size prot flags)
+      user-unchanged asVirt virtLine (λ (u : User). mmapOf u root hint size prot flags) words fields bits list regionLeftovers b c (λ u. mmap-clean (aboveLast (u .mem)) root hint size prot flags u)
 
   pub munmap-refused : (addr size : ℕ) → let p = listParts words fields bits list in Unchanged noLeftovers p (packedMunmap p root addr size)
-  munmap-refused addr size = user-unchanged asAnswer answerLine (λ (u : User). munmap aboveLast u root addr size) words fields bits list noLeftovers b c (munmap-clean aboveLast root addr size)
+  munmap-refused addr size = user-unchanged asAnswer answerLine (λ (u : User). munmapOf u root addr size) words fields bits list noLeftovers b c (λ u. munmap-clean (aboveLast (u .mem)) root addr size u)
 
 -- ---- the search by itself
 

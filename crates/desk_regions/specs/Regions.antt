@@ -8,14 +8,13 @@ use Rattle.answer.specs.Numbers.{noRegion, countLine}
 use Rattle.answer.specs.declared.Line.{Line}
 use Rattle.address.specs.Address.{virtLine, asVirt}
 use Rattle.answer.specs.declared.Outcome.{Outcome}
-use Rattle.paging.specs.Levels.{aboveLast}
 use Rattle.vm_list.specs.Packed.{vmIn, vmOut, vmFit}
 use Rattle.slots.specs.Slots.{listed}
 use Rattle.mappings.specs.Regions.{findFree}
 use Rattle.mappings.specs.Compared.{compared}
 use Rattle.mappings.specs.Packed.{mmapIn, nextIn, mmapOut, mmapFit, soundList}
-use Rattle.vmalloc.specs.Calls.{Kernel, kernel, KernelDid, vmalloc, vfree}
-use Rattle.mmap.specs.Calls.{User, user, UserDid, mmap, munmap}
+use Rattle.vmalloc.specs.Calls.{Kernel, kernel, KernelDid, vmallocOf, vfreeOf}
+use Rattle.mmap.specs.Calls.{User, user, UserDid, mmapOf, munmapOf}
 use Rattle.mmap.specs.declared.OptAddr.{OptAddr}
 use Rattle.layout.specs.Parts.{fieldsFit}
 use Rattle.layout.specs.Left.{Left, left, unlessFit}
@@ -40,10 +39,10 @@ unfoldable pub onKernel : (Outcome → Line) → (Kernel → KernelDid) → List
 onKernel line call p = unlessFit (kernelFit p) p (left (line (call (kernelIn p) .answer)) (kernelPacked (call (kernelIn p) .kernel)))
 
 abbrev pub packedVmalloc : ListParts → ℕ → ℕ → Left ListParts
-packedVmalloc p root size = onKernel addressLine (λ (k : Kernel). vmalloc aboveLast k root size) p
+packedVmalloc p root size = onKernel addressLine (λ (k : Kernel). vmallocOf k root size) p
 
 abbrev pub packedVfree : ListParts → ℕ → ℕ → Left ListParts
-packedVfree p root addr = onKernel plainLine (λ (k : Kernel). vfree aboveLast k root addr) p
+packedVfree p root addr = onKernel plainLine (λ (k : Kernel). vfreeOf k root addr) p
 
 -- ---- mmap and munmap: the list is the user's, with next_addr
 
@@ -60,10 +59,10 @@ unfoldable pub onUser : (Outcome → Line) → (User → UserDid) → ListParts 
 onUser line call p = unlessFit (userFit p) p (left (line (call (userIn p) .answer)) (userPacked (call (userIn p) .user)))
 
 abbrev pub packedMmap : ListParts → ℕ → OptAddr → ℕ → ℤ → ℤ → Left ListParts
-packedMmap p root hint size prot flags = onUser addressLine (λ (u : User). mmap aboveLast u root hint size prot flags) p
+packedMmap p root hint size prot flags = onUser addressLine (λ (u : User). mmapOf u root hint size prot flags) p
 
 abbrev pub packedMunmap : ListParts → ℕ → ℕ → ℕ → Left ListParts
-packedMunmap p root addr size = onUser plainLine (λ (u : User). munmap aboveLast u root addr size) p
+packedMunmap p root addr size = onUser plainLine (λ (u : User). munmapOf u root addr size) p
 
 -- ---- the search by itself (document 02, slip 9): it reads the list, and leaves the number of regions that it compared in a number that it is lent, with 15 too
 

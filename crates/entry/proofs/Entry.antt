@@ -1,11 +1,12 @@
 -- Entries by masks are entries by arithmetic, what the fields of a made entry are, and what the indices of an address say of it.
-use Prim.Native.Nat.{ℕ, zero, suc, _+_, _*_, _/_, _%_, _^_, _<_}
+use Prim.Native.Nat.{ℕ, zero, suc, _+_, _-_, _*_, _/_, _%_, _^_, _<_, _≤_}
 use mathlib.Core.Path.{_≡_, refl, sym, _∙_, ap, ap₂}
 use mathlib.Core.Bool.{Bool, true, false}
+use mathlib.Core.List.{_∷_}
 use native.Mathlib.Nat.{add-zero}
 use native.Mathlib.Omega.{arith}
 use lib.Dec.{eqb, lit<}
-use lib.ListN.{length, getD}
+use lib.ListN.{length, getD, take}
 use lib.Bits.{bitAnd, bitOr, and-high, or-block, or-zero-l, or-shifted-r}
 use lib.Pow.{pow-pos, mod-pow-add, shr-shr}
 use Rattle.bits.specs.Bit.{one, flag}
@@ -97,3 +98,27 @@ indices-inj (suc n) v v′ h =
     let rest : v / 2 ^ 12 % 2 ^ (9 * n) ≡ v′ / 2 ^ 12 % 2 ^ (9 * n) = indices-inj n v v′ (cc) in
     let width : 9 * suc n ≡ 9 + 9 * n = omega arith in
     rw width (page-of n v ∙ rw (top, rest) (sym (page-of n v′)))
+
+-- the one behind k others, on a board of up + 1 levels
+pub index-behind : (up k v : ℕ) → k ≤ up → getD (indices (suc up) v) k 0 ≡ index (up - k) v
+index-behind up zero v h = let e : up - 0 ≡ up = omega arith in rw e
+index-behind zero (suc k) v h = absurd (omega arith)
+index-behind (suc up) (suc k) v h = let e : suc up - suc k ≡ up - k = omega arith in rw e (index-behind up k v (omega arith))
+
+pub index-last : (up v : ℕ) → getD (indices (suc up) v) up 0 ≡ index 0 v
+index-last zero v = refl
+index-last (suc up) v = index-last up v
+
+-- the first of n indices, and the others
+pub indices-next : (n v : ℕ) → 0 < n → indices n v ≡ index (n - 1) v ∷ indices (n - 1) v
+indices-next zero v h = absurd (omega arith)
+indices-next (suc n) v h = let e : suc n - 1 ≡ n = omega arith in rw e
+
+-- .. and of the first k of them, on a board of d + 1 levels
+pub path-next : (k d v : ℕ) → 0 < k → k ≤ d → take k (indices (suc d) v) ≡ index d v ∷ take (k - 1) (indices (suc (d - 1)) v)
+path-next zero d v some h = absurd (omega arith)
+path-next (suc k) zero v some h = absurd (omega arith)
+path-next (suc k) (suc d) v some h =
+    let a : suc k - 1 ≡ k = omega arith in
+    let b : suc d - 1 ≡ d = omega arith in
+    rw (a, b)

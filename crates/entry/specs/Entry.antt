@@ -25,11 +25,11 @@ entryOf a w u = addrOf a + (1 + 2 * one w + 4 * one u)
 abbrev pub hugeEntryOf : ℕ → Bool → Bool → ℕ
 hugeEntryOf a w u = addrOf a + (128 + 1 + 2 * one w + 4 * one u)
 
--- the index of level l of an address, counted from the last level, 0
+-- the index of an address at an entry that has d levels below it: bits 20 to 12 at the last level, 'bits 56–48' at the fifth
 abbrev pub index : ℕ → ℕ → ℕ
-index l v = v / 2 ^ (12 + 9 * l) % 512
+index d v = v / 2 ^ (12 + 9 * d) % 512
 
--- the indices of an address on a board of n levels, the top one first: bits 63 to 48 are ignored where n is 4
+-- the indices of an address on a board of n levels, the top one first: what lies above the top index is ignored, bits 63 to 48 on four levels, 63 to 57 on five
 abbrev pub indices : ℕ → ℕ → List ℕ
 indices zero v = []
 indices (suc n) v = index n v ∷ indices n v

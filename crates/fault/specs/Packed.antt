@@ -8,12 +8,11 @@ use Rattle.answer.specs.Numbers.{brokenRecord}
 use Rattle.answer.specs.Outcomes.{asAnswer}
 use Rattle.answer.specs.declared.Answer.{Answer}
 use Rattle.answer.specs.declared.Answer.the-variants.{Refused}
-use Rattle.paging.specs.Levels.{aboveLast}
 use Rattle.paging.specs.Map.{Memory}
 use Rattle.paging.specs.Kept.{Kept, kept, lentMemory}
 use Rattle.cow.specs.Packed.{markedIn, markedOut, markedFit}
 use Rattle.fault.specs.declared.Faulted.{Faulted}
-use Rattle.fault.specs.Faults.{Faulting, faulting, FaultDid, handleFault}
+use Rattle.fault.specs.Faults.{Faulting, faulting, FaultDid, handleFaultOf}
 
 -- a call on the pages that packed bytes stand for, and what it leaves packed again; 10 and nothing changed where they stand for none
 unfoldable pub onPages : (Faulting → FaultDid) → Memory → List ℕ → Kept Answer
@@ -22,7 +21,7 @@ onPages call m list =
     (let d = call (faulting m (markedIn list)) in kept (asAnswer (d .answer)) (d .state .mem) (markedOut (d .state .marked)))
 
 abbrev pub faultOn : Memory → List ℕ → ℕ → ℕ → ℕ → Kept Answer
-faultOn m list root a code = onPages (λ (s : Faulting). handleFault aboveLast s root a code) m list
+faultOn m list root a code = onPages (λ (s : Faulting). handleFaultOf s root a code) m list
 
 -- bytes that stood for pages stand for those that the call leaves
 abbrev pub FaultReads : (Faulting → FaultDid) → Memory → List ℕ → List ℕ → Type 0

@@ -9,9 +9,9 @@ use frame::Marks;
 use paging::Entered;
 ghost use mathlib.Core.Path.{_≡_};
 ghost use mathlib.Core.Bool.{true};
-ghost use Prim.Native.Nat.{_+_, _*_};
+ghost use Prim.Native.Nat.{_+_, _*_, _≤_};
 ghost use Rattle.bits.specs.Bit.{both};
-ghost use Rattle.paging.specs.Levels.{aboveLast, levels};
+ghost use Rattle.paging.specs.Levels.{mostAbove, mostLevels};
 ghost use Rattle.paging.specs.Map.{RoomToTake};
 ghost use Rattle.paging.specs.Kept.{lentMemory};
 ghost use Rattle.cow.specs.Marked.{soundMarked};
@@ -62,13 +62,15 @@ fn demand_page(
     words: &mut [u64],
     bitmap: &mut Marks,
     frames: FrameAllocator,
+    up: u64,
     root: Frame,
     page: VirtAddr,
     code: u64,
 ) -> Entered
-    requires { ⌜ RoomToTake (lentMemory (now words) (now bitmap) frames) levels ⌝ }
+    requires { ⌜ RoomToTake (lentMemory (now words) (now bitmap) frames) mostLevels ⌝ }
+    requires { ⌜ up ≤ mostAbove ⌝ }
     ensures { λ r. ⌜ outOf r (now (words .exit)) (now (bitmap .exit))
-        ≡ demandPage aboveLast (lentMemory (now (words .entry)) (now (bitmap .entry)) frames) (root .0) (page .0) code ⌝ }
+        ≡ demandPage up (lentMemory (now (words .entry)) (now (bitmap .entry)) frames) (root .0) (page .0) code ⌝ }
 {
     if !is_valid(page.0) {
         return Entered {
@@ -93,7 +95,7 @@ fn demand_page(
         Outcome::Value(f) => {
             let writable = error_code::is_write(code);
             let user = error_code::is_user(code);
-            copying::map_frame(words, bitmap, left, root, page, f, writable, user)
+            copying::map_frame(words, bitmap, left, up, root, page, f, writable, user)
         }
     }
 }
@@ -103,17 +105,19 @@ fn protected(
     words: &mut [u64],
     bitmap: &mut Marks,
     frames: FrameAllocator,
+    up: u64,
     root: Frame,
     marked: &mut [u8],
     page: VirtAddr,
     code: u64,
 ) -> Faulted
-    requires { ⌜ RoomToTake (lentMemory (now words) (now bitmap) frames) (1 + 2 * aboveLast) ⌝ }
+    requires { ⌜ RoomToTake (lentMemory (now words) (now bitmap) frames) (1 + 2 * mostAbove) ⌝ }
     requires { ⌜ both (markedFit (now marked)) (soundMarked (markedIn (now marked))) ≡ true ⌝ }
+    requires { ⌜ up ≤ mostAbove ⌝ }
     ensures { λ r. ⌜ faulted r (now (words .exit)) (now (bitmap .exit)) (now (marked .exit))
-        ≡ onPages (λ s. protectedBy aboveLast s (root .0) (page .0) code) (lentMemory (now (words .entry)) (now (bitmap .entry)) frames)
+        ≡ onPages (λ s. protectedBy up s (root .0) (page .0) code) (lentMemory (now (words .entry)) (now (bitmap .entry)) frames)
         (now (marked .entry)) ⌝ }
-    ensures { λ _. ⌜ FaultReads (λ s. protectedBy aboveLast s (root .0) (page .0) code) (lentMemory (now (words .entry)) (now (bitmap .entry)) frames)
+    ensures { λ _. ⌜ FaultReads (λ s. protectedBy up s (root .0) (page .0) code) (lentMemory (now (words .entry)) (now (bitmap .entry)) frames)
         (now (marked .entry)) (now (marked .exit)) ⌝ }
 {
     if !error_code::is_write(code) {
@@ -128,7 +132,15 @@ fn protected(
             frames,
         };
     }
-    let r = copying::copy_on_write(words, bitmap, frames, root, page, error_code::is_user(code));
+    let r = copying::copy_on_write(
+        words,
+        bitmap,
+        frames,
+        up,
+        root,
+        page,
+        error_code::is_user(code),
+    );
     let walked = r.walked;
     let left = r.frames;
     match walked {
@@ -151,17 +163,19 @@ pub fn handle(
     words: &mut [u64],
     bitmap: &mut Marks,
     frames: FrameAllocator,
+    up: u64,
     root: Frame,
     marked: &mut [u8],
     page: VirtAddr,
     code: u64,
 ) -> Faulted
-    requires { ⌜ RoomToTake (lentMemory (now words) (now bitmap) frames) (1 + 2 * aboveLast) ⌝ }
+    requires { ⌜ RoomToTake (lentMemory (now words) (now bitmap) frames) (1 + 2 * mostAbove) ⌝ }
     requires { ⌜ both (markedFit (now marked)) (soundMarked (markedIn (now marked))) ≡ true ⌝ }
+    requires { ⌜ up ≤ mostAbove ⌝ }
     ensures { λ r. ⌜ faulted r (now (words .exit)) (now (bitmap .exit)) (now (marked .exit))
-        ≡ onPages (λ s. handled aboveLast s (root .0) (page .0) code) (lentMemory (now (words .entry)) (now (bitmap .entry)) frames)
+        ≡ onPages (λ s. handled up s (root .0) (page .0) code) (lentMemory (now (words .entry)) (now (bitmap .entry)) frames)
         (now (marked .entry)) ⌝ }
-    ensures { λ _. ⌜ FaultReads (λ s. handled aboveLast s (root .0) (page .0) code) (lentMemory (now (words .entry)) (now (bitmap .entry)) frames)
+    ensures { λ _. ⌜ FaultReads (λ s. handled up s (root .0) (page .0) code) (lentMemory (now (words .entry)) (now (bitmap .entry)) frames)
         (now (marked .entry)) (now (marked .exit)) ⌝ }
 {
     if error_code::is_reserved(code) {
@@ -171,9 +185,9 @@ pub fn handle(
         };
     }
     if error_code::is_present(code) {
-        return protected(words, bitmap, frames, root, marked, page, code);
+        return protected(words, bitmap, frames, up, root, marked, page, code);
     }
-    let r = demand_page(words, bitmap, frames, root, page, code);
+    let r = demand_page(words, bitmap, frames, up, root, page, code);
     let walked = r.walked;
     let left = r.frames;
     Faulted {

@@ -7,9 +7,8 @@ use answer::Answer;
 use frame::FrameAllocator;
 use frame::Marks;
 ghost use mathlib.Core.Path.{_≡_};
-ghost use Rattle.paging.specs.Levels.{aboveLast};
 ghost use Rattle.paging.specs.Kept.{lentMemory};
-ghost use Rattle.fault.specs.Faults.{handleFault};
+ghost use Rattle.fault.specs.Faults.{handleFaultOf};
 ghost use Rattle.fault.specs.Packed.{faultOn, faulted, FaultReads};
 
 // The answer of the first path, beside the frame record that it leaves.
@@ -30,7 +29,7 @@ pub fn handle_page_fault(
 ) -> Faulted
     ensures { λ r. ⌜ faulted r (now (words .exit)) (now (bitmap .exit)) (now (marked .exit))
         ≡ faultOn (lentMemory (now (words .entry)) (now (bitmap .entry)) frames) (now (marked .entry)) (root .0) (addr .0) code ⌝ }
-    ensures { λ _. ⌜ FaultReads (λ s. handleFault aboveLast s (root .0) (addr .0) code) (lentMemory (now (words .entry)) (now (bitmap .entry)) frames)
+    ensures { λ _. ⌜ FaultReads (λ s. handleFaultOf s (root .0) (addr .0) code) (lentMemory (now (words .entry)) (now (bitmap .entry)) frames)
         (now (marked .entry)) (now (marked .exit)) ⌝ }
 {
     if !mapper::is_whole(words, bitmap, frames, root) {
@@ -49,6 +48,7 @@ pub fn handle_page_fault(
         words,
         bitmap,
         frames,
+        frames.levels - 1,
         root,
         marked,
         cow::page_of(addr),

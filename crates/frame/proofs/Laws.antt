@@ -22,7 +22,7 @@ use Rattle.bitmap.proofs.Marks.{is-marked, is-free, marked-true, marked-false, 
 use Rattle.bitmap.proofs.Search.{free-is-free, free-below-marked}
 use Rattle.frame.specs.declared.Found.{Found}
 use Rattle.frame.specs.declared.Found.the-variants.{Freed, AlreadyFree, NotHere}
-use Rattle.frame.specs.Frames.{Frames, frames, FramesDid, framesDid, inside, sound, init, withMark, withoutMark, takeFrame, frameMarked, markFrame, giveFrame, isAllocated, markAllocated, allocate, deallocate, counted, RoomToCount, unused}
+use Rattle.frame.specs.Frames.{Frames, frames, FramesDid, framesDid, inside, sound, init, withMark, withoutMark, takeFrame, frameMarked, markFrame, giveFrame, isAllocated, markAllocated, allocate, deallocate, counted, RoomToCount, isLevels, unused}
 
 -- what a contract says of a call: what the code returns of it, and the bitmap that it leaves
 pub parts : {A B : Type 0} (f : FramesDid A → B) {d e : FramesDid A} → d ≡ e → (f e ≡ f d) × (e .frames .bits ≡ d .frames .bits)
@@ -66,6 +66,23 @@ module _ (start total n : ℕ) where
       by (yes l) = let d : r ≡ n - start = omega arith in rw (le-leb _ _ l, d)
       by (no l) = le-ltb r total (omega arith) ∙ sym (inside-low (omega arith))
 
+-- 4 or 5 levels
+module _ (n : ℕ) where
+  pub levels-few : n < 4 → isLevels n ≡ false
+  levels-few h = simp lt-leb
+
+  pub levels-by-most : 4 ≤ n → leb n 5 ≡ isLevels n
+  levels-by-most h = simp le-leb
+
+  pub levels-yes : 4 ≤ n → n ≤ 5 → isLevels n ≡ true
+  levels-yes h k = simp (le-leb _ _ h, le-leb _ _ k)
+
+  pub levels-least : isLevels n ≡ true → 4 ≤ n
+  levels-least h = leb-true _ _ (both-true (leb 4 n) (leb n 5) h .0)
+
+  pub levels-most : isLevels n ≡ true → n ≤ 5
+  levels-most h = leb-true _ _ (both-true (leb 4 n) (leb n 5) h .1)
+
 -- the test for a broken record, one comparison after the other
 module _ (fr : Frames) where
   pub sound-many : 8192 < fr .fa .total → sound fr ≡ false
@@ -76,26 +93,42 @@ module _ (fr : Frames) where
   unfolding sound
   sound-high h k = simp (le-leb, lt-leb)
 
-  pub sound-counted : fr .fa .total ≤ 8192 → fr .fa .start + fr .fa .total ≤ 2 ^ 40
+  pub sound-leveled : fr .fa .total ≤ 8192 → fr .fa .start + fr .fa .total ≤ 2 ^ 40 → isLevels (fr .fa .levels) ≡ false → sound fr ≡ false
+  unfolding sound
+  sound-leveled h k l = rw (le-leb _ _ h, le-leb _ _ k, l)
+
+  pub sound-counted : fr .fa .total ≤ 8192 → fr .fa .start + fr .fa .total ≤ 2 ^ 40 → isLevels (fr .fa .levels) ≡ true
       → sound fr ≡ eqb (fr .fa .allocated) (count (fr .bits) (fr .fa .total))
   unfolding sound
-  sound-counted h k = simp (le-leb _ _ h, le-leb _ _ k)
+  sound-counted h k l = rw (le-leb _ _ h, le-leb _ _ k, l)
 
-  pub sound-yes : fr .fa .total ≤ 8192 → fr .fa .start + fr .fa .total ≤ 2 ^ 40 → fr .fa .allocated ≡ count (fr .bits) (fr .fa .total) → sound fr ≡ true
-  sound-yes h k e = sound-counted h k ∙ eq-eqb _ _ e
+  pub sound-yes : fr .fa .total ≤ 8192 → fr .fa .start + fr .fa .total ≤ 2 ^ 40 → isLevels (fr .fa .levels) ≡ true
+      → fr .fa .allocated ≡ count (fr .bits) (fr .fa .total) → sound fr ≡ true
+  sound-yes h k l e = sound-counted h k l ∙ eq-eqb _ _ e
 
   -- what a sound record says
   pub sound-few : sound fr ≡ true → fr .fa .total ≤ 8192
   unfolding sound
   sound-few h = leb-true _ _ (both-true _ _ h .0)
 
-  pub sound-low : sound fr ≡ true → fr .fa .start + fr .fa .total ≤ 2 ^ 40
+  -- .. past its first test
+  past-few : sound fr ≡ true
+      → both (leb (fr .fa .start + fr .fa .total) (2 ^ 40)) (both (isLevels (fr .fa .levels)) (eqb (fr .fa .allocated) (count (fr .bits) (fr .fa .total)))) ≡ true
   unfolding sound
-  sound-low h = leb-true _ _ (both-true (leb (fr .fa .start + fr .fa .total) (2 ^ 40)) _ (both-true (leb (fr .fa .total) 8192) _ h .1) .0)
+  past-few h = both-true (leb (fr .fa .total) 8192) _ h .1
+
+  pub sound-low : sound fr ≡ true → fr .fa .start + fr .fa .total ≤ 2 ^ 40
+  sound-low h = leb-true _ _ (both-true (leb (fr .fa .start + fr .fa .total) (2 ^ 40)) _ (past-few h) .0)
+
+  -- .. past its second
+  past-low : sound fr ≡ true → both (isLevels (fr .fa .levels)) (eqb (fr .fa .allocated) (count (fr .bits) (fr .fa .total))) ≡ true
+  past-low h = both-true (leb (fr .fa .start + fr .fa .total) (2 ^ 40)) _ (past-few h) .1
+
+  pub sound-levels : sound fr ≡ true → isLevels (fr .fa .levels) ≡ true
+  sound-levels h = both-true (isLevels (fr .fa .levels)) _ (past-low h) .0
 
   pub sound-count : sound fr ≡ true → fr .fa .allocated ≡ count (fr .bits) (fr .fa .total)
-  unfolding sound
-  sound-count h = eqb-true _ _ (both-true (leb (fr .fa .start + fr .fa .total) (2 ^ 40)) _ (both-true (leb (fr .fa .total) 8192) _ h .1) .1)
+  sound-count h = eqb-true _ _ (both-true (isLevels (fr .fa .levels)) _ (past-low h) .1)
 
   -- so no more are marked than there are, and the counter has room for more
   pub sound-fits : sound fr ≡ true → fr .fa .allocated ≤ fr .fa .total

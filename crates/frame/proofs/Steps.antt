@@ -20,7 +20,7 @@ use Rattle.bitmap.proofs.Marks.{Words, length-mark, length-unmark, mark-own, ma
 use Rattle.frame.specs.declared.Found.{Found}
 use Rattle.frame.specs.declared.Found.the-variants.{Freed}
 use Rattle.frame.specs.Frames.{Frames, FramesDid, framesDid, inside, sound, init, withMark, withoutMark, takeFrame, frameMarked, markFrame, giveFrame}
-use Rattle.frame.proofs.Laws.{inside-yes, inside-from, inside-under, inside-sum, sound-yes, sound-few, sound-low, sound-count, fresh, init-cases, take-cases, reads-marked, reads-free, free-inside, free-bit, there-bit, mark-free, mark-cases, give-cases, give-there}
+use Rattle.frame.proofs.Laws.{inside-yes, inside-from, inside-under, inside-sum, sound-yes, sound-few, sound-low, sound-levels, sound-count, fresh, init-cases, take-cases, reads-marked, reads-free, free-inside, free-bit, there-bit, mark-free, mark-cases, give-cases, give-there}
 
 -- an allocator in order: its record is not broken, and the lent bitmap is as long as the code's
 pub record Sound (fr : Frames) : Type 0 where
@@ -31,10 +31,11 @@ pub record Sound (fr : Frames) : Type 0 where
 word-lent : (fr : Frames) → Sound fr → (j : ℕ) → j < fr .fa .total → j / 64 < length (fr .bits)
 word-lent fr s j below = omega (arith, sound-few fr (s .tested), s .long)
 
--- what no step changes: which frames are lent, and the number of bitmap words
+-- what no step changes: which frames are lent, the levels of tables, and the number of bitmap words
 pub record SameSpan (a b : Frames) : Type 0 where
   pub start : b .fa .start ≡ a .fa .start
   pub total : b .fa .total ≡ a .fa .total
+  pub levels : b .fa .levels ≡ a .fa .levels
   pub long : length (b .bits) ≡ length (a .bits)
 
 -- b is a with the one free frame n marked, and counted
@@ -47,7 +48,7 @@ pub record OneMore (a : Frames) (n : ℕ) (b : Frames) : Type 0 where
   pub counted : b .fa .allocated ≡ a .fa .allocated + 1
 
 span-refl : (fr : Frames) → SameSpan fr fr
-span-refl fr = record { start = refl; total = refl; long = refl }
+span-refl fr = record { start = refl; total = refl; levels = refl; long = refl }
 
 -- ---- one mark set
 
@@ -67,7 +68,7 @@ module _ (fr : Frames) (j : ℕ) where
 
   pub span-with : SameSpan fr (withMark fr j)
   unfolding withMark
-  span-with = record { start = refl; total = refl; long = length-mark (fr .bits) j }
+  span-with = record { start = refl; total = refl; levels = refl; long = length-mark (fr .bits) j }
 
   pub words-with : marked (fr .bits) j ≡ 0 → Words (fr .bits) → Words (withMark fr j .bits)
   unfolding withMark
@@ -85,7 +86,7 @@ module _ (fr : Frames) (j : ℕ) where
     unfolding withMark
     sound-with = record {
       tested =
-          sound-yes (withMark fr j) (sound-few fr (s .tested)) (sound-low fr (s .tested))
+          sound-yes (withMark fr j) (sound-few fr (s .tested)) (sound-low fr (s .tested)) (sound-levels fr (s .tested))
           (omega (arith, sound-count fr (s .tested), count-mark (fr .bits) j (fr .fa .total) free below (word-lent fr s j below)));
       long = length-mark (fr .bits) j ∙ s .long;
     }
@@ -117,7 +118,7 @@ module _ (fr : Frames) (j : ℕ) where
 
   pub span-without : SameSpan fr (withoutMark fr j)
   unfolding withoutMark
-  span-without = record { start = refl; total = refl; long = length-unmark (fr .bits) j }
+  span-without = record { start = refl; total = refl; levels = refl; long = length-unmark (fr .bits) j }
 
   pub words-without : Words (fr .bits) → Words (withoutMark fr j .bits)
   unfolding withoutMark
@@ -139,7 +140,7 @@ module _ (fr : Frames) (j : ℕ) where
     unfolding withoutMark
     sound-without = record {
       tested =
-          sound-yes (withoutMark fr j) (sound-few fr (s .tested)) (sound-low fr (s .tested))
+          sound-yes (withoutMark fr j) (sound-few fr (s .tested)) (sound-low fr (s .tested)) (sound-levels fr (s .tested))
           (omega (arith, sound-count fr (s .tested), count-unmark (fr .bits) j (fr .fa .total) there below));
       long = length-unmark (fr .bits) j ∙ s .long;
     }
@@ -325,7 +326,7 @@ pub record AllFree (fr : Frames) : Type 0 where
 pub fresh-free : (s e : ℕ) → s ≤ e → e ≤ 2 ^ 52 → AllFree (fresh s e)
 fresh-free s e crossed low = record {
   ordered = record {
-    tested = sound-yes (fresh s e) (omega arith) (omega arith) (sym (count-replicate 128 (fresh s e .fa .total)));
+    tested = sound-yes (fresh s e) (omega arith) (omega arith) refl (sym (count-replicate 128 (fresh s e .fa .total)));
     long = length-replicate {A = ℕ} 128 0;
   };
   none = refl;

@@ -31,13 +31,20 @@ frames bm fa = record { bits = bm; fa = fa }
 abbrev pub lentFrames : List ℕ → FrameAllocator → Frames
 lentFrames bytes fa = frames (marksIn bytes) fa
 
--- the record of `init`: nothing is marked
-abbrev pub unused : ℕ → ℕ → FrameAllocator
-unused start total = record { start = start; total = total; allocated = 0 }
+-- 'A board is started with 4 or 5 levels, 4 if none is named, as after a lone `init`'
+abbrev pub isLevels : ℕ → Bool
+isLevels n = both (leb 4 n) (leb n 5)
 
--- the record with n frames counted
+-- the record of `init`: nothing is marked, 4 levels, since none is named
+abbrev pub unused : ℕ → ℕ → FrameAllocator
+unused start total = record { start = start; total = total; allocated = 0; levels = 4 }
+
+-- the record with n frames counted, and of a board of n levels
 abbrev pub withCounter : FrameAllocator → ℕ → FrameAllocator
-withCounter fa n = record { start = fa .start; total = fa .total; allocated = n }
+withCounter fa n = record { start = fa .start; total = fa .total; allocated = n; levels = fa .levels }
+
+abbrev pub withLevels : FrameAllocator → ℕ → FrameAllocator
+withLevels fa n = record { start = fa .start; total = fa .total; allocated = fa .allocated; levels = n }
 
 -- 'end above 2^52' is 10: addresses end there, and the numbers of frames at 2^40
 abbrev pub addressEnd : ℕ
@@ -58,12 +65,14 @@ framesDid a fr = record { answer = a; frames = fr }
 abbrev pub inside : ℕ → ℕ → ℕ → Bool
 inside start total n = both (leb start n) (ltb (n - start) total)
 
--- not 'a broken record': total at most 8192, frames that end at most at 2^52, and a counter equal to the set bits below total
+-- not 'a broken record': total at most 8192, frames that end at most at 2^52, 4 or 5 levels ('another number .. in a lent record, is refused with 10'), and a counter
+-- equal to the set bits below total
 unfoldable pub sound : Frames → Bool
 sound fr =
     both (leb (fr .fa .total) 8192)
     (both (leb (fr .fa .start + fr .fa .total) framesEnd)
-    (eqb (fr .fa .allocated) (count (fr .bits) (fr .fa .total))))
+    (both (isLevels (fr .fa .levels))
+    (eqb (fr .fa .allocated) (count (fr .bits) (fr .fa .total)))))
 
 -- 'start_frame is start/4096 and total is (end − start)/4096, at most 8192, both rounded down'; 10 for 'start above end, end above 2^52'
 unfoldable pub init : Frames → ℕ → ℕ → FramesDid Answer

@@ -12,7 +12,7 @@ use answer::Outcome;
 ghost use mathlib.Core.Path.{_≡_};
 ghost use Prim.Native.Nat.{min};
 ghost use Rattle.bitmap.specs.Bitmap.{marksIn};
-ghost use Rattle.frame.specs.Frames.{lentFrames, sound, init as initOf, isAllocated, markAllocated, allocate, deallocate, freeFrames, allocatedFrames, totalFrames};
+ghost use Rattle.frame.specs.Frames.{lentFrames, isLevels, unused, withCounter, withLevels, sound, init as initOf, isAllocated, markAllocated, allocate, deallocate, freeFrames, allocatedFrames, totalFrames};
 ghost use Rattle.frame.specs.Results.{changed, allocated as allocatedOf};
 
 pub const FRAME_SIZE: u64 = 4096;
@@ -28,11 +28,17 @@ pub const FRAMES_END: u64 = 0x100_0000_0000;
 // The bitmap: 128 words, packed.
 pub type Marks = [u8; 1024];
 
-// The `total` frames from number `start` on, `allocated` of them marked.
+// The levels of page tables that a board has if none are named, and the most that one has.
+pub const LEVELS: u64 = 4;
+
+pub const MOST_LEVELS: u64 = 5;
+
+// The `total` frames from number `start` on, `allocated` of them marked, of a board with so many levels of page tables.
 pub struct FrameAllocator {
     pub start: u64,
     pub total: u64,
     pub allocated: u64,
+    pub levels: u64,
 }
 
 // An answer beside the record that the call leaves.
@@ -60,12 +66,13 @@ pub struct Given {
 
 impl FrameAllocator {
     pub fn new() -> Self
-        ensures { λ r. ⌜ (r .start ≡ 0) × (r .total ≡ 0) × (r .allocated ≡ 0) ⌝ }
+        ensures { λ r. ⌜ r ≡ unused 0 0 ⌝ }
     {
         FrameAllocator {
             start: 0,
             total: 0,
             allocated: 0,
+            levels: LEVELS,
         }
     }
 
@@ -73,14 +80,7 @@ impl FrameAllocator {
     pub fn is_sound(self, bitmap: &Marks) -> bool
         ensures { λ r. ⌜ r ≡ sound (lentFrames (now (bitmap .entry)) self) ⌝ }
     {
-        let total = self.total;
-        if total > MAX_FRAMES {
-            return false;
-        }
-        if self.start > FRAMES_END - total {
-            return false;
-        }
-        self.allocated == bitmap::count(bitmap, total as usize) as u64
+        are_sound(bitmap, self.start, self.total, self.levels, self.allocated)
     }
 
     fn init(self, bitmap: &mut Marks, from: u64, to: u64) -> Changed
@@ -106,6 +106,7 @@ impl FrameAllocator {
                 start: from / FRAME_SIZE,
                 total: at_most((to - from) / FRAME_SIZE, MAX_FRAMES),
                 allocated: 0,
+                levels: LEVELS,
             },
         }
     }
@@ -192,6 +193,32 @@ impl FrameAllocator {
         }
         Outcome::Value(self.total)
     }
+}
+
+// The same of a record's numbers, which a caller has at hand.
+fn are_sound(bitmap: &Marks, start: u64, total: u64, levels: u64, allocated: u64) -> bool
+    ensures { λ r. ⌜ r ≡ sound (lentFrames (now (bitmap .entry)) (withLevels (withCounter (unused start total) allocated) levels)) ⌝ }
+{
+    if total > MAX_FRAMES {
+        return false;
+    }
+    if start > FRAMES_END - total {
+        return false;
+    }
+    if !is_levels(levels) {
+        return false;
+    }
+    allocated == bitmap::count(bitmap, total as usize) as u64
+}
+
+// Whether a board may have n levels of page tables.
+pub fn is_levels(n: u64) -> bool
+    ensures { λ r. ⌜ r ≡ isLevels n ⌝ }
+{
+    if n < LEVELS {
+        return false;
+    }
+    n <= MOST_LEVELS
 }
 
 fn at_most(n: u64, limit: u64) -> u64

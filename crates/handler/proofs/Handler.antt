@@ -9,7 +9,8 @@ use lib.ListN.{getD, set, take}
 use Rattle.answer.specs.Numbers.{brokenRecord, reservedBit, outside}
 use Rattle.answer.specs.Outcomes.{asAnswer}
 use Rattle.answer.specs.declared.Answer.{Answer}
-use Rattle.entry.specs.Entry.{entryOf, indices}
+use Rattle.entry.specs.Entry.{entryOf, index, indices}
+use Rattle.entry.proofs.Entry.{index-last}
 use Rattle.frame.specs.Frames.{inside}
 use Rattle.tables.proofs.Laws.{stepped}
 use Rattle.answer.specs.declared.Outcome.{Outcome}
@@ -45,22 +46,19 @@ module _ (m : Memory) (t i e f : ℕ) where
   put-over-in h {to = to} a b = let z : to ≡ (f - startFrame m) * 512 = omega arith in rw (h, a, z)
 
 -- after `make_tables`
-module _ (up : ℕ) (m : Memory) (root v f : ℕ) (w u : Bool) {is : List ℕ} (g : is ≡ indices (suc up) v) {x : Outcome} {m′ : Memory}
-    (h : out x m′ ≡ make u m root (take up is)) where
+module _ (up : ℕ) (m : Memory) (root v f : ℕ) (w u : Bool) {x : Outcome} {m′ : Memory} (h : out x m′ ≡ make u m root (take up (indices (suc up) v))) where
   pub map-over-stop : {n : ℕ} → x ≡ Stop n → out (Stop n) m′ ≡ mapOver up m root v f w u
   unfolding mapOver
-  map-over-stop q =
-      (λ j. goOn (sym (stepped h q) j) (λ t n. putOver n t (getD is up 0) (entryOf (f * 2 ^ 12) w u) f))
-      ∙ ap (λ (l : List ℕ). goOn (make u m root (take up l)) (λ t n. putOver n t (getD l up 0) (entryOf (f * 2 ^ 12) w u) f)) g
+  map-over-stop q = λ j. goOn (sym (stepped h q) j) (λ t n. putOver n t (getD (indices (suc up) v) up 0) (entryOf (f * 2 ^ 12) w u) f)
 
-  -- .. `start_address`, `set` and `put_over`
-  pub map-over-put : {t : ℕ} → x ≡ Value t → f < 2 ^ 40 → {a e : ℕ} → a ≡ f * 2 ^ 12 % 2 ^ 64 → e ≡ entryOf a w u
-      → {o : Out} → o ≡ putOver m′ t (getD is up 0) e f → o ≡ mapOver up m root v f w u
+  -- .. `start_address`, `set`, `page_index` and `put_over`
+  pub map-over-put : {t : ℕ} → x ≡ Value t → f < 2 ^ 40 → {a e : ℕ} → a ≡ f * 2 ^ 12 % 2 ^ 64 → e ≡ entryOf a w u → {i : ℕ} → i ≡ index 0 v
+      → {o : Out} → o ≡ putOver m′ t i e f → o ≡ mapOver up m root v f w u
   unfolding mapOver
-  map-over-put k low {e = e} p q r =
+  map-over-put k low {e = e} p q {i} g r =
       let word : e ≡ entryOf (f * 2 ^ 12) w u = q ∙ ap (λ (n : ℕ). entryOf n w u) (p ∙ mod-eq-of-lt (omega arith)) in
-      r ∙ (λ j. goOn (sym (stepped h k) j) (λ t n. putOver n t (getD is up 0) (word j) f))
-      ∙ ap (λ (l : List ℕ). goOn (make u m root (take up l)) (λ t n. putOver n t (getD l up 0) (entryOf (f * 2 ^ 12) w u) f)) g
+      let at : i ≡ getD (indices (suc up) v) up 0 = g ∙ sym (index-last up v) in
+      r ∙ λ j. goOn (sym (stepped h k) j) (λ t n. putOver n t (at j) (word j) f)
 
 module _ (up : ℕ) (m : Memory) (root v : ℕ) (w u : Bool) (m′ : Memory) where
   pub map-new-none : (n : ℕ) → rawFrame m ≡ out (Stop n) m′ → mapNew up m root v w u ≡ out (Stop n) m′

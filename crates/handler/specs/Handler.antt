@@ -1,4 +1,4 @@
--- The second path's `handle_page_fault`, in document 01's order of checks. A board has `up` levels above the last; document 01's has 3.
+-- The second path's `handle_page_fault`, in document 01's order of checks. A board has `up` levels above the last.
 use Prim.Native.Nat.{ℕ, suc, _*_, _^_}
 use mathlib.Core.Bool.{Bool}
 use mathlib.Core.List.{List}
@@ -9,6 +9,7 @@ use Rattle.entry.specs.Entry.{entryOf, indices}
 use Rattle.frame.specs.Frames.{inside}
 use Rattle.answer.specs.declared.Outcome.the-variants.{Value, Stop}
 use Rattle.paging.specs.Walk.{place}
+use Rattle.paging.specs.Levels.{aboveLast}
 use Rattle.paging.specs.Map.{Memory, memory, startFrame, totalOf, Out, out, goOn, zeroFrame, make, Left, left, withWords}
 use Rattle.paging.specs.Calls.{whole}
 use Rattle.cow.specs.Marked.{pageOf}
@@ -48,3 +49,7 @@ handledSecond up m root v code =
 
 unfoldable pub handleFaultSecond : ℕ → Memory → ℕ → ℕ → ℕ → Out
 handleFaultSecond up m root a code = unless (whole m root) (out (Stop brokenRecord) m) (handledSecond up m root (pageOf a) code)
+
+-- on a board, by its own levels
+abbrev pub handleFaultSecondOf : Memory → ℕ → ℕ → ℕ → Out
+handleFaultSecondOf m root a code = handleFaultSecond (aboveLast m) m root a code

@@ -13,15 +13,15 @@ ghost use mathlib.Core.Path.{_≡_};
 ghost use Rattle.bitmap.specs.Bitmap.{marksIn};
 ghost use mathlib.Core.Bool.{true};
 ghost use mathlib.Core.List.{List};
-ghost use Prim.Native.Nat.{ℕ, _<_};
+ghost use Prim.Native.Nat.{ℕ, _<_, _≤_};
 ghost use Rattle.frame.specs.Frames.{inside};
 ghost use Rattle.paging.specs.Walk.{WordsLent};
-ghost use Rattle.paging.specs.Levels.{aboveLast, levels};
+ghost use Rattle.paging.specs.Levels.{mostAbove, mostLevels};
 ghost use Rattle.paging.specs.Map.{out, RoomToTake};
 ghost use Rattle.paging.specs.Kept.{lentMemory};
 ghost use Rattle.paging.specs.Calls.{asChanged};
 ghost use Rattle.copying.specs.Copying.{outOf};
-ghost use Rattle.handler.specs.Handler.{refused, putOver, mapOver, mapNew, handledSecond, handleFaultSecond};
+ghost use Rattle.handler.specs.Handler.{refused, putOver, mapOver, mapNew, handledSecond, handleFaultSecondOf};
 
 // The word e at entry i of table t, over what stands there, and frame f zeroed.
 fn put_over(words: &mut [u64], frames: FrameAllocator, t: u64, i: usize, e: u64, f: u64) -> Outcome
@@ -44,19 +44,20 @@ fn map_over(
     words: &mut [u64],
     bitmap: &mut Marks,
     frames: FrameAllocator,
+    up: u64,
     root: Frame,
     virt: VirtAddr,
     f: u64,
     writable: bool,
     user: bool,
 ) -> Entered
-    requires { ⌜ RoomToTake (lentMemory (now words) (now bitmap) frames) aboveLast ⌝ }
+    requires { ⌜ RoomToTake (lentMemory (now words) (now bitmap) frames) mostAbove ⌝ }
     requires { ⌜ inside (frames .start) (frames .total) f ≡ true ⌝ }
+    requires { ⌜ up ≤ mostAbove ⌝ }
     ensures { λ r. ⌜ outOf r (now (words .exit)) (now (bitmap .exit))
-        ≡ mapOver aboveLast (lentMemory (now (words .entry)) (now (bitmap .entry)) frames) (root .0) (virt .0) f writable user ⌝ }
+        ≡ mapOver up (lentMemory (now (words .entry)) (now (bitmap .entry)) frames) (root .0) (virt .0) f writable user ⌝ }
 {
-    let indices = entry::page_indices(virt);
-    let made = tables::make_tables(words, bitmap, frames, root, indices, 3, user);
+    let made = tables::make_tables(words, bitmap, frames, up, root, virt, up, user);
     let walked = made.walked;
     let left = made.frames;
     match walked {
@@ -67,7 +68,7 @@ fn map_over(
         Outcome::Value(t) => {
             let e = PageTableEntry::set(PhysAddr(Frame(f).start_address()), writable, user);
             Entered {
-                walked: put_over(words, left, t, indices[3], e.0, f),
+                walked: put_over(words, left, t, entry::page_index(virt, 0), e.0, f),
                 frames: left,
             }
         }
@@ -79,14 +80,16 @@ fn map_page(
     words: &mut [u64],
     bitmap: &mut Marks,
     frames: FrameAllocator,
+    up: u64,
     root: Frame,
     virt: VirtAddr,
     writable: bool,
     user: bool,
 ) -> Entered
-    requires { ⌜ RoomToTake (lentMemory (now words) (now bitmap) frames) levels ⌝ }
+    requires { ⌜ RoomToTake (lentMemory (now words) (now bitmap) frames) mostLevels ⌝ }
+    requires { ⌜ up ≤ mostAbove ⌝ }
     ensures { λ r. ⌜ outOf r (now (words .exit)) (now (bitmap .exit))
-        ≡ mapNew aboveLast (lentMemory (now (words .entry)) (now (bitmap .entry)) frames) (root .0) (virt .0) writable user ⌝ }
+        ≡ mapNew up (lentMemory (now (words .entry)) (now (bitmap .entry)) frames) (root .0) (virt .0) writable user ⌝ }
 {
     let taken = copying::raw_frame(bitmap, frames);
     let walked = taken.walked;
@@ -96,7 +99,7 @@ fn map_page(
             walked: Outcome::Stop(n),
             frames: left,
         },
-        Outcome::Value(f) => map_over(words, bitmap, left, root, virt, f, writable, user),
+        Outcome::Value(f) => map_over(words, bitmap, left, up, root, virt, f, writable, user),
     }
 }
 
@@ -115,16 +118,18 @@ fn handle(
     words: &mut [u64],
     bitmap: &mut Marks,
     frames: FrameAllocator,
+    up: u64,
     root: Frame,
     page: VirtAddr,
     code: u64,
 ) -> Changed
-    requires { ⌜ RoomToTake (lentMemory (now words) (now bitmap) frames) levels ⌝ }
-    ensures { λ r. ⌜ r ≡ asChanged (handledSecond aboveLast (lentMemory (now (words .entry)) (now (bitmap .entry)) frames) (root .0) (page .0) code) ⌝ }
+    requires { ⌜ RoomToTake (lentMemory (now words) (now bitmap) frames) mostLevels ⌝ }
+    requires { ⌜ up ≤ mostAbove ⌝ }
+    ensures { λ r. ⌜ r ≡ asChanged (handledSecond up (lentMemory (now (words .entry)) (now (bitmap .entry)) frames) (root .0) (page .0) code) ⌝ }
     ensures { λ r. ⌜ now (words .exit)
-        ≡ handledSecond aboveLast (lentMemory (now (words .entry)) (now (bitmap .entry)) frames) (root .0) (page .0) code .mem .words ⌝ }
+        ≡ handledSecond up (lentMemory (now (words .entry)) (now (bitmap .entry)) frames) (root .0) (page .0) code .mem .words ⌝ }
     ensures { λ r. ⌜ marksIn (now (bitmap .exit))
-        ≡ handledSecond aboveLast (lentMemory (now (words .entry)) (now (bitmap .entry)) frames) (root .0) (page .0) code .mem .frames .bits ⌝ }
+        ≡ handledSecond up (lentMemory (now (words .entry)) (now (bitmap .entry)) frames) (root .0) (page .0) code .mem .frames .bits ⌝ }
 {
     if error_code::is_reserved(code) {
         return Changed {
@@ -140,7 +145,7 @@ fn handle(
     }
     let writable = error_code::is_write(code);
     let user = error_code::is_user(code);
-    let r = map_page(words, bitmap, frames, root, page, writable, user);
+    let r = map_page(words, bitmap, frames, up, root, page, writable, user);
     let walked = r.walked;
     let left = r.frames;
     Changed {
@@ -158,11 +163,11 @@ pub fn handle_page_fault(
     addr: VirtAddr,
     code: u64,
 ) -> Changed
-    ensures { λ r. ⌜ r ≡ asChanged (handleFaultSecond aboveLast (lentMemory (now (words .entry)) (now (bitmap .entry)) frames) (root .0) (addr .0) code) ⌝ }
+    ensures { λ r. ⌜ r ≡ asChanged (handleFaultSecondOf (lentMemory (now (words .entry)) (now (bitmap .entry)) frames) (root .0) (addr .0) code) ⌝ }
     ensures { λ r. ⌜ now (words .exit)
-        ≡ handleFaultSecond aboveLast (lentMemory (now (words .entry)) (now (bitmap .entry)) frames) (root .0) (addr .0) code .mem .words ⌝ }
+        ≡ handleFaultSecondOf (lentMemory (now (words .entry)) (now (bitmap .entry)) frames) (root .0) (addr .0) code .mem .words ⌝ }
     ensures { λ r. ⌜ marksIn (now (bitmap .exit))
-        ≡ handleFaultSecond aboveLast (lentMemory (now (words .entry)) (now (bitmap .entry)) frames) (root .0) (addr .0) code .mem .frames .bits ⌝ }
+        ≡ handleFaultSecondOf (lentMemory (now (words .entry)) (now (bitmap .entry)) frames) (root .0) (addr .0) code .mem .frames .bits ⌝ }
 {
     if !mapper::is_whole(words, bitmap, frames, root) {
         return Changed {
@@ -170,5 +175,6 @@ pub fn handle_page_fault(
             frames,
         };
     }
-    handle(words, bitmap, frames, root, cow::page_of(addr), code)
+    let up = frames.levels - 1;
+    handle(words, bitmap, frames, up, root, cow::page_of(addr), code)
 }

@@ -1,5 +1,5 @@
 -- The statements of specs/Agreement.antt hold, but for the last, which is in Entries.antt.
-use Prim.Native.Nat.{ℕ, zero, suc, _+_, _*_, _%_, _^_, _<_}
+use Prim.Native.Nat.{ℕ, zero, suc, _+_, _-_, _*_, _%_, _^_, _<_}
 use mathlib.Core.Path.{_≡_, refl, sym, _∙_, ap}
 use mathlib.Core.Bool.{Bool, true, false, true≢false}
 use mathlib.Core.List.{List, [], _∷_}
@@ -16,11 +16,10 @@ use Rattle.paging.specs.declared.Leaf.{Leaf}
 use Rattle.paging.specs.Walk.{place, entryAt, reach, judge, leaf, address}
 use Rattle.paging.specs.Calls.{translate}
 use Rattle.paging.proofs.Walk.{present-yes, present-no, entry-out, entry-in, reach-end, reach-stop, reach-on, leaf-stop, leaf-on}
-use Rattle.paging.proofs.Calls.{translate-is}
-use Rattle.intel.specs.Sdm.{bits, Memory, Translation, physical, notPresent, reserved, large, choose, p, ps, tableOf, pageAt, throughPte, throughPde, throughPdpte, throughPml4e, linear}
-use Rattle.intel.specs.Agreement.{Holds, NoHuge, verdict, Agrees, SamePages, SameAbsent, ThreeOutcomes, OffBoard}
+use Rattle.intel.specs.Sdm.{Paging, fourLevel, fiveLevel, bits, Memory, Translation, physical, notPresent, reserved, large, choose, p, ps, tableOf, pageAt, throughPte, throughPde, throughPdpte, throughPml4e, throughPml5e, throughCr3, linear}
+use Rattle.intel.specs.Agreement.{pagingLevels, Holds, NoHuge, verdict, Agrees, SamePages, SameAbsent, ThreeOutcomes, OffBoard}
 use Rattle.intel.proofs.Steps.{no-address, not-outside, judge-plain, entry-outcomes, leaf-plain, plain-here, plain-below, outcomes}
-use Rattle.intel.proofs.Entries.{same-table}
+use Rattle.intel.proofs.Entries.{same-table, walk-is}
 
 -- ---- one table after the other, from the last level up
 
@@ -79,6 +78,17 @@ module _ (mem : Memory) (ws : List ℕ) (start total v : ℕ) (holds : Holds mem
   unfolding throughPml4e
   pml4 t = above (throughPml4e mem v) (λ s. throughPdpte mem v (mem (s * 2 ^ 12 + bits 38 30 v * 2 ^ 3))) reserved 2 t (λ e. refl) pointers
 
+  pml5 : (t : ℕ) → NoHuge ws start total 4 t
+      → Same (throughPml5e mem v (mem (t * 2 ^ 12 + bits 56 48 v * 2 ^ 3))) (address v (leaf ws start total t (indices 5 v)))
+  unfolding throughPml5e
+  pml5 t = above (throughPml5e mem v) (λ s. throughPml4e mem v (mem (s * 2 ^ 12 + bits 47 39 v * 2 ^ 3))) reserved 3 t (λ e. refl) pml4
+
+  -- the table that CR3 names
+  first : (paging : Paging) (cr3 t : ℕ) → tableOf cr3 ≡ t → NoHuge ws start total (pagingLevels paging - 1) t
+      → Same (throughCr3 paging mem v cr3) (address v (leaf ws start total t (indices (pagingLevels paging) v)))
+  first fourLevel cr3 t e = rw e (pml4 t)
+  first fiveLevel cr3 t e = rw e (pml5 t)
+
 -- ---- a walk that leaves the board
 
 module _ (ws : List ℕ) (start total v : ℕ) where
@@ -128,35 +138,39 @@ module _ (ws : List ℕ) (start total v : ℕ) where
 
 pub agrees : Agrees
 unfolding linear
-agrees mem cr3 ws start total root v h stays =
-    let ours : translate 3 ws start total root v ≡ address v (leaf ws start total root (indices 4 v)) = translate-is 3 ws start total root v (h .whole) in
-    rw (h .form, ours, h .base) (pml4 mem ws start total v (h .holds) root (h .noHuge) (λ z. stays (ours ∙ z)))
+agrees paging mem cr3 ws start total root v h stays =
+    let ours : translate (pagingLevels paging) ws start total root v ≡ address v (leaf ws start total root (indices (pagingLevels paging) v)) =
+    walk-is paging ws start total root v (h .whole) in
+    rw (h .form, ours) (first mem ws start total v (h .holds) paging cr3 root (h .base) (h .noHuge) (λ z. stays (ours ∙ z)))
 
 pub three-outcomes : ThreeOutcomes
-three-outcomes ws start total root v h = rw (translate-is 3 ws start total root v h) (outcomes ws start total v root (indices 4 v))
+three-outcomes paging ws start total root v h = rw (walk-is paging ws start total root v h) (outcomes ws start total v root (indices (pagingLevels paging) v))
 
 pub same-pages : SamePages
-same-pages mem cr3 ws start total root v h stays a =
-    let same : linear mem cr3 v ≡ verdict (translate 3 ws start total root v) = agrees mem cr3 ws start total root v h stays in
-    (λ e. same ∙ ap verdict e, λ e. back (translate 3 ws start total root v) (sym same ∙ e))
+same-pages paging mem cr3 ws start total root v h stays a =
+    let same : linear paging mem cr3 v ≡ verdict (translate (pagingLevels paging) ws start total root v) = agrees paging mem cr3 ws start total root v h stays in
+    (λ e. same ∙ ap verdict e, λ e. back (translate (pagingLevels paging) ws start total root v) (sym same ∙ e))
   where
     back : (w : Outcome) → verdict w ≡ physical a → w ≡ Value a
     back (Value b) e = let x : b ≡ a = cc in ap Value x
     back (Stop n) e = let z : _≡_ {A = ℕ} 0 1 = cc in absurd (omega arith)
 
 pub same-absent : SameAbsent
-same-absent mem cr3 ws start total root v h stays =
-    let same : linear mem cr3 v ≡ verdict (translate 3 ws start total root v) = agrees mem cr3 ws start total root v h stays in (
+same-absent paging mem cr3 ws start total root v h stays =
+    let same : linear paging mem cr3 v ≡ verdict (translate (pagingLevels paging) ws start total root v) = agrees paging mem cr3 ws start total root v h stays in (
       λ e. same ∙ ap verdict e,
-      λ e. ⊎-elim (λ (x : (a : ℕ) × (translate 3 ws start total root v ≡ Value a)). absurd (mapped (x .0) (sym (ap verdict (x .1)) ∙ sym same ∙ e)))
-          (⊎-elim (λ x. x) (λ x. absurd (stays x))) (three-outcomes ws start total root v (h .whole)),
+      λ e. ⊎-elim (λ (x : (a : ℕ) × (translate (pagingLevels paging) ws start total root v ≡ Value a)). absurd (mapped (x .0) (sym (ap verdict (x .1)) ∙ sym same ∙ e)))
+          (⊎-elim (λ x. x) (λ x. absurd (stays x))) (three-outcomes paging ws start total root v (h .whole)),
     )
   where
     mapped : (a : ℕ) → physical a ≡ notPresent → ⊥
     mapped a e = let z : _≡_ {A = ℕ} 0 1 = cc in omega arith
 
 pub off-board : OffBoard
-off-board ws start total root v h n =
-    let e : Leaves ws start total v root (indices 4 v) = off ws start total v (index 3 v) (indices 3 v) root n in
-    rw (translate-is 3 ws start total root v h)
-    (λ z. let q = e .0 z in (q .0, q .1, omega (arith, q .2), q .3, q .4), λ q. e .1 (q .0, q .1, omega (arith, q .2), q .3, q .4))
+off-board paging ws start total root v h n = rw (walk-is paging ws start total root v h) (exactly paging n)
+  where
+    exactly : (paging : Paging) → NoHuge ws start total (pagingLevels paging - 1) root
+        → (address v (leaf ws start total root (indices (pagingLevels paging) v)) ≡ Stop outside)
+        ↔ ((k : ℕ) × (t : ℕ) × (k < pagingLevels paging) × (reach ws start total root (take k (indices (pagingLevels paging) v)) ≡ Value t) × (inside start total t ≡ false))
+    exactly fourLevel = off ws start total v (index 3 v) (indices 3 v) root
+    exactly fiveLevel = off ws start total v (index 4 v) (indices 4 v) root

@@ -1,26 +1,37 @@
 -- The walk leaves the board exactly where the manual's translation reads an entry outside: `ReadsOff` of specs/Agreement.antt.
-use Prim.Native.Nat.{ℕ, suc, _+_, _*_, _/_, _^_, _<_}
+use Prim.Native.Nat.{ℕ, suc, _+_, _-_, _*_, _/_, _^_, _<_}
 use mathlib.Core.Path.{_≡_, refl, sym, _∙_, ap, subst}
 use mathlib.Core.Bool.{Bool, true, false, true≢false}
 use mathlib.Core.List.{List, [], _∷_, List·Memᴰ, List·Memᴰ·head, List·Memᴰ·tail, List·Memᴰ·cases-cons, List·Memᴰ·not-nil}
 use mathlib.Core.Logic.{_↔_, ⊎-elim}
 use native.Mathlib.Omega.{arith}
-use lib.ListN.{getD}
+use lib.ListN.{length, getD}
 use Rattle.bits.specs.Bit.{flag}
 use Rattle.answer.specs.Numbers.{notMapped, outside}
 use Rattle.entry.specs.Entry.{frameOf, index, indices}
-use Rattle.frame.specs.Frames.{inside}
+use Rattle.frame.specs.Frames.{inside, isLevels}
 use Rattle.answer.specs.declared.Outcome.the-variants.{Value, Stop}
-use Rattle.paging.specs.Walk.{place, entryAt, judge, leaf, address}
+use Rattle.paging.specs.Walk.{place, entryAt, judge, leaf, address, mayWalk}
+use Rattle.paging.specs.Calls.{translate}
 use Rattle.paging.proofs.Walk.{present-yes, present-no, entry-out, entry-in, leaf-stop, leaf-on}
-use Rattle.paging.proofs.Calls.{translate-is}
-use Rattle.intel.specs.Sdm.{bits, Memory, choose, p, ps, tableOf, reading, readPte, readPde, readPdpte, readPml4e, entriesRead}
-use Rattle.intel.specs.Agreement.{Holds, NoHuge, ReadsOff}
+use Rattle.paging.proofs.Calls.{walk-by-lent, translate-is}
+use Rattle.intel.specs.Sdm.{Paging, fourLevel, fiveLevel, bits, Memory, choose, p, ps, tableOf, reading, readPte, readPde, readPdpte, readPml4e, readPml5e, readCr3, entriesRead}
+use Rattle.intel.specs.Agreement.{pagingLevels, Holds, NoHuge, ReadsOff}
 use Rattle.intel.proofs.Steps.{no-address, not-outside, judge-plain, plain-here, plain-below}
 
 -- the table that an entry references is the frame that we walk to
 pub same-table : (e : ℕ) → tableOf e ≡ frameOf e
 same-table e = omega arith
+
+-- the walk that a translation is, on a record that is not broken: both numbers of levels are a board's
+pub walk-is : (paging : Paging) (ws : List ℕ) (start total root v : ℕ) → mayWalk (length ws) start total root ≡ true
+    → translate (pagingLevels paging) ws start total root v ≡ address v (leaf ws start total root (indices (pagingLevels paging) v))
+walk-is paging ws start total root v h =
+    translate-is (pagingLevels paging) ws start total root v (walk-by-lent (pagingLevels paging) (length ws) start total root (known paging) ∙ h)
+  where
+    known : (p : Paging) → isLevels (pagingLevels p) ≡ true
+    known fourLevel = refl
+    known fiveLevel = refl
 
 -- the address of entry i of table t
 abbrev at : ℕ → ℕ → ℕ
@@ -106,7 +117,17 @@ module _ (mem : Memory) (ws : List ℕ) (start total v : ℕ) (holds : Holds mem
   unfolding readPml4e
   pml4 t = above (λ s. readPdpte mem v (at s (bits 38 30 v))) 2 t pointers
 
+  pml5 : (t : ℕ) → NoHuge ws start total 4 t → Leaves t (indices 5 v) (readPml5e mem v (at t (bits 56 48 v)))
+  unfolding readPml5e
+  pml5 t = above (λ s. readPml4e mem v (at s (bits 47 39 v))) 3 t pml4
+
+  -- the table that CR3 names
+  first : (paging : Paging) (cr3 t : ℕ) → tableOf cr3 ≡ t → NoHuge ws start total (pagingLevels paging - 1) t
+      → Leaves t (indices (pagingLevels paging) v) (readCr3 paging mem v cr3)
+  first fourLevel cr3 t e = rw e (pml4 t)
+  first fiveLevel cr3 t e = rw e (pml5 t)
+
 pub reads-off : ReadsOff
 unfolding entriesRead
-reads-off mem cr3 ws start total root v h =
-    rw (h .form, translate-is 3 ws start total root v (h .whole), h .base) (pml4 mem ws start total v (h .holds) root (h .noHuge))
+reads-off paging mem cr3 ws start total root v h =
+    rw (h .form, walk-is paging ws start total root v (h .whole)) (first mem ws start total v (h .holds) paging cr3 root (h .base) (h .noHuge))

@@ -1,5 +1,6 @@
 -- The statements of specs/Agreement.antt are not empty. Any lent words can stand in physical memory, and words without bit 7 have no HUGE entry. The canonical addresses are
--- the lowest and the highest 2^47. On a board of one frame both sides map an address, to the same one, and both find another absent.
+-- the lowest and the highest 2^47 with four levels, 2^56 with five. On a board of one frame, of either kind, both sides map an address, to the same one, and both find
+-- another absent.
 use Prim.Native.Nat.{ℕ, zero, suc, _+_, _-_, _*_, _/_, _%_, _^_, _<_, _≤_}
 use mathlib.Core.Path.{_≡_, refl, sym, ap₂, subst}
 use mathlib.Core.Bool.{Bool, true, false}
@@ -14,10 +15,10 @@ use Rattle.entry.specs.Entry.{entryOf}
 use Rattle.answer.specs.declared.Outcome.{Outcome}
 use Rattle.answer.specs.declared.Outcome.the-variants.{Value}
 use Rattle.paging.specs.Walk.{place, present, entryAt, leaf, mayWalk}
-use Rattle.paging.specs.Calls.{translate}
-use Rattle.intel.specs.Sdm.{bits, Memory, physical, notPresent, or, canonical, linear, readPte, readPde, readPdpte, readPml4e, entriesRead}
+use Rattle.paging.specs.Calls.{lentWalk, translate}
+use Rattle.intel.specs.Sdm.{Paging, fourLevel, fiveLevel, bits, Memory, physical, notPresent, notCanonical, widthOf, or, canonical, linear, readPte, readPde, readPdpte, readPml4e, readPml5e, entriesRead}
 use Rattle.intel.proofs.Steps.{no-address, not-outside, entry-outcomes}
-use Rattle.intel.specs.Agreement.{Holds, NoHuge, Setting}
+use Rattle.intel.specs.Agreement.{pagingLevels, Holds, NoHuge, Setting}
 use Rattle.intel.proofs.Agree.{same-pages, same-absent}
 
 -- a physical memory that holds the words from frame `start` on
@@ -48,14 +49,22 @@ either x a b = go (eqb x a) refl
     go true e _ = inl (eqb-true x a e)
     go false _ e = inr (eqb-true x b e)
 
-pub canonical-only : (v : ℕ) → v < 2 ^ 64 → canonical v ≡ true → (v < 2 ^ 47) ⊎ (2 ^ 64 - 2 ^ 47 ≤ v)
-canonical-only v h c = ⊎-elim (λ (e : bits 63 47 v ≡ 0). inl (omega arith)) (λ e. inr (omega arith)) (either (bits 63 47 v) 0 (2 ^ 17 - 1) c)
+-- half of them
+abbrev pub half : Paging → ℕ
+half fourLevel = 2 ^ 47
+half fiveLevel = 2 ^ 56
 
-pub canonical-low : (v : ℕ) → v < 2 ^ 47 → canonical v ≡ true
-canonical-low v h = rw (eq-eqb (bits 63 47 v) 0 (omega arith))
+pub canonical-only : (paging : Paging) (v : ℕ) → v < 2 ^ 64 → canonical (widthOf paging) v ≡ true → (v < half paging) ⊎ (2 ^ 64 - half paging ≤ v)
+canonical-only fourLevel v h c = ⊎-elim (λ (e : bits 63 47 v ≡ 0). inl (omega arith)) (λ e. inr (omega arith)) (either (bits 63 47 v) 0 (2 ^ 17 - 1) c)
+canonical-only fiveLevel v h c = ⊎-elim (λ (e : bits 63 56 v ≡ 0). inl (omega arith)) (λ e. inr (omega arith)) (either (bits 63 56 v) 0 (2 ^ 8 - 1) c)
 
-pub canonical-high : (v : ℕ) → 2 ^ 64 - 2 ^ 47 ≤ v → v < 2 ^ 64 → canonical v ≡ true
-canonical-high v l h = rw (ne-eqb (bits 63 47 v) 0 (λ e. omega arith), eq-eqb (bits 63 47 v) (2 ^ 17 - 1) (omega arith))
+pub canonical-low : (paging : Paging) (v : ℕ) → v < half paging → canonical (widthOf paging) v ≡ true
+canonical-low fourLevel v h = rw (eq-eqb (bits 63 47 v) 0 (omega arith))
+canonical-low fiveLevel v h = rw (eq-eqb (bits 63 56 v) 0 (omega arith))
+
+pub canonical-high : (paging : Paging) (v : ℕ) → 2 ^ 64 - half paging ≤ v → v < 2 ^ 64 → canonical (widthOf paging) v ≡ true
+canonical-high fourLevel v l h = rw (ne-eqb (bits 63 47 v) 0 (λ e. omega arith), eq-eqb (bits 63 47 v) (2 ^ 17 - 1) (omega arith))
+canonical-high fiveLevel v l h = rw (ne-eqb (bits 63 56 v) 0 (λ e. omega arith), eq-eqb (bits 63 56 v) (2 ^ 8 - 1) (omega arith))
 
 -- ---- a board of one frame, 0x100, which is its own table at every level: entry 0 names the frame itself
 
@@ -71,23 +80,39 @@ words-plain : (n : ℕ) → flag 7 (getD words n 0) ≡ false
 words-plain zero = refl
 words-plain (suc n) = rw (alike 511 n 0)
 
-setting : (v : ℕ) → canonical v ≡ true → Setting (memoryOf words 0x100) 0x10_0000 words 0x100 1 0x100 v
+setting : (paging : Paging) (v : ℕ) → canonical (widthOf paging) v ≡ true → Setting paging (memoryOf words 0x100) 0x10_0000 words 0x100 1 0x100 v
 unfolding mayWalk
-setting v h = record { whole = refl; base = refl; holds = memory-holds words 0x100 1; noHuge = no-bit-7 words 0x100 1 3 0x100 words-plain; form = h }
+setting paging v h =
+    record { whole = refl; base = refl; holds = memory-holds words 0x100 1; noHuge = no-bit-7 words 0x100 1 (pagingLevels paging - 1) 0x100 words-plain; form = h }
 
-pub mapped : linear (memoryOf words 0x100) 0x10_0000 0x123 ≡ physical 0x10_0123
-unfolding translate leaf entryAt present mayWalk
-mapped = same-pages _ _ _ _ _ _ _ (setting 0x123 refl) no-address 0x10_0123 .0 refl
+pub mapped : (paging : Paging) → linear paging (memoryOf words 0x100) 0x10_0000 0x123 ≡ physical 0x10_0123
+unfolding translate lentWalk leaf entryAt present mayWalk
+mapped fourLevel = same-pages fourLevel _ _ _ _ _ _ _ (setting fourLevel 0x123 refl) no-address 0x10_0123 .0 refl
+mapped fiveLevel = same-pages fiveLevel _ _ _ _ _ _ _ (setting fiveLevel 0x123 refl) no-address 0x10_0123 .0 refl
 
-pub absent : linear (memoryOf words 0x100) 0x10_0000 0x1123 ≡ notPresent
-unfolding translate leaf entryAt present mayWalk
-absent = same-absent _ _ _ _ _ _ _ (setting 0x1123 refl) not-outside .0 refl
+pub absent : (paging : Paging) → linear paging (memoryOf words 0x100) 0x10_0000 0x1123 ≡ notPresent
+unfolding translate lentWalk leaf entryAt present mayWalk
+absent fourLevel = same-absent fourLevel _ _ _ _ _ _ _ (setting fourLevel 0x1123 refl) not-outside .0 refl
+absent fiveLevel = same-absent fiveLevel _ _ _ _ _ _ _ (setting fiveLevel 0x1123 refl) not-outside .0 refl
 
--- the four entries that the first reads are one and the same; the second's last is another one
-pub four-read : entriesRead (memoryOf words 0x100) 0x10_0000 0x123 ≡ 0x10_0000 ∷ 0x10_0000 ∷ 0x10_0000 ∷ 0x10_0000 ∷ []
-unfolding entriesRead readPml4e readPdpte readPde readPte
-four-read = refl
+-- the entries that the first reads are one and the same, four times or five; the second's last is another one
+abbrev firsts : Paging → List ℕ → List ℕ
+firsts fourLevel last = 0x10_0000 ∷ 0x10_0000 ∷ 0x10_0000 ∷ last
+firsts fiveLevel last = 0x10_0000 ∷ 0x10_0000 ∷ 0x10_0000 ∷ 0x10_0000 ∷ last
 
-pub last-other : entriesRead (memoryOf words 0x100) 0x10_0000 0x1123 ≡ 0x10_0000 ∷ 0x10_0000 ∷ 0x10_0000 ∷ 0x10_0008 ∷ []
-unfolding entriesRead readPml4e readPdpte readPde readPte
-last-other = refl
+pub one-read : (paging : Paging) → entriesRead paging (memoryOf words 0x100) 0x10_0000 0x123 ≡ firsts paging (0x10_0000 ∷ [])
+unfolding entriesRead readPml5e readPml4e readPdpte readPde readPte
+one-read fourLevel = refl
+one-read fiveLevel = refl
+
+pub last-other : (paging : Paging) → entriesRead paging (memoryOf words 0x100) 0x10_0000 0x1123 ≡ firsts paging (0x10_0008 ∷ [])
+unfolding entriesRead readPml5e readPml4e readPdpte readPde readPte
+last-other fourLevel = refl
+last-other fiveLevel = refl
+
+-- bit 48 chooses among the entries of the first table with five levels; with four it makes an address that is not canonical
+pub first-other :
+    (entriesRead fiveLevel (memoryOf words 0x100) 0x10_0000 (2 ^ 48) ≡ 0x10_0008 ∷ [])
+    × (linear fourLevel (memoryOf words 0x100) 0x10_0000 (2 ^ 48) ≡ notCanonical)
+unfolding entriesRead readPml5e linear
+first-other = (refl, refl)

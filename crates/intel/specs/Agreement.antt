@@ -1,7 +1,7 @@
--- This project's `translate` is Intel's 4-level paging: for canonical addresses, over tables with no HUGE entry, while the walk stays in lent frames; and it leaves them
--- exactly where the manual's translation reads an entry outside. The statements, with what they name; proofs/Agree.antt and proofs/Entries.antt prove them, and
--- proofs/Examples.antt shows that they are not empty.
-use Prim.Native.Nat.{ℕ, _+_, _*_, _/_, _^_, _<_, _≤_}
+-- This project's `translate` is Intel's paging, 4-level on a board of four levels and 5-level on one of five: for canonical addresses, over tables with no HUGE entry,
+-- while the walk stays in lent frames; and it leaves them exactly where the manual's translation reads an entry outside. The statements, with what they name;
+-- proofs/Agree.antt and proofs/Entries.antt prove them, and proofs/Examples.antt shows that they are not empty.
+use Prim.Native.Nat.{ℕ, _+_, _-_, _*_, _/_, _^_, _<_}
 use mathlib.Core.Path.{_≡_}
 use mathlib.Core.Bool.{true, false}
 use mathlib.Core.List.{List, List·Memᴰ}
@@ -15,15 +15,21 @@ use Rattle.answer.specs.declared.Outcome.{Outcome}
 use Rattle.answer.specs.declared.Outcome.the-variants.{Value, Stop}
 use Rattle.paging.specs.Walk.{place, entryAt, reach, mayWalk}
 use Rattle.paging.specs.Calls.{translate}
-use Rattle.intel.specs.Sdm.{Memory, Translation, physical, notPresent, tableOf, canonical, linear, entriesRead}
+use Rattle.intel.specs.Sdm.{Paging, fourLevel, fiveLevel, Memory, Translation, physical, notPresent, tableOf, widthOf, canonical, linear, entriesRead}
 
 -- ---- what the statements name
+
+-- the levels of tables, counted as our boards count them
+abbrev pub pagingLevels : Paging → ℕ
+pagingLevels fourLevel = 4
+pagingLevels fiveLevel = 5
 
 -- Physical memory holds the lent words: entry i of lent frame t stands at address t × 4096 + i × 8.
 pub record Holds (mem : Memory) (ws : List ℕ) (start total : ℕ) : Type 0 where
   pub word : (t i : ℕ) → inside start total t ≡ true → i < 512 → mem (t * 2 ^ 12 + i * 2 ^ 3) ≡ getD ws (place start t i) 0
 
--- No HUGE entry: a table to which fewer than `up` indices lead from the root has no present entry with bit 7. With 3 these are all tables above the last level.
+-- No HUGE entry: a table to which fewer than `up` indices lead from the root has no present entry with bit 7. With one less than the levels of
+-- a board these are all its tables above the last level.
 pub record NoHuge (ws : List ℕ) (start total up root : ℕ) : Type 0 where
   pub plain : (is : List ℕ) (t i e : ℕ) → length is < up → reach ws start total root is ≡ Value t → entryAt ws start total t i ≡ Value e → flag 7 e ≡ false
 
@@ -33,54 +39,54 @@ verdict (Value a) = physical a
 verdict (Stop n) = notPresent
 
 -- What the statements ask: a record that is not broken (10), CR3 that names the root, memory that holds the words, no HUGE entry, and a canonical address.
-pub record Setting (mem : Memory) (cr3 : ℕ) (ws : List ℕ) (start total root v : ℕ) : Type 0 where
+pub record Setting (paging : Paging) (mem : Memory) (cr3 : ℕ) (ws : List ℕ) (start total root v : ℕ) : Type 0 where
   pub whole : mayWalk (length ws) start total root ≡ true
   pub base : tableOf cr3 ≡ root
   pub holds : Holds mem ws start total
-  pub noHuge : NoHuge ws start total 3 root
-  pub form : canonical v ≡ true
+  pub noHuge : NoHuge ws start total (pagingLevels paging - 1) root
+  pub form : canonical (widthOf paging) v ≡ true
 
 -- ---- the statements
 
 -- While the walk stays in lent frames, the manual's outcome is ours.
 abbrev pub Agrees : Type 0
 Agrees =
-    (mem : Memory) (cr3 : ℕ) (ws : List ℕ) (start total root v : ℕ) → Setting mem cr3 ws start total root v
-    → (translate 3 ws start total root v ≡ Stop outside → ⊥)
-    → linear mem cr3 v ≡ verdict (translate 3 ws start total root v)
+    (paging : Paging) (mem : Memory) (cr3 : ℕ) (ws : List ℕ) (start total root v : ℕ) → Setting paging mem cr3 ws start total root v
+    → (translate (pagingLevels paging) ws start total root v ≡ Stop outside → ⊥)
+    → linear paging mem cr3 v ≡ verdict (translate (pagingLevels paging) ws start total root v)
 
 -- So there we give an address exactly where the manual does, and the same one,
 abbrev pub SamePages : Type 0
 SamePages =
-    (mem : Memory) (cr3 : ℕ) (ws : List ℕ) (start total root v : ℕ) → Setting mem cr3 ws start total root v
-    → (translate 3 ws start total root v ≡ Stop outside → ⊥)
-    → (a : ℕ) → (translate 3 ws start total root v ≡ Value a) ↔ (linear mem cr3 v ≡ physical a)
+    (paging : Paging) (mem : Memory) (cr3 : ℕ) (ws : List ℕ) (start total root v : ℕ) → Setting paging mem cr3 ws start total root v
+    → (translate (pagingLevels paging) ws start total root v ≡ Stop outside → ⊥)
+    → (a : ℕ) → (translate (pagingLevels paging) ws start total root v ≡ Value a) ↔ (linear paging mem cr3 v ≡ physical a)
 
 -- and 14, not mapped, exactly where the manual says that an entry is not present.
 abbrev pub SameAbsent : Type 0
 SameAbsent =
-    (mem : Memory) (cr3 : ℕ) (ws : List ℕ) (start total root v : ℕ) → Setting mem cr3 ws start total root v
-    → (translate 3 ws start total root v ≡ Stop outside → ⊥)
-    → (translate 3 ws start total root v ≡ Stop notMapped) ↔ (linear mem cr3 v ≡ notPresent)
+    (paging : Paging) (mem : Memory) (cr3 : ℕ) (ws : List ℕ) (start total root v : ℕ) → Setting paging mem cr3 ws start total root v
+    → (translate (pagingLevels paging) ws start total root v ≡ Stop outside → ⊥)
+    → (translate (pagingLevels paging) ws start total root v ≡ Stop notMapped) ↔ (linear paging mem cr3 v ≡ notPresent)
 
 -- No other number occurs: on a record that is not broken the answer is an address, 14 or 19, whatever the words are.
 abbrev pub ThreeOutcomes : Type 0
 ThreeOutcomes =
-    (ws : List ℕ) (start total root v : ℕ) → mayWalk (length ws) start total root ≡ true
-    → ((a : ℕ) × (translate 3 ws start total root v ≡ Value a))
-    ⊎ (translate 3 ws start total root v ≡ Stop notMapped)
-    ⊎ (translate 3 ws start total root v ≡ Stop outside)
+    (paging : Paging) (ws : List ℕ) (start total root v : ℕ) → mayWalk (length ws) start total root ≡ true
+    → ((a : ℕ) × (translate (pagingLevels paging) ws start total root v ≡ Value a))
+    ⊎ (translate (pagingLevels paging) ws start total root v ≡ Stop notMapped)
+    ⊎ (translate (pagingLevels paging) ws start total root v ≡ Stop outside)
 
 -- It is 19 exactly where the walk comes to a table outside the lent frames, whose entries the words do not hold.
 abbrev pub OffBoard : Type 0
 OffBoard =
-    (ws : List ℕ) (start total root v : ℕ) → mayWalk (length ws) start total root ≡ true → NoHuge ws start total 3 root
-    → (translate 3 ws start total root v ≡ Stop outside)
-    ↔ ((k : ℕ) × (t : ℕ) × (k ≤ 3) × (reach ws start total root (take k (indices 4 v)) ≡ Value t) × (inside start total t ≡ false))
+    (paging : Paging) (ws : List ℕ) (start total root v : ℕ) → mayWalk (length ws) start total root ≡ true → NoHuge ws start total (pagingLevels paging - 1) root
+    → (translate (pagingLevels paging) ws start total root v ≡ Stop outside)
+    ↔ ((k : ℕ) × (t : ℕ) × (k < pagingLevels paging) × (reach ws start total root (take k (indices (pagingLevels paging) v)) ≡ Value t) × (inside start total t ≡ false))
 
 -- In the manual's terms: exactly where one of the entries that its translation reads stands outside the lent frames.
 abbrev pub ReadsOff : Type 0
 ReadsOff =
-    (mem : Memory) (cr3 : ℕ) (ws : List ℕ) (start total root v : ℕ) → Setting mem cr3 ws start total root v
-    → (translate 3 ws start total root v ≡ Stop outside)
-    ↔ ((a : ℕ) × List·Memᴰ a (entriesRead mem cr3 v) × (inside start total (a / 2 ^ 12) ≡ false))
+    (paging : Paging) (mem : Memory) (cr3 : ℕ) (ws : List ℕ) (start total root v : ℕ) → Setting paging mem cr3 ws start total root v
+    → (translate (pagingLevels paging) ws start total root v ≡ Stop outside)
+    ↔ ((a : ℕ) × List·Memᴰ a (entriesRead paging mem cr3 v) × (inside start total (a / 2 ^ 12) ≡ false))

@@ -1,4 +1,4 @@
--- Ordinary 4-level paging for 4-KByte pages, from the Intel SDM, volume 3A, chapter 'Paging': 'Linear-Address Translation with 4-Level Paging and 5-Level Paging'
+-- 4-level and 5-level paging for 4-KByte pages, from the Intel SDM, volume 3A, chapter 'Paging': 'Linear-Address Translation with 4-Level Paging and 5-Level Paging'
 -- and the tables of entry formats. It speaks of physical memory, CR3 and a linear address, and of nothing else in this project. MAXPHYADDR is 52 and IA32_EFER.NXE
 -- is 1, so that no address bit of an entry is reserved, nor bit 63. Access rights and cached translations are the manual's next sections, and not part of this.
 use Prim.Native.Nat.{ℕ, _+_, _-_, _*_, _/_, _%_, _^_}
@@ -9,6 +9,10 @@ use lib.Dec.{eqb}
 -- 'bits hi:lo' of x
 abbrev pub bits : ℕ → ℕ → ℕ → ℕ
 bits hi lo x = x / 2 ^ lo % 2 ^ (hi + 1 - lo)
+
+-- the paging mode, by CR4.LA57
+pub data Paging : Type 0 where
+  fourLevel fiveLevel : Paging
 
 -- physical memory: the 64-bit entry at a physical address, which is a multiple of 8
 abbrev pub Memory : Type 0
@@ -29,7 +33,7 @@ abbrev pub p : ℕ → Bool
 p e = eqb (bits 0 0 e) 1
 
 -- bit 7 (PS), 'Page size', of a PDPTE or a PDE: it 'maps a 1-GByte page' (where the processor supports those; else it is reserved) or
--- 'maps a 2-MByte page'. Of a PML4E it is 'Reserved (must be 0)'. Of a PTE it is PAT.
+-- 'maps a 2-MByte page'. Of a PML5E or a PML4E it is 'Reserved (must be 0)'. Of a PTE it is PAT.
 abbrev pub ps : ℕ → Bool
 ps e = eqb (bits 7 7 e) 1
 
@@ -43,9 +47,13 @@ tableOf x = bits 51 12 x
 abbrev pub entryOf : ℕ → ℕ → ℕ
 entryOf x i = tableOf x * 2 ^ 12 + i * 2 ^ 3
 
--- 'Bits 51:12 are from CR3. Bits 11:3 are bits 47:39 of the linear address. Bits 2:0 are all 0.'
+-- with 5-level paging: 'Bits 51:12 are from CR3. Bits 11:3 are bits 56:48 of the linear address. Bits 2:0 are all 0.'
+abbrev pub pml5eAt : ℕ → ℕ → ℕ
+pml5eAt cr3 v = entryOf cr3 (bits 56 48 v)
+
+-- Bits 51:12 are from x, which is CR3 with 4-level paging and the PML5E with 5-level paging. 'Bits 11:3 are bits 47:39 of the linear address. Bits 2:0 are all 0.'
 abbrev pub pml4eAt : ℕ → ℕ → ℕ
-pml4eAt cr3 v = entryOf cr3 (bits 47 39 v)
+pml4eAt x v = entryOf x (bits 47 39 v)
 
 -- 'Bits 51:12 are from the PML4E. Bits 11:3 are bits 38:30 of the linear address. Bits 2:0 are all 0.'
 abbrev pub pdpteAt : ℕ → ℕ → ℕ
@@ -69,7 +77,7 @@ pageAt pte v = bits 51 12 pte * 2 ^ 12 + bits 11 0 v
 abbrev pub above : Translation → ℕ → Translation → Translation
 above other e on = choose (p e) (choose (ps e) other on) notPresent
 
--- the translation of linear address v from one of its four entries on
+-- the translation of linear address v from one of its entries on
 unfoldable pub throughPte : ℕ → ℕ → Translation
 throughPte v pte = choose (p pte) (physical (pageAt pte v)) notPresent
 
@@ -82,17 +90,30 @@ throughPdpte mem v pdpte = above large pdpte (throughPde mem v (mem (pdeAt pdpte
 unfoldable pub throughPml4e : Memory → ℕ → ℕ → Translation
 throughPml4e mem v pml4e = above reserved pml4e (throughPdpte mem v (mem (pdpteAt pml4e v)))
 
+unfoldable pub throughPml5e : Memory → ℕ → ℕ → Translation
+throughPml5e mem v pml5e = above reserved pml5e (throughPml4e mem v (mem (pml4eAt pml5e v)))
+
+-- .. and from CR3 on
+abbrev pub throughCr3 : Paging → Memory → ℕ → ℕ → Translation
+throughCr3 fourLevel mem v cr3 = throughPml4e mem v (mem (pml4eAt cr3 v))
+throughCr3 fiveLevel mem v cr3 = throughPml5e mem v (mem (pml5eAt cr3 v))
+
+-- the width of linear addresses: bits 47:0 or 56:0 are translated
+abbrev pub widthOf : Paging → ℕ
+widthOf fourLevel = 48
+widthOf fiveLevel = 57
+
 abbrev pub or : Bool → Bool → Bool
 or true b = true
 or false b = b
 
--- 'canonical' with 48-bit linear addresses: bits 63:47 are identical
-abbrev pub canonical : ℕ → Bool
-canonical v = or (eqb (bits 63 47 v) 0) (eqb (bits 63 47 v) (2 ^ 17 - 1))
+-- 'canonical' with linear addresses of a width: bits 63:(width - 1) are identical, 63:47 with 48 bits and 63:56 with 57
+abbrev pub canonical : ℕ → ℕ → Bool
+canonical width v = or (eqb (bits 63 (width - 1) v) 0) (eqb (bits 63 (width - 1) v) (2 ^ (65 - width) - 1))
 
 -- the translation of linear address v
-unfoldable pub linear : Memory → ℕ → ℕ → Translation
-linear mem cr3 v = choose (canonical v) (throughPml4e mem v (mem (pml4eAt cr3 v))) notCanonical
+unfoldable pub linear : Paging → Memory → ℕ → ℕ → Translation
+linear paging mem cr3 v = choose (canonical (widthOf paging) v) (throughCr3 paging mem v cr3) notCanonical
 
 -- ---- the entries that it reads
 
@@ -100,7 +121,7 @@ linear mem cr3 v = choose (canonical v) (throughPml4e mem v (mem (pml4eAt cr3 v)
 abbrev pub reading : Memory → ℕ → (ℕ → List ℕ) → List ℕ
 reading mem a behind = a ∷ choose (p (mem a)) (choose (ps (mem a)) [] (behind (mem a))) []
 
--- the addresses of the entries that are read from one of the four on, which stands at address a
+-- the addresses of the entries that are read from one of them on, which stands at address a
 unfoldable pub readPte : ℕ → List ℕ
 readPte a = a ∷ []
 
@@ -113,6 +134,14 @@ readPdpte mem v a = reading mem a (λ pdpte. readPde mem v (pdeAt pdpte v))
 unfoldable pub readPml4e : Memory → ℕ → ℕ → List ℕ
 readPml4e mem v a = reading mem a (λ pml4e. readPdpte mem v (pdpteAt pml4e v))
 
+unfoldable pub readPml5e : Memory → ℕ → ℕ → List ℕ
+readPml5e mem v a = reading mem a (λ pml5e. readPml4e mem v (pml4eAt pml5e v))
+
+-- .. and from CR3 on
+abbrev pub readCr3 : Paging → Memory → ℕ → ℕ → List ℕ
+readCr3 fourLevel mem v cr3 = readPml4e mem v (pml4eAt cr3 v)
+readCr3 fiveLevel mem v cr3 = readPml5e mem v (pml5eAt cr3 v)
+
 -- the physical addresses of the entries that the translation of linear address v reads, in order
-unfoldable pub entriesRead : Memory → ℕ → ℕ → List ℕ
-entriesRead mem cr3 v = choose (canonical v) (readPml4e mem v (pml4eAt cr3 v)) []
+unfoldable pub entriesRead : Paging → Memory → ℕ → ℕ → List ℕ
+entriesRead paging mem cr3 v = choose (canonical (widthOf paging) v) (readCr3 paging mem v cr3) []

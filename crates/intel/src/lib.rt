@@ -1,1 +1,1 @@
-// Intel's 4-level paging as a definition, and the theorem that ties `translate` to it. No code.
+// Intel's 4-level and 5-level paging as a definition, and the theorems that tie `translate` to it. No code.

@@ -12,24 +12,25 @@ use Rattle.packed.proofs.RoundTrip.{Bytes, Words}
 use Rattle.frame.specs.declared.FrameAllocator.{FrameAllocator}
 use Rattle.layout.specs.Parts.{fieldsSize, fieldsIn, fieldsOut, fieldsFit}
 
-three-words : (bs : List ℕ) → getD (unpack 3 bs) 0 0 ∷ getD (unpack 3 bs) 1 0 ∷ getD (unpack 3 bs) 2 0 ∷ [] ≡ unpack 3 bs
+four-words : (bs : List ℕ) → getD (unpack 4 bs) 0 0 ∷ getD (unpack 4 bs) 1 0 ∷ getD (unpack 4 bs) 2 0 ∷ getD (unpack 4 bs) 3 0 ∷ [] ≡ unpack 4 bs
 unfolding unpack
-three-words bs = refl
+four-words bs = refl
 
 pub fields-back : (bs : List ℕ) → length bs ≡ fieldsSize → Bytes bs → fieldsOut (fieldsIn bs) ≡ bs
-fields-back bs n b = ap pack (three-words bs) ∙ pack-unpack 3 bs n b
+fields-back bs n b = ap pack (four-words bs) ∙ pack-unpack 4 bs n b
 
-pub fields-kept : (fa : FrameAllocator) → fa .start < 2 ^ 64 → fa .total < 2 ^ 64 → fa .allocated < 2 ^ 64 → fieldsIn (fieldsOut fa) ≡ fa
-fields-kept fa s t a =
-    let e = unpack-pack (fa .start ∷ fa .total ∷ fa .allocated ∷ []) each in
-    λ j. record { start = getD (e j) 0 0; total = getD (e j) 1 0; allocated = getD (e j) 2 0 }
+pub fields-kept : (fa : FrameAllocator) → fa .start < 2 ^ 64 → fa .total < 2 ^ 64 → fa .allocated < 2 ^ 64 → fa .levels < 2 ^ 64 → fieldsIn (fieldsOut fa) ≡ fa
+fields-kept fa s t a l =
+    let e = unpack-pack (fa .start ∷ fa .total ∷ fa .allocated ∷ fa .levels ∷ []) each in
+    λ j. record { start = getD (e j) 0 0; total = getD (e j) 1 0; allocated = getD (e j) 2 0; levels = getD (e j) 3 0 }
   where
-    each : Words (fa .start ∷ fa .total ∷ fa .allocated ∷ [])
+    each : Words (fa .start ∷ fa .total ∷ fa .allocated ∷ fa .levels ∷ [])
     each zero = s
     each (suc zero) = t
     each (suc (suc zero)) = a
-    each (suc (suc (suc i))) = omega arith
+    each (suc (suc (suc zero))) = l
+    each (suc (suc (suc (suc i)))) = omega arith
 
 -- what one call packs, the next call takes
 pub fields-fit-out : (fa : FrameAllocator) → fieldsFit (fieldsOut fa) ≡ true
-fields-fit-out fa = eq-eqb _ fieldsSize (length-pack (fa .start ∷ fa .total ∷ fa .allocated ∷ []))
+fields-fit-out fa = eq-eqb _ fieldsSize (length-pack (fa .start ∷ fa .total ∷ fa .allocated ∷ fa .levels ∷ []))

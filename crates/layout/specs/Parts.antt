@@ -8,16 +8,16 @@ use Rattle.packed.specs.Words.{pack, unpack}
 use Rattle.frame.specs.Frames.{Frames, frames}
 use Rattle.frame.specs.declared.FrameAllocator.{FrameAllocator}
 
--- three numbers of 8 bytes
+-- four numbers of 8 bytes
 abbrev pub fieldsSize : ℕ
-fieldsSize = 24
+fieldsSize = 32
 
--- the frame record: start, total, allocated
+-- the frame record: start, total, allocated, levels
 abbrev pub fieldsIn : List ℕ → FrameAllocator
-fieldsIn bs = let r = unpack 3 bs in record { start = getD r 0 0; total = getD r 1 0; allocated = getD r 2 0 }
+fieldsIn bs = let r = unpack 4 bs in record { start = getD r 0 0; total = getD r 1 0; allocated = getD r 2 0; levels = getD r 3 0 }
 
 abbrev pub fieldsOut : FrameAllocator → List ℕ
-fieldsOut fa = pack (fa .start ∷ fa .total ∷ fa .allocated ∷ [])
+fieldsOut fa = pack (fa .start ∷ fa .total ∷ fa .allocated ∷ fa .levels ∷ [])
 
 -- the allocator of a packed record and of the words of a bitmap
 abbrev pub framesIn : List ℕ → List ℕ → Frames

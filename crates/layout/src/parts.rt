@@ -7,7 +7,7 @@ ghost use Rattle.answer.specs.Numbers.{brokenRecord, answerLine};
 ghost use Rattle.answer.specs.declared.Answer.the-variants.{Refused};
 ghost use Rattle.layout.specs.Parts.{fieldsSize, fieldsIn, fieldsOut};
 
-pub const FIELDS_SIZE: usize = 24;
+pub const FIELDS_SIZE: usize = 32;
 
 // What is told of parts that stand for no record.
 pub fn broken() -> Line
@@ -27,6 +27,7 @@ pub fn get_fields(fields: &[u8]) -> FrameAllocator
         start: packed::word_at(fields, 0),
         total: packed::word_at(fields, 8),
         allocated: packed::word_at(fields, 16),
+        levels: packed::word_at(fields, 24),
     }
 }
 
@@ -34,5 +35,6 @@ pub fn put_fields(fields: &mut [u8], frames: FrameAllocator)
     requires { ⌜ length (now fields) ≡ fieldsSize ⌝ }
     ensures { λ _. ⌜ now (fields .exit) ≡ fieldsOut frames ⌝ }
 {
-    packed::put_words(fields, &[frames.start, frames.total, frames.allocated]);
+    let numbers = [frames.start, frames.total, frames.allocated, frames.levels];
+    packed::put_words(fields, &numbers);
 }

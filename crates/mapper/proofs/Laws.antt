@@ -1,6 +1,6 @@
 -- What the functions' proofs share: definitions by what code has in its hands.
 -- Large arguments (memories, tables, counters) are explicit and the proofs write them down: to fill them in takes antt up to ten times as long.
-use Prim.Native.Nat.{ℕ, suc, _/_, _≤_}
+use Prim.Native.Nat.{ℕ, suc, _-_, _/_, _≤_}
 use mathlib.Core.Path.{_≡_, sym, _∙_, ap, subst}
 use mathlib.Core.Bool.{Bool, true, false}
 use mathlib.Core.List.{List}
@@ -11,7 +11,8 @@ use Rattle.answer.specs.Outcomes.{asAnswer}
 use Rattle.answer.specs.declared.Answer.{Answer}
 use Rattle.address.specs.Address.{aligned}
 use Rattle.bits.specs.Bit.{flag}
-use Rattle.entry.specs.Entry.{entryOf, hugeEntryOf, addrOf, frameOf, indices}
+use Rattle.entry.specs.Entry.{entryOf, hugeEntryOf, addrOf, frameOf, index, indices}
+use Rattle.entry.proofs.Entry.{index-behind}
 use Rattle.frame.specs.declared.Changed.{Changed}
 use Rattle.frame.specs.Frames.{inside}
 use Rattle.answer.specs.declared.Outcome.{Outcome}
@@ -49,8 +50,8 @@ module _ (start t i : ℕ) {p : ℕ} (q : p ≡ place start t i) (ws : List ℕ)
       let l = told-left (take-leaf-there ws start total t i h (word k)) in
       (ap Value (shifted (getD ws p 0) g ∙ ap (λ (x : ℕ). frameOf (getD ws x 0)) q) ∙ l .0, ap (λ (x : ℕ). set ws x 0) q ∙ l .1)
 
--- after `make_tables` along k indices, at most three: the room that is left
-pub made-left : (u : Bool) (m : Memory) (t : ℕ) (is : List ℕ) (k : ℕ) {w : Outcome} {m′ : Memory} → out w m′ ≡ make u m t (take k is) → k ≤ 3 → RoomToTake m 3 → RoomToTake m′ 0
+-- after `make_tables` along k indices, at most four: the room that is left
+pub made-left : (u : Bool) (m : Memory) (t : ℕ) (is : List ℕ) (k : ℕ) {w : Outcome} {m′ : Memory} → out w m′ ≡ make u m t (take k is) → k ≤ 4 → RoomToTake m 4 → RoomToTake m′ 0
 made-left u m t is k e h r = made-roomy u m t (take k is) e 0 (roomy-less _ (omega (arith, length-take k is)) r)
 
 -- after `put_entry` and `as_answer`: the outcome part by part
@@ -60,30 +61,28 @@ put-told m l e x y z =
     let t = told e in
     ((λ j. record { answer = (x ∙ ap asAnswer y) j; frames = m .frames .fa }) ∙ t .0, (z ∙ t .1 .0, t .1 .1))
 
--- after the tables are made, with the indices that `page_indices` gave
-module _ (up k : ℕ) (u : Bool) (m : Memory) (root v e : ℕ) {is : List ℕ} (g : is ≡ indices (suc up) v) (m′ : Memory) {w : Outcome} (d : out w m′ ≡ make u m root (take k is)) where
-  come : (w′ : Outcome) → w ≡ w′ → make u m root (take k (indices (suc up) v)) ≡ out w′ m′
-  come w′ h = subst (λ (l : List ℕ). make u m root (take k l) ≡ out w′ m′) g (stepped d h)
-
+-- after the tables are made, with the index that `page_index` gives
+module _ (up k : ℕ) (u : Bool) (m : Memory) (root v e : ℕ) (m′ : Memory) {w : Outcome} (d : out w m′ ≡ make u m root (take k (indices (suc up) v))) where
   pub map-at-stop : (n : ℕ) → w ≡ Stop n → mapAt up k u m root v e ≡ out (Stop n) m′
-  map-at-stop n h = map-entry-stop u m root _ _ e n m′ (come (Stop n) h)
+  map-at-stop n h = map-entry-stop u m root _ _ e n m′ (stepped d h)
 
-  pub map-at-put : (t : ℕ) → w ≡ Value t → {a : Answer} {s : Outcome} {ws : List ℕ} → a ≡ asAnswer s
-      → let l = putEntry (m′ .words) (startFrame m′) (totalOf m′) t (getD is k 0) e in
+  pub map-at-put : k ≤ up → (t : ℕ) → w ≡ Value t → {i : ℕ} → i ≡ index (up - k) v → {a : Answer} {s : Outcome} {ws : List ℕ} → a ≡ asAnswer s
+      → let l = putEntry (m′ .words) (startFrame m′) (totalOf m′) t i e in
       (s ≡ l .walked) × (ws ≡ l .words) → Told (record { answer = a; frames = m′ .frames .fa }) ws (m′ .frames .bits) (mapAt up k u m root v e)
-  map-at-put t h x y =
-      put-told m′ (putEntry (m′ .words) (startFrame m′) (totalOf m′) t (getD is k 0) e)
-      (map-entry-put u m root _ _ e t m′ (come (Value t) h) ∙ λ j. withWords m′ (putEntry (m′ .words) (startFrame m′) (totalOf m′) t (getD (sym g j) k 0) e)) x (y .0) (y .1)
+  map-at-put le t h {i} g x y =
+      let at : getD (indices (suc up) v) k 0 ≡ i = index-behind up k v le ∙ sym g in
+      put-told m′ (putEntry (m′ .words) (startFrame m′) (totalOf m′) t i e)
+      (map-entry-put u m root _ _ e t m′ (stepped d h) ∙ λ j. withWords m′ (putEntry (m′ .words) (startFrame m′) (totalOf m′) t (at j) e)) x (y .0) (y .1)
 
 -- what `map_entry` gave is what the call gives
 pub passed-on : {o p : Out} {r : Changed} {ws bm : List ℕ} → (r ≡ asChanged o) × ((ws ≡ o .mem .words) × (bm ≡ o .mem .frames .bits)) → o ≡ p
     → (r ≡ asChanged p) × ((ws ≡ p .mem .words) × (bm ≡ p .mem .frames .bits))
 passed-on {r = r} {ws = ws} {bm = bm} h e = subst (Told r ws bm) e h
 
-module _ (m : Memory) (root v p : ℕ) (w u : Bool) (h : whole m root ≡ true) {r : Changed} {ws bm : List ℕ} where
-  pub page-told : (e : ℕ) → e ≡ entryOf p w u → Told r ws bm (mapAt 3 3 u m root v e) → Told r ws bm (mapPage 3 m root v p w u)
-  page-told e g t = passed-on t (ap (mapAt 3 3 u m root v) g ∙ sym (map-is 3 m root v p w u h))
+module _ (up : ℕ) (m : Memory) (root v p : ℕ) (w u : Bool) (h : whole m root ≡ true) {r : Changed} {ws bm : List ℕ} where
+  pub page-told : (e : ℕ) → e ≡ entryOf p w u → Told r ws bm (mapAt up up u m root v e) → Told r ws bm (mapPage up m root v p w u)
+  page-told e g t = passed-on t (ap (mapAt up up u m root v) g ∙ sym (map-is up m root v p w u h))
 
-  pub huge-told : (s : HugePageSize) → aligned v (sizeOf s) ≡ true → aligned p (sizeOf s) ≡ true → (k : ℕ) → k ≡ tablesAbove 3 s → (e : ℕ) → e ≡ hugeEntryOf p w u
-      → Told r ws bm (mapAt 3 k u m root v e) → Told r ws bm (mapHuge 3 m root v p s w u)
-  huge-told s a b k f e g t = passed-on t ((λ j. mapAt 3 (f j) u m root v (g j)) ∙ sym (huge-is 3 m root v p w u s h a b))
+  pub huge-told : (s : HugePageSize) → aligned v (sizeOf s) ≡ true → aligned p (sizeOf s) ≡ true → (k : ℕ) → k ≡ tablesAbove up s → (e : ℕ) → e ≡ hugeEntryOf p w u
+      → Told r ws bm (mapAt up k u m root v e) → Told r ws bm (mapHuge up m root v p s w u)
+  huge-told s a b k f e g t = passed-on t ((λ j. mapAt up (f j) u m root v (g j)) ∙ sym (huge-is up m root v p w u s h a b))

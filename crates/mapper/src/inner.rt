@@ -11,12 +11,10 @@ use paging::HugePageSize;
 ghost use mathlib.Core.Path.{_≡_};
 ghost use Rattle.bitmap.specs.Bitmap.{marksIn};
 ghost use Prim.Native.Nat.{_<_, _≤_};
-ghost use lib.ListN.{getD, take};
-ghost use Rattle.entry.specs.Entry.{indices as indicesOf};
 ghost use Rattle.paging.specs.Walk.{WordsLent};
-ghost use Rattle.paging.specs.Map.{putEntry, takeLeaf, unmapEntry, RoomToTake};
-ghost use Rattle.paging.specs.Calls.{asChanged, mapAt, tablesAbove};
-ghost use Rattle.paging.specs.Levels.{aboveLast, levels};
+ghost use Rattle.paging.specs.Map.{putEntry, takeLeaf, RoomToTake};
+ghost use Rattle.paging.specs.Calls.{asChanged, mapAt, tablesAbove, unmapAt};
+ghost use Rattle.paging.specs.Levels.{mostAbove};
 ghost use Rattle.paging.specs.Kept.{lentMemory};
 ghost use Rattle.answer.specs.Outcomes.{asAnswer};
 
@@ -48,13 +46,14 @@ pub fn as_answer(walked: Outcome) -> Answer
     }
 }
 
-// The tables that are passed on the way to a huge page's entry.
-pub fn tables_above(size: HugePageSize) -> usize
-    ensures { λ r. ⌜ r ≡ tablesAbove aboveLast size ⌝ }
+// The tables that are passed on the way to a huge page's entry, below `up` levels.
+pub fn tables_above(up: u64, size: HugePageSize) -> u64
+    requires { ⌜ 1 ≤ up ⌝ }
+    ensures { λ r. ⌜ r ≡ tablesAbove up size ⌝ }
 {
     match size {
-        HugePageSize::Size2MB => 3,
-        HugePageSize::Size1GB => 2,
+        HugePageSize::Size2MB => up,
+        HugePageSize::Size1GB => up - 1,
     }
 }
 
@@ -63,20 +62,21 @@ pub fn map_entry(
     words: &mut [u64],
     bitmap: &mut Marks,
     frames: FrameAllocator,
+    up: u64,
     root: Frame,
     virt: VirtAddr,
-    k: usize,
+    k: u64,
     user: bool,
     e: u64,
 ) -> Changed
-    requires { ⌜ RoomToTake (lentMemory (now words) (now bitmap) frames) aboveLast ⌝ }
-    requires { ⌜ k ≤ aboveLast ⌝ }
-    ensures { λ r. ⌜ r ≡ asChanged (mapAt aboveLast k user (lentMemory (now (words .entry)) (now (bitmap .entry)) frames) (root .0) (virt .0) e) ⌝ }
-    ensures { λ r. ⌜ now (words .exit) ≡ mapAt aboveLast k user (lentMemory (now (words .entry)) (now (bitmap .entry)) frames) (root .0) (virt .0) e .mem .words ⌝ }
-    ensures { λ r. ⌜ marksIn (now (bitmap .exit)) ≡ mapAt aboveLast k user (lentMemory (now (words .entry)) (now (bitmap .entry)) frames) (root .0) (virt .0) e .mem .frames .bits ⌝ }
+    requires { ⌜ RoomToTake (lentMemory (now words) (now bitmap) frames) mostAbove ⌝ }
+    requires { ⌜ up ≤ mostAbove ⌝ }
+    requires { ⌜ k ≤ up ⌝ }
+    ensures { λ r. ⌜ r ≡ asChanged (mapAt up k user (lentMemory (now (words .entry)) (now (bitmap .entry)) frames) (root .0) (virt .0) e) ⌝ }
+    ensures { λ r. ⌜ now (words .exit) ≡ mapAt up k user (lentMemory (now (words .entry)) (now (bitmap .entry)) frames) (root .0) (virt .0) e .mem .words ⌝ }
+    ensures { λ r. ⌜ marksIn (now (bitmap .exit)) ≡ mapAt up k user (lentMemory (now (words .entry)) (now (bitmap .entry)) frames) (root .0) (virt .0) e .mem .frames .bits ⌝ }
 {
-    let indices = entry::page_indices(virt);
-    let made = tables::make_tables(words, bitmap, frames, root, indices, k, user);
+    let made = tables::make_tables(words, bitmap, frames, up, root, virt, k, user);
     let walked = made.walked;
     let left = made.frames;
     match walked {
@@ -85,7 +85,8 @@ pub fn map_entry(
             frames: left,
         },
         Outcome::Value(t) => {
-            let put = put_entry(words, left.start, left.total, t, indices[k], e);
+            let i = entry::page_index(virt, up - k);
+            let put = put_entry(words, left.start, left.total, t, i, e);
             Changed {
                 answer: as_answer(put),
                 frames: left,
@@ -113,15 +114,22 @@ pub fn take_leaf(words: &mut [u64], start: u64, total: u64, t: u64, i: usize) ->
     Outcome::Value(PageTableEntry(e).addr().0 >> 12)
 }
 
-// A page's leaf, cleared.
-pub fn unmap_leaf(words: &mut [u64], start: u64, total: u64, root: Frame, virt: VirtAddr) -> Outcome
+// A page's leaf below `up` levels, cleared.
+pub fn unmap_leaf(
+    words: &mut [u64],
+    start: u64,
+    total: u64,
+    up: u64,
+    root: Frame,
+    virt: VirtAddr,
+) -> Outcome
     requires { ⌜ WordsLent (now words) start total ⌝ }
-    ensures { λ r. ⌜ r ≡ unmapEntry (now (words .entry)) start total (root .0) (take aboveLast (indicesOf levels (virt .0))) (getD (indicesOf levels (virt .0)) aboveLast 0) .walked ⌝ }
-    ensures { λ r. ⌜ now (words .exit) ≡ unmapEntry (now (words .entry)) start total (root .0) (take aboveLast (indicesOf levels (virt .0))) (getD (indicesOf levels (virt .0)) aboveLast 0) .words ⌝ }
+    requires { ⌜ up ≤ mostAbove ⌝ }
+    ensures { λ r. ⌜ r ≡ unmapAt up (now (words .entry)) start total (root .0) (virt .0) .walked ⌝ }
+    ensures { λ r. ⌜ now (words .exit) ≡ unmapAt up (now (words .entry)) start total (root .0) (virt .0) .words ⌝ }
 {
-    let indices = entry::page_indices(virt);
-    match walk::find_table(words, start, total, root, indices) {
+    match walk::find_table(words, start, total, up, root, virt) {
         Outcome::Stop(n) => Outcome::Stop(n),
-        Outcome::Value(t) => take_leaf(words, start, total, t, indices[3]),
+        Outcome::Value(t) => take_leaf(words, start, total, t, entry::page_index(virt, 0)),
     }
 }

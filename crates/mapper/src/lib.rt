@@ -14,8 +14,7 @@ use frame::Marks;
 use paging::HugePageSize;
 ghost use mathlib.Core.Path.{_≡_};
 ghost use Rattle.bitmap.specs.Bitmap.{marksIn};
-ghost use Rattle.paging.specs.Calls.{asChanged, whole, mapPage, mapHuge, unmapPage};
-ghost use Rattle.paging.specs.Levels.{aboveLast};
+ghost use Rattle.paging.specs.Calls.{asChanged, whole, mapPageOf, mapHugeOf, unmapPage};
 ghost use Rattle.paging.specs.Kept.{lentMemory};
 ghost use Rattle.address.specs.Address.{asFrame};
 
@@ -39,9 +38,9 @@ pub fn map_page(
     writable: bool,
     user: bool,
 ) -> Changed
-    ensures { λ r. ⌜ r ≡ asChanged (mapPage aboveLast (lentMemory (now (words .entry)) (now (bitmap .entry)) frames) (root .0) (virt .0) (phys .0) writable user) ⌝ }
-    ensures { λ r. ⌜ now (words .exit) ≡ mapPage aboveLast (lentMemory (now (words .entry)) (now (bitmap .entry)) frames) (root .0) (virt .0) (phys .0) writable user .mem .words ⌝ }
-    ensures { λ r. ⌜ marksIn (now (bitmap .exit)) ≡ mapPage aboveLast (lentMemory (now (words .entry)) (now (bitmap .entry)) frames) (root .0) (virt .0) (phys .0) writable user .mem .frames .bits ⌝ }
+    ensures { λ r. ⌜ r ≡ asChanged (mapPageOf (lentMemory (now (words .entry)) (now (bitmap .entry)) frames) (root .0) (virt .0) (phys .0) writable user) ⌝ }
+    ensures { λ r. ⌜ now (words .exit) ≡ mapPageOf (lentMemory (now (words .entry)) (now (bitmap .entry)) frames) (root .0) (virt .0) (phys .0) writable user .mem .words ⌝ }
+    ensures { λ r. ⌜ marksIn (now (bitmap .exit)) ≡ mapPageOf (lentMemory (now (words .entry)) (now (bitmap .entry)) frames) (root .0) (virt .0) (phys .0) writable user .mem .frames .bits ⌝ }
 {
     if !is_whole(words, bitmap, frames, root) {
         return Changed {
@@ -50,10 +49,11 @@ pub fn map_page(
         };
     }
     let e = PageTableEntry::set(phys, writable, user);
-    inner::map_entry(words, bitmap, frames, root, virt, 3, user, e.0)
+    let up = frames.levels - 1;
+    inner::map_entry(words, bitmap, frames, up, root, virt, up, user, e.0)
 }
 
-// A 1 GiB entry at the third level, a 2 MiB entry at the last.
+// A 1 GiB entry at the last level but one, a 2 MiB entry at the last.
 pub fn map_huge_page(
     words: &mut [u64],
     bitmap: &mut Marks,
@@ -65,9 +65,9 @@ pub fn map_huge_page(
     writable: bool,
     user: bool,
 ) -> Changed
-    ensures { λ r. ⌜ r ≡ asChanged (mapHuge aboveLast (lentMemory (now (words .entry)) (now (bitmap .entry)) frames) (root .0) (virt .0) (phys .0) size writable user) ⌝ }
-    ensures { λ r. ⌜ now (words .exit) ≡ mapHuge aboveLast (lentMemory (now (words .entry)) (now (bitmap .entry)) frames) (root .0) (virt .0) (phys .0) size writable user .mem .words ⌝ }
-    ensures { λ r. ⌜ marksIn (now (bitmap .exit)) ≡ mapHuge aboveLast (lentMemory (now (words .entry)) (now (bitmap .entry)) frames) (root .0) (virt .0) (phys .0) size writable user .mem .frames .bits ⌝ }
+    ensures { λ r. ⌜ r ≡ asChanged (mapHugeOf (lentMemory (now (words .entry)) (now (bitmap .entry)) frames) (root .0) (virt .0) (phys .0) size writable user) ⌝ }
+    ensures { λ r. ⌜ now (words .exit) ≡ mapHugeOf (lentMemory (now (words .entry)) (now (bitmap .entry)) frames) (root .0) (virt .0) (phys .0) size writable user .mem .words ⌝ }
+    ensures { λ r. ⌜ marksIn (now (bitmap .exit)) ≡ mapHugeOf (lentMemory (now (words .entry)) (now (bitmap .entry)) frames) (root .0) (virt .0) (phys .0) size writable user .mem .frames .bits ⌝ }
 {
     if !is_whole(words, bitmap, frames, root) {
         return Changed {
@@ -89,32 +89,26 @@ pub fn map_huge_page(
         };
     }
     let e = PageTableEntry::set_huge(phys, writable, user);
-    inner::map_entry(
-        words,
-        bitmap,
-        frames,
-        root,
-        virt,
-        inner::tables_above(size),
-        user,
-        e.0,
-    )
+    let up = frames.levels - 1;
+    let k = inner::tables_above(up, size);
+    inner::map_entry(words, bitmap, frames, up, root, virt, k, user, e.0)
 }
 
 pub fn unmap_page(
     words: &mut [u64],
     start: u64,
     total: u64,
+    levels: u64,
     root: Frame,
     virt: VirtAddr,
 ) -> FrameAnswer
-    ensures { λ r. ⌜ r ≡ asFrame (unmapPage aboveLast (now (words .entry)) start total (root .0) (virt .0) .walked) ⌝ }
-    ensures { λ r. ⌜ now (words .exit) ≡ unmapPage aboveLast (now (words .entry)) start total (root .0) (virt .0) .words ⌝ }
+    ensures { λ r. ⌜ r ≡ asFrame (unmapPage levels (now (words .entry)) start total (root .0) (virt .0) .walked) ⌝ }
+    ensures { λ r. ⌜ now (words .exit) ≡ unmapPage levels (now (words .entry)) start total (root .0) (virt .0) .words ⌝ }
 {
-    if !walk::is_lent(words.len(), start, total, root) {
+    if !walk::may_walk(words.len(), start, total, levels, root) {
         return FrameAnswer::NoFrame(answer::BROKEN_RECORD);
     }
-    match inner::unmap_leaf(words, start, total, root, virt) {
+    match inner::unmap_leaf(words, start, total, levels - 1, root, virt) {
         Outcome::Value(f) => FrameAnswer::AtFrame(Frame(f)),
         Outcome::Stop(n) => FrameAnswer::NoFrame(n),
     }

@@ -4,6 +4,7 @@ use mathlib.Core.Path.{_≡_, refl, sym, _∙_, ap, subst}
 use mathlib.Core.Bool.{Bool, true, false, not}
 use mathlib.Core.List.{List}
 use native.Mathlib.Omega.{arith}
+use native.Mathlib.Nat.{mul-le-mul-left}
 use native.Mathlib.Decide.{decLe}
 use lib.IntN.{ℤ}
 use lib.Dec.{lit≤}
@@ -15,7 +16,7 @@ use Rattle.allocator.proofs.Round.{rounded-met, rounded-above, round-multiple, 
 use Rattle.answer.specs.Numbers.{sizeZero, unaligned, tooLarge, brokenRecord, mapPageFailed, regionNotFound, listFull}
 use Rattle.answer.specs.declared.Outcome.the-variants.{Value, Stop}
 use Rattle.answer.specs.declared.Outcome.{Outcome}
-use Rattle.paging.specs.Levels.{aboveLast}
+use Rattle.paging.specs.Levels.{mostLevels, mostAbove}
 use Rattle.paging.specs.Walk.{WordsLent}
 use Rattle.paging.specs.Map.{Memory, startFrame, totalOf, out, RoomToTake}
 use Rattle.paging.specs.Calls.{whole}
@@ -110,12 +111,15 @@ map-pages-done up w u root (suc n) m v k = go (mapFresh up w u m root v .walked)
     go (Stop a) e f = rw (map-pages-stop up w u m root v k n _ a (came e)) (omega arith)
 
 -- after `map_pages`: what is left is lent, and so many pages are mapped at most
-module _ {w : Outcome} {k : ℕ} {m′ : Memory} (wr u : Bool) (m : Memory) (root v n : ℕ) (h : ran w k m′ ≡ mapPages aboveLast wr u m root v 0 n) where
-  pub ran-lent : RoomToTake m (n * 4) → WordsLent (m′ .words) (startFrame m′) (totalOf m′)
-  ran-lent r = roomy-lent (subst (λ (x : Memory). RoomToTake x 0) (sym (ap (λ (x : Ran). x .mem) h)) (map-pages-roomy aboveLast wr u root n m v 0 0 (roomy-less _ (omega arith) r)))
+module _ {w : Outcome} {k : ℕ} {m′ : Memory} (up : ℕ) (wr u : Bool) (m : Memory) (root v n : ℕ) (h : ran w k m′ ≡ mapPages up wr u m root v 0 n) where
+  pub ran-lent : up ≤ mostAbove → RoomToTake m (n * mostLevels) → WordsLent (m′ .words) (startFrame m′) (totalOf m′)
+  ran-lent l r =
+      let most : suc up ≤ mostLevels = omega arith in
+      roomy-lent (subst (λ (x : Memory). RoomToTake x 0) (sym (ap (λ (x : Ran). x .mem) h))
+      (map-pages-roomy up wr u root n m v 0 0 (roomy-less _ (omega (arith, mul-le-mul-left n most)) r)))
 
   pub ran-few : k ≤ n
-  ran-few = omega (arith, ap (λ (x : Ran). x .done) h, map-pages-done aboveLast wr u root n m v 0)
+  ran-few = omega (arith, ap (λ (x : Ran). x .done) h, map-pages-done up wr u root n m v 0)
 
 module _ (up root a e k : ℕ) (m : Memory) where
   pub left-failed : e ≡ mapPageFailed → leftover up root a e k m ≡ clearPages up m root a k

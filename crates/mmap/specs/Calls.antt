@@ -10,6 +10,7 @@ use Rattle.allocator.specs.Round.{rounded, lastPage}
 use Rattle.answer.specs.Numbers.{sizeZero, unaligned, tooLarge, notImplemented, brokenRecord, mapPageFailed, regionNotFound, listFull}
 use Rattle.answer.specs.declared.Outcome.{Outcome}
 use Rattle.answer.specs.declared.Outcome.the-variants.{Value, Stop}
+use Rattle.paging.specs.Levels.{aboveLast}
 use Rattle.paging.specs.Map.{Memory}
 use Rattle.paging.specs.Calls.{whole}
 use Rattle.slots.specs.Slots.{Slots, listed, store}
@@ -100,6 +101,10 @@ mmap up s root hint size prot flags =
     (pick (eqb size 0) (userDid (Stop sizeZero) s)
     (userSized up s root hint prot flags (rounded size)))
 
+-- on a board, by its own levels
+abbrev pub mmapOf : User → ℕ → OptAddr → ℕ → ℤ → ℤ → UserDid
+mmapOf s root hint size prot flags = mmap (aboveLast (s .mem)) s root hint size prot flags
+
 -- 'needs a region's start and its rounded size, and frees its frames'
 abbrev pub unmapRegion : ℕ → User → ℕ → ℕ → ℕ → UserDid
 unmapRegion up s root a n =
@@ -117,6 +122,10 @@ munmap up s root a size =
     (pick (eqb size 0) (userDid (Stop sizeZero) s)
     (unless (onPage a) (userDid (Stop unaligned) s)
     (unmapped up s root a (rounded size))))
+
+-- on a board, by its own levels
+abbrev pub munmapOf : User → ℕ → ℕ → ℕ → UserDid
+munmapOf s root a size = munmap (aboveLast (s .mem)) s root a size
 
 -- '9 `mprotect`, always'
 abbrev pub mprotect : Outcome

@@ -12,7 +12,6 @@ use Rattle.address.specs.declared.VirtAnswer.{VirtAnswer}
 use Rattle.frame.specs.declared.FrameAllocator.{FrameAllocator}
 use Rattle.answer.specs.declared.Outcome.{Outcome}
 use Rattle.answer.specs.declared.Outcome.the-variants.{Stop}
-use Rattle.paging.specs.Levels.{aboveLast}
 use Rattle.paging.specs.Map.{Memory}
 use Rattle.address.specs.Address.{asVirt}
 use Rattle.paging.specs.Kept.{Kept, kept, lentMemory}
@@ -21,7 +20,7 @@ use Rattle.mmap.specs.declared.OptAddr.{OptAddr}
 use Rattle.mmap.specs.declared.OptAddr.the-variants.{NoAddr, SomeAddr}
 use Rattle.mmap.specs.declared.Mmapped.{Mmapped}
 use Rattle.mmap.specs.declared.Munmapped.{Munmapped}
-use Rattle.mmap.specs.Calls.{User, user, UserDid, mmap, munmap}
+use Rattle.mmap.specs.Calls.{User, user, UserDid, mmapOf, munmapOf}
 
 -- the address where one is given
 abbrev pub optAddr : Bool → ℕ → OptAddr
@@ -45,10 +44,10 @@ unfoldable pub onMmapList : {A : Type 0} → (Outcome → A) → (User → UserD
 onMmapList told call m list = unless (mmapFit list) (kept (told (Stop brokenRecord)) m list) (keptUser told (call (userIn m list)))
 
 abbrev pub mmapOn : Memory → List ℕ → ℕ → OptAddr → ℕ → ℤ → ℤ → Kept VirtAnswer
-mmapOn m list root hint size prot flags = onMmapList asVirt (λ s. mmap aboveLast s root hint size prot flags) m list
+mmapOn m list root hint size prot flags = onMmapList asVirt (λ s. mmapOf s root hint size prot flags) m list
 
 abbrev pub munmapOn : Memory → List ℕ → ℕ → ℕ → ℕ → Kept Answer
-munmapOn m list root a size = onMmapList asAnswer (λ s. munmap aboveLast s root a size) m list
+munmapOn m list root a size = onMmapList asAnswer (λ s. munmapOf s root a size) m list
 
 -- what code returns, beside the words, bitmap and list that it was lent
 abbrev pub mmapped : Mmapped → List ℕ → List ℕ → List ℕ → Kept VirtAnswer

@@ -16,9 +16,9 @@ ghost use mathlib.Core.Bool.{true};
 ghost use mathlib.Core.List.{List};
 ghost use mathlib.Core.Logic.{_⊎_};
 ghost use lib.ListN.{length};
-ghost use Prim.Native.Nat.{ℕ, _+_, _*_, _%_, _^_, _<_, _≤_};
+ghost use Prim.Native.Nat.{ℕ, _+_, _-_, _*_, _%_, _^_, _<_, _≤_};
 ghost use Rattle.allocator.specs.Round.{lastPage};
-ghost use Rattle.paging.specs.Levels.{aboveLast};
+ghost use Rattle.paging.specs.Levels.{mostAbove};
 ghost use Rattle.paging.specs.Walk.{WordsLent};
 ghost use Rattle.paging.specs.Kept.{lentMemory};
 ghost use Rattle.paging.specs.Map.{Memory};
@@ -135,6 +135,7 @@ fn is_full(list: &[u8], a: u64) -> bool
 fn clear_after(
     words: &mut [u64],
     frames: FrameAllocator,
+    up: u64,
     root: Frame,
     virt: VirtAddr,
     number: u64,
@@ -142,13 +143,14 @@ fn clear_after(
 )
     requires { ⌜ WordsLent (now words) (frames .start) (frames .total) ⌝ }
     requires { ⌜ virt .0 + done * 4096 < 2 ^ 64 ⌝ }
+    requires { ⌜ up ≤ mostAbove ⌝ }
     ensures { λ _. ⌜ ((b : List ℕ) → lentMemory (now (words .exit)) b frames
-        ≡ leftover aboveLast (root .0) (virt .0) number done (lentMemory (now (words .entry)) b frames)) ⌝ }
+        ≡ leftover up (root .0) (virt .0) number done (lentMemory (now (words .entry)) b frames)) ⌝ }
 {
     if number != answer::MAP_PAGE_FAILED {
         return;
     }
-    pages::clear_pages(words, frames, root, virt, done);
+    pages::clear_pages(words, frames, up, root, virt, done);
 }
 
 // A region of n bytes: its pages on fresh frames, then its slot.
@@ -169,12 +171,14 @@ fn map_region(
     requires { ⌜ n % 4096 ≡ 0 ⌝ }
     requires { ⌜ virt .0 + n ≤ lastPage ⌝ }
     ensures { λ r. ⌜ UserLeaves asVirt (mmapped r (now (words .exit)) (now (bitmap .exit)) (now (list .exit)))
-        (mapRegion aboveLast (lentUser (now (words .entry)) (now (bitmap .entry)) frames (now (list .entry))) (root .0) (virt .0) n prot flags) ⌝ }
+        (mapRegion (frames .levels - 1) (lentUser (now (words .entry)) (now (bitmap .entry)) frames (now (list .entry))) (root .0) (virt .0) n prot flags) ⌝ }
 {
+    let up = frames.levels - 1;
     let run = pages::map_pages(
         words,
         bitmap,
         frames,
+        up,
         root,
         virt,
         n / 4096,
@@ -185,7 +189,7 @@ fn map_region(
     let left = run.frames;
     match walked {
         Outcome::Stop(e) => {
-            clear_after(words, left, root, virt, e, run.done);
+            clear_after(words, left, up, root, virt, e, run.done);
             no_mapping(e, left)
         }
         Outcome::Value(_) => {
@@ -222,7 +226,7 @@ pub fn map_chosen(
     requires { ⌜ n % 4096 ≡ 0 ⌝ }
     requires { ⌜ n ≤ lastPage ⌝ }
     ensures { λ r. ⌜ UserLeaves asVirt (mmapped r (now (words .exit)) (now (bitmap .exit)) (now (list .exit)))
-        (chosenRegion aboveLast (lentUser (now (words .entry)) (now (bitmap .entry)) frames (now (list .entry))) (root .0) hint n prot flags) ⌝ }
+        (chosenRegion (frames .levels - 1) (lentUser (now (words .entry)) (now (bitmap .entry)) frames (now (list .entry))) (root .0) hint n prot flags) ⌝ }
 {
     match choose(list, hint, n, flags) {
         Outcome::Stop(e) => no_mapping(e, frames),
@@ -258,13 +262,14 @@ pub fn unmap_region(
     requires { ⌜ mmapFit (now list) ≡ true ⌝ }
     requires { ⌜ soundUser (lentUser (now words) (now bitmap) frames (now list)) (root .0) ≡ true ⌝ }
     ensures { λ r. ⌜ UserLeaves asAnswer (munmapped r (now (words .exit)) (now (bitmap .exit)) (now (list .exit)))
-        (unmapRegion aboveLast (lentUser (now (words .entry)) (now (bitmap .entry)) frames (now (list .entry))) (root .0) (addr .0) n) ⌝ }
+        (unmapRegion (frames .levels - 1) (lentUser (now (words .entry)) (now (bitmap .entry)) frames (now (list .entry))) (root .0) (addr .0) n) ⌝ }
 {
     let at = mappings::list::place_of(list, addr.0);
     if !mappings::list::holds_at(list, at, addr.0, n) {
         return not_unmapped(answer::REGION_NOT_FOUND, frames);
     }
-    let left = pages::free_pages(words, bitmap, frames, root, addr, n / 4096);
+    let up = frames.levels - 1;
+    let left = pages::free_pages(words, bitmap, frames, up, root, addr, n / 4096);
     mappings::list::remove_at(list, at);
     Munmapped {
         answer: Answer::Met,

@@ -10,11 +10,10 @@ use frame::FrameAllocator;
 use frame::Marks;
 ghost use mathlib.Core.Path.{_≡_};
 ghost use Rattle.bits.specs.Bit.{both};
-ghost use Rattle.paging.specs.Levels.{aboveLast};
 ghost use Rattle.answer.specs.Outcomes.{asAnswer};
 ghost use Rattle.paging.specs.Kept.{lentMemory};
 ghost use Rattle.mappings.specs.Packed.{mmapFit};
-ghost use Rattle.mmap.specs.Calls.{soundUser, mmap as mmapOf, munmap as munmapOf, mprotect as mprotectOf};
+ghost use Rattle.mmap.specs.Calls.{soundUser, mmapOf, munmapOf, mprotect as mprotectOf};
 ghost use Rattle.mmap.specs.Packed.{optAddr, lentUser, mmapOn, munmapOn, mmapped, munmapped, UserReads};
 
 pub const PROT_READ: i32 = 0x1;
@@ -87,7 +86,7 @@ pub fn mmap(
 ) -> Mmapped
     ensures { λ r. ⌜ mmapped r (now (words .exit)) (now (bitmap .exit)) (now (list .exit))
         ≡ mmapOn (lentMemory (now (words .entry)) (now (bitmap .entry)) frames) (now (list .entry)) (root .0) hint size prot flags ⌝ }
-    ensures { λ _. ⌜ UserReads (λ s. mmapOf aboveLast s (root .0) hint size prot flags)
+    ensures { λ _. ⌜ UserReads (λ s. mmapOf s (root .0) hint size prot flags)
         (lentMemory (now (words .entry)) (now (bitmap .entry)) frames) (now (list .entry)) (now (list .exit)) ⌝ }
 {
     if !is_whole(words, bitmap, frames, root, list) {
@@ -115,7 +114,7 @@ pub fn munmap(
 ) -> Munmapped
     ensures { λ r. ⌜ munmapped r (now (words .exit)) (now (bitmap .exit)) (now (list .exit))
         ≡ munmapOn (lentMemory (now (words .entry)) (now (bitmap .entry)) frames) (now (list .entry)) (root .0) (addr .0) size ⌝ }
-    ensures { λ _. ⌜ UserReads (λ s. munmapOf aboveLast s (root .0) (addr .0) size)
+    ensures { λ _. ⌜ UserReads (λ s. munmapOf s (root .0) (addr .0) size)
         (lentMemory (now (words .entry)) (now (bitmap .entry)) frames) (now (list .entry)) (now (list .exit)) ⌝ }
 {
     if !is_whole(words, bitmap, frames, root, list) {

@@ -75,9 +75,10 @@ module _ (up : ℕ) (w u : Bool) (m : Memory) (root v : ℕ) (low : startFrame m
       ∙ ap (λ (n : ℕ). out (orFailed (mapAt up up u m′ root v n .walked)) (mapAt up up u m′ root v n .mem)) word
       ∙ sym (map-fresh-on up w u m root v f m′ h)
 
-pub map-fresh-left : {w : Outcome} {m′ : Memory} (wr u : Bool) (m : Memory) (root v : ℕ) → out w m′ ≡ mapFresh 3 wr u m root v
-    → (n : ℕ) → RoomToTake m (n + 4) → RoomToTake m′ n
-map-fresh-left wr u m root v e n r = subst (λ (x : Memory). RoomToTake x n) (sym (ap (λ (o : Out). o .mem) e)) (map-fresh-roomy 3 wr u m root v n r)
+pub map-fresh-left : (up : ℕ) → up ≤ 4 → {w : Outcome} {m′ : Memory} (wr u : Bool) (m : Memory) (root v : ℕ) → out w m′ ≡ mapFresh up wr u m root v
+    → (n : ℕ) → RoomToTake m (n + 5) → RoomToTake m′ n
+map-fresh-left up few wr u m root v e n r =
+    subst (λ (x : Memory). RoomToTake x n) (sym (ap (λ (o : Out). o .mem) e)) (map-fresh-roomy up wr u m root v n (roomy-less _ (omega arith) r))
 
 -- ---- runs, at turn i of n
 
@@ -96,16 +97,16 @@ module _ (root v i n : ℕ) (lt : i < n) where
     pub run-stop : (a : ℕ) → mapFresh up w u m root (v + i * 4096) ≡ out (Stop a) m′ → mapPages up w u m root (v + i * 4096) i (n - i) ≡ ran (Stop a) i m′
     run-stop a e = rw one-less (map-pages-stop up w u m root _ i _ m′ a e)
 
-  module _ (w u : Bool) (m m′ : Memory) {x : Outcome} (e : out x m′ ≡ mapFresh 3 w u m root (v + i * 4096)) where
-    pub turn-left : RoomToTake m ((n - i) * 4) → RoomToTake m′ ((n - (i + 1)) * 4)
-    turn-left r = map-fresh-left w u m root (v + i * 4096) e ((n - (i + 1)) * 4) (roomy-less ((n - (i + 1)) * 4 + 4) (omega arith) r)
+  module _ (up : ℕ) (w u : Bool) (m m′ : Memory) {x : Outcome} (e : out x m′ ≡ mapFresh up w u m root (v + i * 4096)) where
+    pub turn-left : up ≤ 4 → RoomToTake m ((n - i) * 5) → RoomToTake m′ ((n - (i + 1)) * 5)
+    turn-left few r = map-fresh-left up few w u m root (v + i * 4096) e ((n - (i + 1)) * 5) (roomy-less ((n - (i + 1)) * 5 + 5) (omega arith) r)
 
-    module _ {o : Ran} (a : o ≡ mapPages 3 w u m root (v + i * 4096) i (n - i)) where
-      pub turn-on : (y : ℕ) → x ≡ Value y → o ≡ mapPages 3 w u m′ root (v + (i + 1) * 4096) (i + 1) (n - (i + 1))
-      turn-on y h = a ∙ run-on 3 w u m m′ y (stepped e h)
+    module _ {o : Ran} (a : o ≡ mapPages up w u m root (v + i * 4096) i (n - i)) where
+      pub turn-on : (y : ℕ) → x ≡ Value y → o ≡ mapPages up w u m′ root (v + (i + 1) * 4096) (i + 1) (n - (i + 1))
+      turn-on y h = a ∙ run-on up w u m m′ y (stepped e h)
 
       pub turn-stop : (y : ℕ) → x ≡ Stop y → ran (Stop y) i m′ ≡ o
-      turn-stop y h = sym (a ∙ run-stop 3 w u m m′ y (stepped e h))
+      turn-stop y h = sym (a ∙ run-stop up w u m m′ y (stepped e h))
 
   pub clear-on : (up : ℕ) (m m′ : Memory) → m′ ≡ clearPage up m root (v + i * 4096)
       → clearPages up m root (v + i * 4096) (n - i) ≡ clearPages up m′ root (v + (i + 1) * 4096) (n - (i + 1))

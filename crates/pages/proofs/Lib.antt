@@ -5,3 +5,4 @@ pub mod Runs
 pub mod Leaves
 pub mod Steps
 pub mod Blanks
+pub mod Barrens

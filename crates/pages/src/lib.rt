@@ -13,16 +13,13 @@ use frame::Marks;
 use paging::Entered;
 ghost use mathlib.Core.Path.{_≡_};
 ghost use mathlib.Core.List.{List};
-ghost use Prim.Native.Nat.{ℕ, _+_, _*_, _^_, _<_};
+ghost use Prim.Native.Nat.{ℕ, _+_, _*_, _^_, _<_, _≤_};
 ghost use Rattle.paging.specs.Walk.{WordsLent};
 ghost use Rattle.paging.specs.Map.{out, RoomToTake};
 ghost use Rattle.paging.specs.Pages.{ran, freshFrame, orFailed, mapFresh, mapPages, clearPage, freePage, clearPages, freePages};
-ghost use Rattle.paging.specs.Levels.{aboveLast, levels};
+ghost use Rattle.paging.specs.Levels.{mostAbove, mostLevels};
 ghost use Rattle.paging.specs.Kept.{lentMemory};
 ghost use Rattle.pages.specs.Answers.{asOutcome};
-
-// All the pages that there are: bits 63-48 of an address are ignored.
-const ALL_PAGES: u64 = 0x10_0000_0000;
 
 // How far a run of pages came: `done` of them are mapped.
 pub struct Run {
@@ -60,14 +57,16 @@ pub fn map_fresh(
     words: &mut [u64],
     bitmap: &mut Marks,
     frames: FrameAllocator,
+    up: u64,
     root: Frame,
     virt: VirtAddr,
     writable: bool,
     user: bool,
 ) -> Entered
-    requires { ⌜ RoomToTake (lentMemory (now words) (now bitmap) frames) levels ⌝ }
+    requires { ⌜ RoomToTake (lentMemory (now words) (now bitmap) frames) mostLevels ⌝ }
+    requires { ⌜ up ≤ mostAbove ⌝ }
     ensures { λ r. ⌜ out (r .walked) (lentMemory (now (words .exit)) (now (bitmap .exit)) (r .frames))
-        ≡ mapFresh aboveLast writable user (lentMemory (now (words .entry)) (now (bitmap .entry)) frames) (root .0) (virt .0) ⌝ }
+        ≡ mapFresh up writable user (lentMemory (now (words .entry)) (now (bitmap .entry)) frames) (root .0) (virt .0) ⌝ }
 {
     let fresh = fresh_frame(words, bitmap, frames);
     let walked = fresh.walked;
@@ -79,7 +78,17 @@ pub fn map_fresh(
         },
         Outcome::Value(f) => {
             let e = PageTableEntry::set(PhysAddr(Frame(f).start_address()), writable, user);
-            let mapped = mapper::inner::map_entry(words, bitmap, left, root, virt, 3, user, e.0);
+            let mapped = mapper::inner::map_entry(
+                words,
+                bitmap,
+                left,
+                up,
+                root,
+                virt,
+                up,
+                user,
+                e.0,
+            );
             let answer = mapped.answer;
             let after = mapped.frames;
             Entered {
@@ -95,16 +104,18 @@ pub fn map_pages(
     words: &mut [u64],
     bitmap: &mut Marks,
     frames: FrameAllocator,
+    up: u64,
     root: Frame,
     virt: VirtAddr,
     n: u64,
     writable: bool,
     user: bool,
 ) -> Run
-    requires { ⌜ RoomToTake (lentMemory (now words) (now bitmap) frames) (n * levels) ⌝ }
+    requires { ⌜ RoomToTake (lentMemory (now words) (now bitmap) frames) (n * mostLevels) ⌝ }
     requires { ⌜ virt .0 + n * 4096 < 2 ^ 64 ⌝ }
+    requires { ⌜ up ≤ mostAbove ⌝ }
     ensures { λ r. ⌜ ran (r .walked) (r .done) (lentMemory (now (words .exit)) (now (bitmap .exit)) (r .frames))
-        ≡ mapPages aboveLast writable user (lentMemory (now (words .entry)) (now (bitmap .entry)) frames) (root .0) (virt .0) 0 n ⌝ }
+        ≡ mapPages up writable user (lentMemory (now (words .entry)) (now (bitmap .entry)) frames) (root .0) (virt .0) 0 n ⌝ }
 {
     let mut left = frames;
     for i in 0..n {
@@ -112,6 +123,7 @@ pub fn map_pages(
             words,
             bitmap,
             left,
+            up,
             root,
             VirtAddr(virt.0 + i * 4096),
             writable,
@@ -138,11 +150,12 @@ pub fn map_pages(
 }
 
 // A page's leaf, cleared; a page that is not mapped is passed over.
-pub fn clear_page(words: &mut [u64], frames: FrameAllocator, root: Frame, virt: VirtAddr)
+pub fn clear_page(words: &mut [u64], frames: FrameAllocator, up: u64, root: Frame, virt: VirtAddr)
     requires { ⌜ WordsLent (now words) (frames .start) (frames .total) ⌝ }
-    ensures { λ _. ⌜ ((b : List ℕ) → lentMemory (now (words .exit)) b frames ≡ clearPage aboveLast (lentMemory (now (words .entry)) b frames) (root .0) (virt .0)) ⌝ }
+    requires { ⌜ up ≤ mostAbove ⌝ }
+    ensures { λ _. ⌜ ((b : List ℕ) → lentMemory (now (words .exit)) b frames ≡ clearPage up (lentMemory (now (words .entry)) b frames) (root .0) (virt .0)) ⌝ }
 {
-    mapper::inner::unmap_leaf(words, frames.start, frames.total, root, virt);
+    mapper::inner::unmap_leaf(words, frames.start, frames.total, up, root, virt);
 }
 
 // .. and its frame freed.
@@ -150,14 +163,16 @@ pub fn free_page(
     words: &mut [u64],
     bitmap: &mut Marks,
     frames: FrameAllocator,
+    up: u64,
     root: Frame,
     virt: VirtAddr,
 ) -> FrameAllocator
     requires { ⌜ RoomToTake (lentMemory (now words) (now bitmap) frames) 0 ⌝ }
+    requires { ⌜ up ≤ mostAbove ⌝ }
     ensures { λ r. ⌜ lentMemory (now (words .exit)) (now (bitmap .exit)) r
-        ≡ freePage aboveLast (lentMemory (now (words .entry)) (now (bitmap .entry)) frames) (root .0) (virt .0) ⌝ }
+        ≡ freePage up (lentMemory (now (words .entry)) (now (bitmap .entry)) frames) (root .0) (virt .0) ⌝ }
 {
-    match mapper::inner::unmap_leaf(words, frames.start, frames.total, root, virt) {
+    match mapper::inner::unmap_leaf(words, frames.start, frames.total, up, root, virt) {
         Outcome::Stop(_) => frames,
         Outcome::Value(f) => {
             let given = frame::inner::give_frame(bitmap, frames, Frame(f));
@@ -167,13 +182,21 @@ pub fn free_page(
 }
 
 // The leaves of `n` pages from `virt` on, cleared.
-pub fn clear_pages(words: &mut [u64], frames: FrameAllocator, root: Frame, virt: VirtAddr, n: u64)
+pub fn clear_pages(
+    words: &mut [u64],
+    frames: FrameAllocator,
+    up: u64,
+    root: Frame,
+    virt: VirtAddr,
+    n: u64,
+)
     requires { ⌜ WordsLent (now words) (frames .start) (frames .total) ⌝ }
     requires { ⌜ virt .0 + n * 4096 < 2 ^ 64 ⌝ }
-    ensures { λ _. ⌜ ((b : List ℕ) → lentMemory (now (words .exit)) b frames ≡ clearPages aboveLast (lentMemory (now (words .entry)) b frames) (root .0) (virt .0) n) ⌝ }
+    requires { ⌜ up ≤ mostAbove ⌝ }
+    ensures { λ _. ⌜ ((b : List ℕ) → lentMemory (now (words .exit)) b frames ≡ clearPages up (lentMemory (now (words .entry)) b frames) (root .0) (virt .0) n) ⌝ }
 {
     for i in 0..n {
-        clear_page(words, frames, root, VirtAddr(virt.0 + i * 4096));
+        clear_page(words, frames, up, root, VirtAddr(virt.0 + i * 4096));
     }
 }
 
@@ -182,33 +205,23 @@ pub fn free_pages(
     words: &mut [u64],
     bitmap: &mut Marks,
     frames: FrameAllocator,
+    up: u64,
     root: Frame,
     virt: VirtAddr,
     n: u64,
 ) -> FrameAllocator
     requires { ⌜ RoomToTake (lentMemory (now words) (now bitmap) frames) 0 ⌝ }
     requires { ⌜ virt .0 + n * 4096 < 2 ^ 64 ⌝ }
+    requires { ⌜ up ≤ mostAbove ⌝ }
     ensures { λ r. ⌜ lentMemory (now (words .exit)) (now (bitmap .exit)) r
-        ≡ freePages aboveLast (lentMemory (now (words .entry)) (now (bitmap .entry)) frames) (root .0) (virt .0) n ⌝ }
+        ≡ freePages up (lentMemory (now (words .entry)) (now (bitmap .entry)) frames) (root .0) (virt .0) n ⌝ }
 {
-    let most = freeing::at_most(n, ALL_PAGES);
+    let most = freeing::at_most(n, freeing::all_pages(up));
     let mut empty: Marks = [0u8; 1024];
-    let mut left = frames;
-    let mut done = 0;
-    while done < most {
-        let step = freeing::free_span(
-            words,
-            bitmap,
-            &mut empty,
-            left,
-            root,
-            VirtAddr(virt.0 + done * 4096),
-            most - done,
-        );
-        left = step.frames;
-        done = done + step.done;
+    if most < freeing::BLOCK {
+        return freeing::free_run(words, bitmap, &mut empty, frames, up, root, virt, most);
     }
-    left
+    freeing::free_blocks(words, bitmap, &mut empty, frames, up, root, virt, most)
 }
 
 // 13 for whatever `map_page` was refused with.

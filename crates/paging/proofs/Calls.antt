@@ -1,24 +1,25 @@
 -- What the mapper's calls come to: broken, or the step below.
-use Prim.Native.Nat.{ℕ, suc, _^_, _≤_}
+use Prim.Native.Nat.{ℕ, _-_, _^_, _≤_}
 use mathlib.Core.Path.{_≡_, refl, sym, ap}
 use mathlib.Core.Bool.{Bool, true, false}
 use mathlib.Core.List.{List}
 use native.Mathlib.Omega.{arith}
-use lib.ListN.{length, getD, take}
+use lib.ListN.{length}
 use Rattle.bits.proofs.Choice.{both-true}
 use Rattle.answer.specs.Numbers.{brokenRecord, hugeUnaligned}
 use Rattle.answer.specs.declared.FlagAnswer.the-variants.{Flag, NoFlag}
 use Rattle.address.specs.Address.{aligned}
 use Rattle.entry.specs.Entry.{entryOf, hugeEntryOf, indices}
-use Rattle.frame.specs.Frames.{sound}
-use Rattle.frame.proofs.Laws.{sound-held}
+use Rattle.frame.specs.Frames.{isLevels, sound}
+use Rattle.frame.proofs.Laws.{levels-least, levels-most, sound-levels, sound-held}
 use Rattle.answer.specs.declared.Outcome.{Outcome}
 use Rattle.answer.specs.declared.Outcome.the-variants.{Value, Stop}
 use Rattle.paging.specs.declared.HugePageSize.{HugePageSize}
 use Rattle.paging.specs.declared.HugePageSize.the-variants.{Size2MB, Size1GB}
 use Rattle.paging.specs.Walk.{leaf, address, mayWalk}
-use Rattle.paging.specs.Map.{Memory, startFrame, totalOf, Out, out, Left, left, unmapEntry, RoomToTake}
-use Rattle.paging.specs.Calls.{asChanged, whole, translate, userLeaf, userMay, mapAt, mapPage, sizeOf, tablesAbove, mapHuge, unmapPage}
+use Rattle.paging.specs.Map.{Memory, startFrame, totalOf, Out, out, Left, left, RoomToTake}
+use Rattle.paging.specs.Calls.{asChanged, whole, translate, userLeaf, lentWalk, userMay, mapAt, mapPage, sizeOf, tablesAbove, mapHuge, unmapAt, unmapPage}
+use Rattle.paging.specs.Levels.{levelsOf, aboveLast, mostAbove}
 use Rattle.paging.proofs.Walk.{lent-enough}
 
 -- the two ways of a step
@@ -42,6 +43,19 @@ module _ (m : Memory) (root : ℕ) (h : whole m root ≡ true) where
   pub whole-sound : sound (m .frames) ≡ true
   whole-sound = both-true (mayWalk (length (m .words)) (startFrame m) (totalOf m) root) _ h .1
 
+  pub whole-levels : isLevels (levelsOf m) ≡ true
+  whole-levels = sound-levels (m .frames) whole-sound
+
+  -- so levels lie above the last, and no more than four
+  pub whole-up : 1 ≤ levelsOf m
+  whole-up = omega (arith, levels-least (levelsOf m) whole-levels)
+
+  pub whole-some : 1 ≤ aboveLast m
+  whole-some = omega (arith, levels-least (levelsOf m) whole-levels)
+
+  pub whole-above : aboveLast m ≤ mostAbove
+  whole-above = omega (arith, levels-most (levelsOf m) whole-levels)
+
   pub whole-roomy : (n : ℕ) → n ≤ 2 ^ 63 → RoomToTake m n
   whole-roomy n l = record { enough = lent-enough _ _ _ _ whole-lent; held = sound-held (m .frames) n l whole-sound }
 
@@ -52,31 +66,49 @@ tables-few up Size1GB = omega arith
 
 -- ---- the calls
 
-module _ (up : ℕ) (ws : List ℕ) (start total root v : ℕ) where
-  pub translate-broken : mayWalk (length ws) start total root ≡ false → translate up ws start total root v ≡ Stop brokenRecord
+-- the test of numbers alone, and what it says
+module _ (levels len start total root : ℕ) where
+  pub walk-other : isLevels levels ≡ false → lentWalk levels len start total root ≡ false
+  unfolding lentWalk
+  walk-other h = rw h
+
+  pub walk-by-lent : isLevels levels ≡ true → lentWalk levels len start total root ≡ mayWalk len start total root
+  unfolding lentWalk
+  walk-by-lent h = rw h
+
+  module _ (h : lentWalk levels len start total root ≡ true) where
+    pub walk-levels : isLevels levels ≡ true
+    unfolding lentWalk
+    walk-levels = both-true (isLevels levels) _ h .0
+
+    pub walk-lent : mayWalk len start total root ≡ true
+    unfolding lentWalk
+    walk-lent = both-true (isLevels levels) _ h .1
+
+module _ (levels : ℕ) (ws : List ℕ) (start total root v : ℕ) where
+  pub translate-broken : lentWalk levels (length ws) start total root ≡ false → translate levels ws start total root v ≡ Stop brokenRecord
   unfolding translate
   translate-broken h = rw h
 
-  pub translate-is : mayWalk (length ws) start total root ≡ true
-      → translate up ws start total root v ≡ address v (leaf ws start total root (indices (suc up) v))
+  pub translate-is : lentWalk levels (length ws) start total root ≡ true
+      → translate levels ws start total root v ≡ address v (leaf ws start total root (indices levels v))
   unfolding translate
   translate-is h = rw h
 
-  pub may-broken : (write : Bool) → mayWalk (length ws) start total root ≡ false → userMay up ws start total root v write ≡ NoFlag brokenRecord
+  pub may-broken : (write : Bool) → lentWalk levels (length ws) start total root ≡ false → userMay levels ws start total root v write ≡ NoFlag brokenRecord
   unfolding userMay
   may-broken write h = rw h
 
-  pub may-is : (write : Bool) → mayWalk (length ws) start total root ≡ true
-      → userMay up ws start total root v write ≡ Flag (userLeaf write (leaf ws start total root (indices (suc up) v)))
+  pub may-is : (write : Bool) → lentWalk levels (length ws) start total root ≡ true
+      → userMay levels ws start total root v write ≡ Flag (userLeaf write (leaf ws start total root (indices levels v)))
   unfolding userMay
   may-is write h = rw h
 
-  pub unmap-broken : mayWalk (length ws) start total root ≡ false → unmapPage up ws start total root v ≡ left (Stop brokenRecord) ws
+  pub unmap-broken : lentWalk levels (length ws) start total root ≡ false → unmapPage levels ws start total root v ≡ left (Stop brokenRecord) ws
   unfolding unmapPage
   unmap-broken h = rw h
 
-  pub unmap-is : mayWalk (length ws) start total root ≡ true
-      → unmapPage up ws start total root v ≡ unmapEntry ws start total root (take up (indices (suc up) v)) (getD (indices (suc up) v) up 0)
+  pub unmap-is : lentWalk levels (length ws) start total root ≡ true → unmapPage levels ws start total root v ≡ unmapAt (levels - 1) ws start total root v
   unfolding unmapPage
   unmap-is h = rw h
 

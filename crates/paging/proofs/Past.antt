@@ -20,6 +20,7 @@ use Rattle.answer.specs.declared.Outcome.the-variants.{Value, Stop}
 use Rattle.paging.specs.Walk.{place, reach}
 use Rattle.paging.specs.Map.{Memory, memory, startFrame, totalOf, Out, out, goOn, clear, zeroFrame, enter, make, Left, left, putEntry, mapEntry, takeLeaf, unmapEntry}
 use Rattle.paging.specs.Calls.{mapAt}
+use Rattle.paging.specs.Levels.{levelsOf}
 use Rattle.paging.specs.Pages.{zeroed, freshFrame, mapFresh, mapPages, unmapLeaf, clearPage, freed, freePage, clearPages, freePages}
 use Rattle.paging.proofs.Map.{goOn-cases, enter-cases}
 use Rattle.paging.proofs.Pages.{map-pages-on, map-pages-stop}
@@ -66,26 +67,28 @@ small-take zero p h = tt
 small-take (suc k) [] h = tt
 small-take (suc k) (i ∷ is) h = (h .0, small-take k is (h .1))
 
--- ---- what a step leaves of the memory: the frames lent are the same, and no word past them is touched
+-- ---- what a step leaves of the memory: the frames lent and the levels are the same, and no word past these frames is touched
 
 pub record Stays (m m′ : Memory) : Type 0 where
   pub start : startFrame m′ ≡ startFrame m
   pub total : totalOf m′ ≡ totalOf m
+  pub levels : levelsOf m′ ≡ levelsOf m
   pub words : Past (totalOf m * 512) (m .words) (m′ .words)
 
 pub stays-same : (m : Memory) → Stays m m
-stays-same m = record { start = refl; total = refl; words = past-same _ (m .words) }
+stays-same m = record { start = refl; total = refl; levels = refl; words = past-same _ (m .words) }
 
 pub stays-then : {m₀ m₁ m₂ : Memory} → Stays m₀ m₁ → Stays m₁ m₂ → Stays m₀ m₂
 stays-then {m₀} {m₁} {m₂} a b = record {
   start = b .start ∙ a .start;
   total = b .total ∙ a .total;
+  levels = b .levels ∙ a .levels;
   words = past-then (a .words) (subst (λ (n : ℕ). Past (n * 512) (m₁ .words) (m₂ .words)) (a .total) (b .words));
 }
 
 -- a step that leaves the frames' record
 pub stays-words : (m : Memory) (ws : List ℕ) → Past (totalOf m * 512) (m .words) ws → Stays m (memory ws (m .frames))
-stays-words m ws h = record { start = refl; total = refl; words = h }
+stays-words m ws h = record { start = refl; total = refl; levels = refl; words = h }
 
 -- what follows a step
 pub stays-on : (m : Memory) (o : Out) (k : ℕ → Memory → Out) → Stays m (o .mem) → ((x : ℕ) → o .walked ≡ Value x → Stays (o .mem) (k x (o .mem) .mem)) → Stays m (goOn o k .mem)
@@ -99,6 +102,7 @@ stays-enter u m t i small =
     (λ h _ j l _ _. record {
       start = span-with (m .frames) j .start;
       total = span-with (m .frames) j .total;
+      levels = span-with (m .frames) j .levels;
       words = past-then (past-zero (m .words) (startFrame m) (totalOf m) j l) (past-entry _ (startFrame m) (totalOf m) t i _ h small);
     })
     (λ _ _ _. stays-same m)
@@ -156,6 +160,7 @@ stays-fresh m =
     (λ j l _ _. record {
       start = span-with (m .frames) j .start;
       total = span-with (m .frames) j .total;
+      levels = span-with (m .frames) j .levels;
       words = past-zero (m .words) (startFrame m) (totalOf m) j l;
     })
     (λ _. stays-same m)
@@ -193,7 +198,7 @@ module _ (up : ℕ) (m : Memory) (root v : ℕ) where
   stays-free-page = by (unmapLeaf up m root v .walked)
     where
       by : (w : Outcome) → Stays m (memory (unmapLeaf up m root v .words) (freed w (m .frames)))
-      by (Value f) = record { start = span-give (m .frames) f .start; total = span-give (m .frames) f .total; words = unmapped }
+      by (Value f) = record { start = span-give (m .frames) f .start; total = span-give (m .frames) f .total; levels = span-give (m .frames) f .levels; words = unmapped }
       by (Stop a) = stays-words m _ unmapped
 
 pub stays-clear-pages : (up root n : ℕ) (m : Memory) (v : ℕ) → Stays m (clearPages up m root v n)

@@ -78,16 +78,16 @@ module _ (ws : List ℕ) (start total t : ℕ) {p : List ℕ} where
     unfolding reach
     reach-on e h = rw (c, h)
 
--- ---- the entry that a translation ends at, by the number of indices that are left: 0 at the last level, 1 at the third
+-- ---- the entry that a translation ends at, by the number of indices that are left: 0 at the last level, 1 at the last but one
 
 pub judge-last : (is : List ℕ) (e : ℕ) (on : Leaf) → length is ≡ 0 → judge is e on ≡ Page e
 judge-last [] e on h = refl
 judge-last (i ∷ is) e on h = absurd (omega arith)
 
-pub judge-third : (is : List ℕ) (e : ℕ) (on : Leaf) → length is ≡ 1 → judge is e on ≡ pick (flag 7 e) (Large e) on
-judge-third [] e on h = absurd (omega arith)
-judge-third (i ∷ []) e on h = refl
-judge-third (i ∷ j ∷ is) e on h = absurd (omega arith)
+pub judge-one : (is : List ℕ) (e : ℕ) (on : Leaf) → length is ≡ 1 → judge is e on ≡ pick (flag 7 e) (Large e) on
+judge-one [] e on h = absurd (omega arith)
+judge-one (i ∷ []) e on h = refl
+judge-one (i ∷ j ∷ is) e on h = absurd (omega arith)
 
 pub judge-above : (is : List ℕ) (e : ℕ) (on : Leaf) → 1 < length is → judge is e on ≡ on
 judge-above [] e on h = absurd (omega arith)
@@ -114,10 +114,10 @@ module _ (ws : List ℕ) (start total t : ℕ) {p : List ℕ} where
       leaf-page l = leaf-on e h ∙ judge-last is e _ l
 
       pub leaf-large : length is ≡ 1 → flag 7 e ≡ true → leaf ws start total t p ≡ Large e
-      leaf-large l k = leaf-on e h ∙ judge-third is e _ l ∙ rw k
+      leaf-large l k = leaf-on e h ∙ judge-one is e _ l ∙ rw k
 
       pub leaf-small : length is ≡ 1 → flag 7 e ≡ false → leaf ws start total t p ≡ leaf ws start total (frameOf e) is
-      leaf-small l k = leaf-on e h ∙ judge-third is e _ l ∙ rw k
+      leaf-small l k = leaf-on e h ∙ judge-one is e _ l ∙ rw k
 
       pub leaf-above : 1 < length is → leaf ws start total t p ≡ leaf ws start total (frameOf e) is
       leaf-above l = leaf-on e h ∙ judge-above is e _ l

@@ -1,4 +1,4 @@
--- The mapper's calls, in document 01's order of checks: 10 first. A board has `up` levels above the last; document 01's has 3.
+-- The mapper's calls, in document 01's order of checks: 10 first. A board has `up` levels above the last. The calls that are lent no frame record are lent its levels.
 use Prim.Native.Nat.{ℕ, suc, _-_, _^_}
 use mathlib.Core.Bool.{Bool, true, false}
 use mathlib.Core.List.{List}
@@ -10,7 +10,7 @@ use Rattle.answer.specs.declared.FlagAnswer.{FlagAnswer}
 use Rattle.answer.specs.declared.FlagAnswer.the-variants.{Flag, NoFlag}
 use Rattle.address.specs.Address.{aligned}
 use Rattle.entry.specs.Entry.{entryOf, hugeEntryOf, indices}
-use Rattle.frame.specs.Frames.{sound}
+use Rattle.frame.specs.Frames.{isLevels, sound}
 use Rattle.frame.specs.declared.Changed.{Changed}
 use Rattle.answer.specs.declared.Outcome.{Outcome}
 use Rattle.answer.specs.declared.Outcome.the-variants.{Stop}
@@ -19,6 +19,7 @@ use Rattle.paging.specs.declared.Leaf.the-variants.{Page, Large, NoLeaf}
 use Rattle.paging.specs.declared.HugePageSize.{HugePageSize}
 use Rattle.paging.specs.declared.HugePageSize.the-variants.{Size2MB, Size1GB}
 use Rattle.paging.specs.Walk.{leaf, address, mayWalk}
+use Rattle.paging.specs.Levels.{aboveLast}
 use Rattle.paging.specs.Map.{Memory, startFrame, totalOf, Out, out, Left, left, mapEntry, unmapEntry}
 
 -- the answer of a call that takes frames, beside the frame record that it leaves
@@ -29,35 +30,43 @@ asChanged o = record { answer = asAnswer (o .walked); frames = o .mem .frames .f
 abbrev pub whole : Memory → ℕ → Bool
 whole m root = both (mayWalk (length (m .words)) (startFrame m) (totalOf m) root) (sound (m .frames))
 
-unfoldable pub translate : ℕ → List ℕ → ℕ → ℕ → ℕ → ℕ → Outcome
-translate up ws start total root v =
-    unless (mayWalk (length ws) start total root) (Stop brokenRecord)
-    (address v (leaf ws start total root (indices (suc up) v)))
+-- .. of the calls that are lent numbers alone
+unfoldable pub lentWalk : ℕ → ℕ → ℕ → ℕ → ℕ → Bool
+lentWalk levels len start total root = both (isLevels levels) (mayWalk len start total root)
 
--- 'read if the leaf has USER, write if it has USER and WRITABLE; no where nothing translates or a third-level HUGE entry does'
+unfoldable pub translate : ℕ → List ℕ → ℕ → ℕ → ℕ → ℕ → Outcome
+translate levels ws start total root v =
+    unless (lentWalk levels (length ws) start total root) (Stop brokenRecord)
+    (address v (leaf ws start total root (indices levels v)))
+
+-- 'read if the leaf has USER, write if it has USER and WRITABLE; no where nothing translates or a HUGE entry' of the last level but one does
 abbrev pub userLeaf : Bool → Leaf → Bool
 userLeaf write (Page e) = both (flag 2 e) (pick write (flag 1 e) true)
 userLeaf write (Large e) = false
 userLeaf write (NoLeaf n) = false
 
 unfoldable pub userMay : ℕ → List ℕ → ℕ → ℕ → ℕ → ℕ → Bool → FlagAnswer
-userMay up ws start total root v write =
-    unless (mayWalk (length ws) start total root) (NoFlag brokenRecord)
-    (Flag (userLeaf write (leaf ws start total root (indices (suc up) v))))
+userMay levels ws start total root v write =
+    unless (lentWalk levels (length ws) start total root) (NoFlag brokenRecord)
+    (Flag (userLeaf write (leaf ws start total root (indices levels v))))
 
 -- the entry e of address v, k steps below the root
 abbrev pub mapAt : ℕ → ℕ → Bool → Memory → ℕ → ℕ → ℕ → Out
 mapAt up k u m root v e = mapEntry u m root (take k (indices (suc up) v)) (getD (indices (suc up) v) k 0) e
 
--- '`map_page` walks three levels'
+-- '`map_page` walks' the levels above the last
 unfoldable pub mapPage : ℕ → Memory → ℕ → ℕ → ℕ → Bool → Bool → Out
 mapPage up m root v p w u = unless (whole m root) (out (Stop brokenRecord) m) (mapAt up up u m root v (entryOf p w u))
+
+-- on a board, by its own levels
+abbrev pub mapPageOf : Memory → ℕ → ℕ → ℕ → Bool → Bool → Out
+mapPageOf m root v p w u = mapPage (aboveLast m) m root v p w u
 
 abbrev pub sizeOf : HugePageSize → ℕ
 sizeOf Size2MB = 2 ^ 21
 sizeOf Size1GB = 2 ^ 30
 
--- '`map_huge_page` writes a 1 GiB entry at the third level and a 2 MiB entry at the last'
+-- '`map_huge_page` writes a 1 GiB entry at the' last level but one 'and a 2 MiB entry at the last'
 abbrev pub tablesAbove : ℕ → HugePageSize → ℕ
 tablesAbove up Size2MB = up
 tablesAbove up Size1GB = up - 1
@@ -69,8 +78,15 @@ mapHuge up m root v p s w u =
     (unless (both (aligned v (sizeOf s)) (aligned p (sizeOf s))) (out (Stop hugeUnaligned) m)
     (mapAt up (tablesAbove up s) u m root v (hugeEntryOf p w u)))
 
+-- on a board, by its own levels
+abbrev pub mapHugeOf : Memory → ℕ → ℕ → ℕ → HugePageSize → Bool → Bool → Out
+mapHugeOf m root v p s w u = mapHuge (aboveLast m) m root v p s w u
+
 -- '`unmap_page` clears the leaf and returns its frame without freeing it'
+abbrev pub unmapAt : ℕ → List ℕ → ℕ → ℕ → ℕ → ℕ → Left
+unmapAt up ws start total root v = unmapEntry ws start total root (take up (indices (suc up) v)) (getD (indices (suc up) v) up 0)
+
 unfoldable pub unmapPage : ℕ → List ℕ → ℕ → ℕ → ℕ → ℕ → Left
-unmapPage up ws start total root v =
-    unless (mayWalk (length ws) start total root) (left (Stop brokenRecord) ws)
-    (unmapEntry ws start total root (take up (indices (suc up) v)) (getD (indices (suc up) v) up 0))
+unmapPage levels ws start total root v =
+    unless (lentWalk levels (length ws) start total root) (left (Stop brokenRecord) ws)
+    (unmapAt (levels - 1) ws start total root v)

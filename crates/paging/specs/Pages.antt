@@ -1,17 +1,16 @@
 -- Runs of pages, shared by vmalloc and mmap: fresh frames mapped one page after the other, and pages unmapped. A board has `up` levels above the last.
 use Prim.Native.Nat.{ℕ, zero, suc, _+_, _*_, _^_}
 use mathlib.Core.Bool.{Bool}
-use lib.ListN.{getD, take}
 use Rattle.answer.specs.Outcomes.{andThen}
 use Rattle.answer.specs.Numbers.{mapPageFailed}
 use Rattle.address.specs.declared.FrameAnswer.{FrameAnswer}
 use Rattle.address.specs.declared.FrameAnswer.the-variants.{AtFrame, NoFrame}
-use Rattle.entry.specs.Entry.{entryOf, indices}
+use Rattle.entry.specs.Entry.{entryOf}
 use Rattle.frame.specs.Frames.{Frames, takeFrame, giveFrame}
 use Rattle.answer.specs.declared.Outcome.{Outcome}
 use Rattle.answer.specs.declared.Outcome.the-variants.{Value, Stop}
-use Rattle.paging.specs.Map.{Memory, memory, startFrame, totalOf, Out, out, goOn, zeroFrame, Left, unmapEntry}
-use Rattle.paging.specs.Calls.{mapAt}
+use Rattle.paging.specs.Map.{Memory, memory, startFrame, totalOf, Out, out, goOn, zeroFrame, Left}
+use Rattle.paging.specs.Calls.{mapAt, unmapAt}
 
 -- 'take a frame, zero it'
 abbrev pub zeroed : Memory → FrameAnswer → Frames → Out
@@ -51,8 +50,7 @@ mapPages up w u m root v k (suc n) =
 
 -- the leaf of page v, cleared; 'pass over a page whose `unmap_page` gives 14 or 19'
 abbrev pub unmapLeaf : ℕ → Memory → ℕ → ℕ → Left
-unmapLeaf up m root v =
-    unmapEntry (m .words) (startFrame m) (totalOf m) root (take up (indices (suc up) v)) (getD (indices (suc up) v) up 0)
+unmapLeaf up m root v = unmapAt up (m .words) (startFrame m) (totalOf m) root v
 
 unfoldable pub clearPage : ℕ → Memory → ℕ → ℕ → Memory
 clearPage up m root v = memory (unmapLeaf up m root v .words) (m .frames)

@@ -44,7 +44,7 @@ unfoldable pub leaf : List ℕ → ℕ → ℕ → ℕ → List ℕ → Leaf
 leaf ws start total t [] = NoLeaf notMapped
 leaf ws start total t (i ∷ is) = andThen (entryAt ws start total t i) NoLeaf (λ e. judge is e (leaf ws start total (frameOf e) is))
 
--- '`translate` at the third level with HUGE set adds the low 21 address bits, and at the last level the low 12'
+-- '`translate` at the' last level but one 'with HUGE set adds the low 21 address bits, and at the last level the low 12'
 abbrev pub address : ℕ → Leaf → Outcome
 address v (Page e) = Value (addrOf e + v % 2 ^ 12)
 address v (Large e) = Value (addrOf e + v % 2 ^ 21)

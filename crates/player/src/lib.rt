@@ -175,7 +175,14 @@ fn play_translate(words: &[u64], records: Records, addr: u64) -> Played
 {
     let frames = records.frames;
     let root = records.root;
-    let a = walk::translate(words, frames.start, frames.total, root, VirtAddr(addr));
+    let a = walk::translate(
+        words,
+        frames.start,
+        frames.total,
+        frames.levels,
+        root,
+        VirtAddr(addr),
+    );
     Played {
         kind: 6,
         line: address::phys_line(a),

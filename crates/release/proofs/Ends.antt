@@ -7,7 +7,6 @@ use native.Mathlib.Omega.{arith}
 use borrow.Author.Tests.{eq-eqb}
 use Rattle.allocator.specs.Round.{rounded}
 use Rattle.answer.specs.declared.Outcome.the-variants.{Value}
-use Rattle.paging.specs.Levels.{aboveLast}
 use Rattle.paging.specs.Map.{Memory}
 use Rattle.paging.specs.Pages.{freePages}
 use Rattle.slots.proofs.Filled.{filled}
@@ -28,7 +27,7 @@ use Rattle.release.specs.Demand3.{Region, kernelRegion, userRegion, star
 use Rattle.release.proofs.Regions.{kernel-give, kernel-fewer, user-give, user-fewer}
 use Rattle.release.proofs.Paged.{paged-give, give-start}
 use Rattle.release.proofs.Invariant.{Leftover, Inv}
-use Rattle.release.proofs.Sound.{kernel-sound, user-sound}
+use Rattle.release.proofs.Sound.{kernel-sound, user-sound, above-is}
 use Rattle.release.proofs.Kernel.{kernel-listed, slots-freed}
 use Rattle.release.proofs.User.{user-listed, slots-removed}
 
@@ -36,9 +35,9 @@ use Rattle.release.proofs.User.{user-listed, slots-removed}
 abbrev pub board : Board → Memory → List VMRegion → List MappedRegion → Board
 board b m k u = record { mem = m; root = b .root; kernel = filled noVmRegion k; user = filled noMappedRegion u; next = b .next; marked = b .marked }
 
--- what a release leaves of memory and lists
-abbrev pub memoryAfter : ℕ → Memory → Region → Memory
-memoryAfter root m r = freePages aboveLast m root (startIs r) (sizeIs r / 4096)
+-- what a release leaves of memory, on a board of up levels above the last, and of lists
+abbrev pub memoryAfter : ℕ → ℕ → Memory → Region → Memory
+memoryAfter up root m r = freePages up m root (startIs r) (sizeIs r / 4096)
 
 abbrev pub kernelAfter : List VMRegion → Region → List VMRegion
 kernelAfter k (kernelRegion a n) = merge (freedAll a k)
@@ -49,31 +48,33 @@ userAfter u (kernelRegion a n) = u
 userAfter u (userRegion a n) = remove a u
 
 -- one release
-pub record Gave (left : Leftover) (b : Board) (k : List VMRegion) (u : List MappedRegion) (r : Region) (l : List Region) (c : Call) : Type 0 where
+pub record Gave (up : ℕ) (left : Leftover) (b : Board) (k : List VMRegion) (u : List MappedRegion) (r : Region) (l : List Region) (c : Call) : Type 0 where
   pub met : play b c .answer ≡ Value 0
-  pub leaves : play b c .board ≡ board b (memoryAfter (b .root) (b .mem) r) (kernelAfter k r) (userAfter u r)
-  pub inv : Inv left (board b (memoryAfter (b .root) (b .mem) r) (kernelAfter k r) (userAfter u r)) (kernelAfter k r) (userAfter u r) l
+  pub leaves : play b c .board ≡ board b (memoryAfter up (b .root) (b .mem) r) (kernelAfter k r) (userAfter u r)
+  pub inv : Inv up left (board b (memoryAfter up (b .root) (b .mem) r) (kernelAfter k r) (userAfter u r)) (kernelAfter k r) (userAfter u r) l
 
 -- of a kernel's region
-module _ {b : Board} {k : List VMRegion} {u : List MappedRegion} {l : List Region} {left : Leftover} (a n : ℕ) (h : Inv left b k u (kernelRegion a n ∷ l)) where
+module _ {up : ℕ} {b : Board} {k : List VMRegion} {u : List MappedRegion} {l : List Region} {left : Leftover} (a n : ℕ) (h : Inv up left b k u (kernelRegion a n ∷ l)) where
   used : usedSize a k ≡ Value n
   used = h .kernelList .live a n (List·Memᴰ·head refl)
 
-  kernel-play : play b (vfreeCall a) ≡ boardDid (Value 0) (board b (freePages aboveLast (b .mem) (b .root) a (n / 4096)) (merge (freedAll a k)) u)
+  kernel-play : play b (vfreeCall a) ≡ boardDid (Value 0) (board b (freePages up (b .mem) (b .root) a (n / 4096)) (merge (freedAll a k)) u)
   unfolding play
   kernel-play =
-      rw (vfree-met aboveLast (kernelOf b) (b .root) a n (kernel-sound h) (omega (arith, used-inside a n windowStart windowEnd k (h .kernelList .rows) used .from))
-      (ap (usedSize a) (kernel-listed h) ∙ used))
-      λ i. boardDid (Value 0) (record { mem = freePages aboveLast (b .mem) (b .root) a (n / 4096); root = b .root; kernel = slots-freed h a i; user = h .userIs i; next = b .next; marked = b .marked })
+      rw (
+        above-is h,
+        vfree-met up (kernelOf b) (b .root) a n (kernel-sound h) (omega (arith, used-inside a n windowStart windowEnd k (h .kernelList .rows) used .from))
+            (ap (usedSize a) (kernel-listed h) ∙ used),
+      )
+      λ i. boardDid (Value 0) (record { mem = freePages up (b .mem) (b .root) a (n / 4096); root = b .root; kernel = slots-freed h a i; user = h .userIs i; next = b .next; marked = b .marked })
 
-  pub kernel-gave : Gave left b k u (kernelRegion a n) l (vfreeCall a)
-  unfolding play
+  pub kernel-gave : Gave up left b k u (kernelRegion a n) l (vfreeCall a)
   kernel-gave = record {
     met = ap (λ (x : BoardDid). x .answer) kernel-play;
     leaves = ap (λ (x : BoardDid). x .board) kernel-play;
     inv = record {
       paged = paged-give a (n / 4096) (h .paged);
-      first = h .first ∙ sym (give-start aboveLast (b .mem) (b .root) a (n / 4096));
+      first = h .first ∙ sym (give-start up (b .mem) (b .root) a (n / 4096));
       kernelIs = refl;
       kernelList = kernel-give a n (h .kernelList) (h .once);
       userIs = refl;
@@ -84,7 +85,7 @@ module _ {b : Board} {k : List VMRegion} {u : List MappedRegion} {l : List Regio
   }
 
 -- of a user's
-module _ {b : Board} {k : List VMRegion} {u : List MappedRegion} {l : List Region} {left : Leftover} (a n size : ℕ) (r : rounded size ≡ Value n) (h : Inv left b k u (userRegion a n ∷ l)) where
+module _ {up : ℕ} {b : Board} {k : List VMRegion} {u : List MappedRegion} {l : List Region} {left : Leftover} (a n size : ℕ) (r : rounded size ≡ Value n) (h : Inv up left b k u (userRegion a n ∷ l)) where
   held : holds a n u ≡ true
   held = h .userList .live a n (List·Memᴰ·head refl)
 
@@ -99,15 +100,17 @@ module _ {b : Board} {k : List VMRegion} {u : List MappedRegion} {l : List Regio
           absurd (omega (arith, holds-placed a n 0 u (h .userList .rising) held .some))
       by (suc z) e = omega arith
 
-  user-play : play b (munmapCall a size) ≡ boardDid (Value 0) (board b (freePages aboveLast (b .mem) (b .root) a (n / 4096)) k (remove a u))
+  user-play : play b (munmapCall a size) ≡ boardDid (Value 0) (board b (freePages up (b .mem) (b .root) a (n / 4096)) k (remove a u))
   unfolding play
   user-play =
-      rw (munmap-met aboveLast (userOf b) (b .root) a size n (user-sound h) asked (eq-eqb (a % 4096) 0 (holds-placed a n 0 u (h .userList .rising) held .even)) r
-      (ap (holds a n) (user-listed h) ∙ held))
-      λ i. boardDid (Value 0) (record { mem = freePages aboveLast (b .mem) (b .root) a (n / 4096); root = b .root; kernel = h .kernelIs i; user = slots-removed h a i; next = b .next; marked = b .marked })
+      rw (
+        above-is h,
+        munmap-met up (userOf b) (b .root) a size n (user-sound h) asked (eq-eqb (a % 4096) 0 (holds-placed a n 0 u (h .userList .rising) held .even)) r
+            (ap (holds a n) (user-listed h) ∙ held),
+      )
+      λ i. boardDid (Value 0) (record { mem = freePages up (b .mem) (b .root) a (n / 4096); root = b .root; kernel = h .kernelIs i; user = slots-removed h a i; next = b .next; marked = b .marked })
 
-  pub user-gave : Gave left b k u (userRegion a n) l (munmapCall a size)
-  unfolding play
+  pub user-gave : Gave up left b k u (userRegion a n) l (munmapCall a size)
   user-gave = record {
     met = ap (λ (x : BoardDid). x .answer) user-play;
     leaves = ap (λ (x : BoardDid). x .board) user-play;
@@ -115,7 +118,7 @@ module _ {b : Board} {k : List VMRegion} {u : List MappedRegion} {l : List Regio
         let g = user-give a n (h .userList) (h .once) in
         record {
           paged = paged-give a (n / 4096) (h .paged);
-          first = h .first ∙ sym (give-start aboveLast (b .mem) (b .root) a (n / 4096));
+          first = h .first ∙ sym (give-start up (b .mem) (b .root) a (n / 4096));
           kernelIs = refl;
           kernelList = kernel-fewer a n (h .kernelList);
           userIs = refl;

@@ -3,7 +3,6 @@
 use Prim.Native.Nat.{ℕ, _%_}
 use mathlib.Core.Path.{_≡_, refl, sym, _∙_, ap}
 use mathlib.Core.List.{List, [], _∷_, _++_, append-assoc, List·Permᴰ, Permᴰ·symm, Permᴰ·append-right}
-use Rattle.paging.specs.Levels.{aboveLast}
 use Rattle.paging.specs.Map.{startFrame}
 use Rattle.tree.proofs.Books.{Tabled, perm-member}
 use Rattle.slots.proofs.Filled.{filled}
@@ -37,9 +36,9 @@ unfolding concat
 with-is [] s = refl
 with-is (r ∷ l) s = ap (λ (x : List ℕ). pagesOf r ++ x) (with-is l s) ∙ sym (append-assoc (pagesOf r) (concat pagesOf l) s)
 
--- the board: its parts, with the live regions l
-pub record Inv (left : Leftover) (b : Board) (k : List VMRegion) (u : List MappedRegion) (l : List Region) : Type 0 where
-  pub paged : Paged aboveLast (b .mem) (b .root) (pagesWith l (left .stranded)) (left .lost)
+-- the board, of up levels above the last: its parts, with the live regions l
+pub record Inv (up : ℕ) (left : Leftover) (b : Board) (k : List VMRegion) (u : List MappedRegion) (l : List Region) : Type 0 where
+  pub paged : Paged up (b .mem) (b .root) (pagesWith l (left .stranded)) (left .lost)
   pub first : b .root ≡ startFrame (b .mem)
   pub kernelIs : b .kernel ≡ filled noVmRegion k
   pub kernelList : KernelList k l
@@ -50,12 +49,12 @@ pub record Inv (left : Leftover) (b : Board) (k : List VMRegion) (u : List Mappe
 
 -- while no call was turned away with 11 or 13: no two free neighbours in the kernel's list (a refused vmalloc leaves its split unmerged), and no tables but those on the ways
 -- to pages ever live (a refused run leaves the tables that it made)
-pub record Tidy (b : Board) (k : List VMRegion) (ever : List ℕ) : Type 0 where
+pub record Tidy (up : ℕ) (b : Board) (k : List VMRegion) (ever : List ℕ) : Type 0 where
   pub apart : Apart k
-  pub tabled : Tabled (b .mem) (b .root) aboveLast ever
+  pub tabled : Tabled (b .mem) (b .root) up ever
 
 -- the order of the live regions makes no difference
-pub inv-perm : {b : Board} {k : List VMRegion} {u : List MappedRegion} {l l′ : List Region} {left : Leftover} → List·Permᴰ l l′ → Inv left b k u l → Inv left b k u l′
+pub inv-perm : {up : ℕ} {b : Board} {k : List VMRegion} {u : List MappedRegion} {l l′ : List Region} {left : Leftover} → List·Permᴰ l l′ → Inv up left b k u l → Inv up left b k u l′
 inv-perm {l = l} {l′ = l′} {left = left} d h = record {
   paged = paged-perm (rw (with-is l (left .stranded), with-is l′ (left .stranded)) (Permᴰ·append-right (left .stranded) (perm-concat pagesOf d))) (h .paged);
   first = h .first;

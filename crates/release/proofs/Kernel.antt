@@ -9,7 +9,6 @@ use lib.ListN.{length}
 use Rattle.bits.proofs.Choice.{pick-cases}
 use Rattle.allocator.specs.Round.{roundUp}
 use Rattle.allocator.proofs.Round.{round-multiple, round-pos}
-use Rattle.paging.specs.Levels.{aboveLast}
 use Rattle.answer.specs.declared.Outcome.{Outcome}
 use Rattle.answer.specs.declared.Outcome.the-variants.{Value, Stop}
 use Rattle.paging.specs.Pages.{freePages}
@@ -18,7 +17,7 @@ use Rattle.slots.proofs.Filled.{filled, listed-filled, store-filled}
 use Rattle.regions.specs.declared.VMRegion.{VMRegion}
 use Rattle.regions.specs.Regions.{windowStart, windowEnd, fits, firstFit, taken, takenSlots, usedSize, freeFirst, merge}
 use Rattle.regions.specs.Regions.{noVmRegion}
-use Rattle.vmalloc.specs.Calls.{kernel, KernelDid, kernelDid, kernelPages, kernelMapped, vmalloc, vfree}
+use Rattle.vmalloc.specs.Calls.{kernel, KernelDid, kernelDid, kernelPages, kernelMapped, vmalloc, vmallocOf, vfree, vfreeOf}
 use Rattle.regions.proofs.Merge.{freedAll}
 use Rattle.regions.proofs.Rows.{freed-first, taken-few, length-freed, length-merge}
 use Rattle.regions.proofs.Used.{taken-was-free}
@@ -32,7 +31,7 @@ use Rattle.release.proofs.Book.{take-cut, free-part, join-parts}
 use Rattle.release.proofs.Regions.{kernel-take, kernel-give, user-more, user-fewer, drop-kernel, not-both, same-at}
 use Rattle.release.proofs.Paged.{paged-take, paged-stop, tabled-take, take-start, paged-give, tabled-give, give-start}
 use Rattle.release.proofs.Invariant.{Leftover, Inv, Tidy, inv-perm}
-use Rattle.release.proofs.Sound.{kernel-sound}
+use Rattle.release.proofs.Sound.{kernel-sound, above-is}
 
 -- the pages ever mapped, after a region of n bytes at a
 abbrev pub morePages : List ℕ → Outcome → ℕ → List ℕ
@@ -45,7 +44,7 @@ unfolding firstFit
 fit-quiet n [] = refl
 fit-quiet n (r ∷ l) = pick-cases (λ (w : Outcome). turnedAway w ≡ false) (fits n r) _ _ (λ _. refl) (λ _. fit-quiet n l)
 
-module _ {b : Board} {k : List VMRegion} {u : List MappedRegion} {l : List Region} {left : Leftover} (h : Inv left b k u l) where
+module _ {up : ℕ} {b : Board} {k : List VMRegion} {u : List MappedRegion} {l : List Region} {left : Leftover} (h : Inv up left b k u l) where
   pub kernel-listed : listed (b .kernel) ≡ k
   kernel-listed = ap listed (h .kernelIs) ∙ listed-filled noVmRegion k
 
@@ -65,37 +64,37 @@ module _ {b : Board} {k : List VMRegion} {u : List MappedRegion} {l : List Regio
   -- every outcome of a vmalloc: refused with nothing changed, met, turned away with 11 or 13
   pub vmalloc-outcomes : (size : ℕ) (P : KernelDid → Type 0) → let n = roundUp 12 size in
       ((e : ℕ) → turnedAway (Stop e) ≡ false → P (kernelDid (Stop e) (kernelOf b)))
-      → ((a x : ℕ) → 0 < n → firstFit n k ≡ Value a → kernelPages aboveLast (b .mem) (b .root) a n .walked ≡ Value x
-      → P (kernelDid (Value a) (kernel (kernelPages aboveLast (b .mem) (b .root) a n .mem) (filled noVmRegion (taken true n k)))))
-      → ((a e : ℕ) → 0 < n → firstFit n k ≡ Value a → kernelPages aboveLast (b .mem) (b .root) a n .walked ≡ Stop e → turnedAway (Stop e) ≡ true
-      → P (kernelDid (Stop e) (kernel (kernelPages aboveLast (b .mem) (b .root) a n .mem) (filled noVmRegion (taken false n k)))))
-      → P (vmalloc aboveLast (kernelOf b) (b .root) size)
+      → ((a x : ℕ) → 0 < n → firstFit n k ≡ Value a → kernelPages up (b .mem) (b .root) a n .walked ≡ Value x
+      → P (kernelDid (Value a) (kernel (kernelPages up (b .mem) (b .root) a n .mem) (filled noVmRegion (taken true n k)))))
+      → ((a e : ℕ) → 0 < n → firstFit n k ≡ Value a → kernelPages up (b .mem) (b .root) a n .walked ≡ Stop e → turnedAway (Stop e) ≡ true
+      → P (kernelDid (Stop e) (kernel (kernelPages up (b .mem) (b .root) a n .mem) (filled noVmRegion (taken false n k)))))
+      → P (vmallocOf (kernelOf b) (b .root) size)
   vmalloc-outcomes size P refused met stopped =
-      vmalloc-cases aboveLast (kernelOf b) (b .root) size P
+      subst (λ (n : ℕ). P (vmalloc n (kernelOf b) (b .root) size)) (sym (above-is h)) (vmalloc-cases up (kernelOf b) (b .root) size P
       (λ e. absurd (true≢false (sym (kernel-sound h) ∙ e))) (refused _ refl) (refused _ refl)
       (λ e f. refused e (ap turnedAway (sym f) ∙ fit-quiet n (listed (b .kernel))))
-      (λ s pos le a f. by a (subst (λ (x : List VMRegion). firstFit n x ≡ Value a) kernel-listed f) (round-pos 12 size pos) (kernelPages aboveLast (b .mem) (b .root) a n .walked) refl)
+      (λ s pos le a f. by a (subst (λ (x : List VMRegion). firstFit n x ≡ Value a) kernel-listed f) (round-pos 12 size pos) (kernelPages up (b .mem) (b .root) a n .walked) refl))
     where
       n : ℕ
       n = roundUp 12 size
 
-      by : (a : ℕ) → firstFit n k ≡ Value a → 0 < n → (w : Outcome) → kernelPages aboveLast (b .mem) (b .root) a n .walked ≡ w
-          → P (kernelMapped a n (b .kernel) w (kernelPages aboveLast (b .mem) (b .root) a n .mem))
-      by a f pos (Value x) e = subst (λ (s : Slots VMRegion). P (kernelDid (Value a) (kernel (kernelPages aboveLast (b .mem) (b .root) a n .mem) s))) (sym (slots-taken true n)) (met a x pos f e)
+      by : (a : ℕ) → firstFit n k ≡ Value a → 0 < n → (w : Outcome) → kernelPages up (b .mem) (b .root) a n .walked ≡ w
+          → P (kernelMapped a n (b .kernel) w (kernelPages up (b .mem) (b .root) a n .mem))
+      by a f pos (Value x) e = subst (λ (s : Slots VMRegion). P (kernelDid (Value a) (kernel (kernelPages up (b .mem) (b .root) a n .mem) s))) (sym (slots-taken true n)) (met a x pos f e)
       by a f pos (Stop x) e =
-          subst (λ (s : Slots VMRegion). P (kernelDid (Stop x) (kernel (kernelPages aboveLast (b .mem) (b .root) a n .mem) s))) (sym (slots-taken false n))
+          subst (λ (s : Slots VMRegion). P (kernelDid (Stop x) (kernel (kernelPages up (b .mem) (b .root) a n .mem) s))) (sym (slots-taken false n))
           (stopped a x pos f e (paged-stop true false (h .paged) a (n / 4096) x e))
 
   -- every outcome of a vfree
   pub vfree-outcomes : (a : ℕ) (P : KernelDid → Type 0)
       → ((e : ℕ) → P (kernelDid (Stop e) (kernelOf b)))
-      → ((n : ℕ) → usedSize a k ≡ Value n → P (kernelDid (Value 0) (kernel (freePages aboveLast (b .mem) (b .root) a (n / 4096)) (filled noVmRegion (merge (freedAll a k))))))
-      → P (vfree aboveLast (kernelOf b) (b .root) a)
+      → ((n : ℕ) → usedSize a k ≡ Value n → P (kernelDid (Value 0) (kernel (freePages up (b .mem) (b .root) a (n / 4096)) (filled noVmRegion (merge (freedAll a k))))))
+      → P (vfreeOf (kernelOf b) (b .root) a)
   vfree-outcomes a P refused met =
-      vfree-cases aboveLast (kernelOf b) (b .root) a P
+      subst (λ (n : ℕ). P (vfree n (kernelOf b) (b .root) a)) (sym (above-is h)) (vfree-cases up (kernelOf b) (b .root) a P
       (λ e. absurd (true≢false (sym (kernel-sound h) ∙ e))) (λ e f. refused e)
-      (λ s pos n e. subst (λ (s : Slots VMRegion). P (kernelDid (Value 0) (kernel (freePages aboveLast (b .mem) (b .root) a (n / 4096)) s))) (sym (slots-freed a))
-      (met n (subst (λ (x : List VMRegion). usedSize a x ≡ Value n) kernel-listed e)))
+      (λ s pos n e. subst (λ (s : Slots VMRegion). P (kernelDid (Value 0) (kernel (freePages up (b .mem) (b .root) a (n / 4096)) s))) (sym (slots-freed a))
+      (met n (subst (λ (x : List VMRegion). usedSize a x ≡ Value n) kernel-listed e))))
 
   -- the book's list once a part is freed
   book-freed : (a : ℕ) → joinParts (freePart a k) ≡ merge (freedAll a k)
@@ -104,8 +103,8 @@ module _ {b : Board} {k : List VMRegion} {u : List MappedRegion} {l : List Regio
   -- ---- the invariant
 
   -- a region that is taken
-  pub kernel-took : (size a x : ℕ) → let n = roundUp 12 size in 0 < n → firstFit n k ≡ Value a → kernelPages aboveLast (b .mem) (b .root) a n .walked ≡ Value x
-      → Inv left (withKernel b (kernel (kernelPages aboveLast (b .mem) (b .root) a n .mem) (filled noVmRegion (taken true n k)))) (takePart a n (ltb (length k) 256) k) u (kernelRegion a n ∷ l)
+  pub kernel-took : (size a x : ℕ) → let n = roundUp 12 size in 0 < n → firstFit n k ≡ Value a → kernelPages up (b .mem) (b .root) a n .walked ≡ Value x
+      → Inv up left (withKernel b (kernel (kernelPages up (b .mem) (b .root) a n .mem) (filled noVmRegion (taken true n k)))) (takePart a n (ltb (length k) 256) k) u (kernelRegion a n ∷ l)
   kernel-took size a x pos f met =
       let n = roundUp 12 size in
       rw (take-cut n a windowStart windowEnd (ltb (length k) 256) k (h .kernelList .rows) f) (record {
@@ -124,13 +123,13 @@ module _ {b : Board} {k : List VMRegion} {u : List MappedRegion} {l : List Regio
 
   -- a region that is released
   gave : (a n : ℕ) → usedSize a k ≡ Value n
-      → Inv left (withKernel b (kernel (freePages aboveLast (b .mem) (b .root) a (n / 4096)) (filled noVmRegion (merge (freedAll a k))))) (joinParts (freePart a k)) u (dropKernel a l)
+      → Inv up left (withKernel b (kernel (freePages up (b .mem) (b .root) a (n / 4096)) (filled noVmRegion (merge (freedAll a k))))) (joinParts (freePart a k)) u (dropKernel a l)
   gave a n e =
       let p = drop-kernel a n l (h .kernelList .used a n e) (λ m q. same-at (h .kernelList .live a m q) e) in
       let g = inv-perm p h in
       rw (book-freed a) (record {
         paged = paged-give a (n / 4096) (g .paged);
-        first = h .first ∙ sym (give-start aboveLast (b .mem) (b .root) a (n / 4096));
+        first = h .first ∙ sym (give-start up (b .mem) (b .root) a (n / 4096));
         kernelIs = refl;
         kernelList = kernel-give a n (g .kernelList) (g .once);
         userIs = h .userIs;
@@ -139,27 +138,27 @@ module _ {b : Board} {k : List VMRegion} {u : List MappedRegion} {l : List Regio
         once = g .once .1;
       })
 
-  pub vmalloc-step : (size : ℕ) → let d = vmalloc aboveLast (kernelOf b) (b .root) size in turnedAway (d .answer) ≡ false
-      → Inv left (withKernel b (d .kernel)) (bookStep k (vmallocCall size) (d .answer)) u (liveStep l (vmallocCall size) (d .answer))
+  pub vmalloc-step : (size : ℕ) → let d = vmallocOf (kernelOf b) (b .root) size in turnedAway (d .answer) ≡ false
+      → Inv up left (withKernel b (d .kernel)) (bookStep k (vmallocCall size) (d .answer)) u (liveStep l (vmallocCall size) (d .answer))
   vmalloc-step size =
       vmalloc-outcomes size
-      (λ (d : KernelDid). turnedAway (d .answer) ≡ false → Inv left (withKernel b (d .kernel)) (bookStep k (vmallocCall size) (d .answer)) u (liveStep l (vmallocCall size) (d .answer)))
+      (λ (d : KernelDid). turnedAway (d .answer) ≡ false → Inv up left (withKernel b (d .kernel)) (bookStep k (vmallocCall size) (d .answer)) u (liveStep l (vmallocCall size) (d .answer)))
       (λ e _ _. h) (λ a x pos f met _. kernel-took size a x pos f met) (λ a e pos f met t ex. absurd (true≢false (sym t ∙ ex)))
 
-  pub vfree-step : (a : ℕ) → let d = vfree aboveLast (kernelOf b) (b .root) a in
-      Inv left (withKernel b (d .kernel)) (bookStep k (vfreeCall a) (d .answer)) u (liveStep l (vfreeCall a) (d .answer))
+  pub vfree-step : (a : ℕ) → let d = vfreeOf (kernelOf b) (b .root) a in
+      Inv up left (withKernel b (d .kernel)) (bookStep k (vfreeCall a) (d .answer)) u (liveStep l (vfreeCall a) (d .answer))
   vfree-step a =
-      vfree-outcomes a (λ (d : KernelDid). Inv left (withKernel b (d .kernel)) (bookStep k (vfreeCall a) (d .answer)) u (liveStep l (vfreeCall a) (d .answer)))
+      vfree-outcomes a (λ (d : KernelDid). Inv up left (withKernel b (d .kernel)) (bookStep k (vfreeCall a) (d .answer)) u (liveStep l (vfreeCall a) (d .answer)))
       (λ e. h) (λ n e. gave a n e)
 
   -- ---- and what holds besides while no call is turned away with 11 or 13
 
-  module _ {ever : List ℕ} (t : Tidy b k ever) where
-    pub vmalloc-tidy : (size : ℕ) → let d = vmalloc aboveLast (kernelOf b) (b .root) size in turnedAway (d .answer) ≡ false
-        → Tidy (withKernel b (d .kernel)) (bookStep k (vmallocCall size) (d .answer)) (morePages ever (d .answer) (roundUp 12 size))
+  module _ {ever : List ℕ} (t : Tidy up b k ever) where
+    pub vmalloc-tidy : (size : ℕ) → let d = vmallocOf (kernelOf b) (b .root) size in turnedAway (d .answer) ≡ false
+        → Tidy up (withKernel b (d .kernel)) (bookStep k (vmallocCall size) (d .answer)) (morePages ever (d .answer) (roundUp 12 size))
     vmalloc-tidy size =
         vmalloc-outcomes size
-        (λ (d : KernelDid). turnedAway (d .answer) ≡ false → Tidy (withKernel b (d .kernel)) (bookStep k (vmallocCall size) (d .answer)) (morePages ever (d .answer) (roundUp 12 size)))
+        (λ (d : KernelDid). turnedAway (d .answer) ≡ false → Tidy up (withKernel b (d .kernel)) (bookStep k (vmallocCall size) (d .answer)) (morePages ever (d .answer) (roundUp 12 size)))
         (λ e _ _. t)
         (λ a x pos f met _. rw (take-cut (roundUp 12 size) a windowStart windowEnd (ltb (length k) 256) k (h .kernelList .rows) f) (record {
           apart = apart-taken (roundUp 12 size) (ltb (length k) 256) k (t .apart);
@@ -167,8 +166,8 @@ module _ {b : Board} {k : List VMRegion} {u : List MappedRegion} {l : List Regio
         }))
         (λ a e pos f met s ex. absurd (true≢false (sym s ∙ ex)))
 
-    pub vfree-tidy : (a : ℕ) → let d = vfree aboveLast (kernelOf b) (b .root) a in Tidy (withKernel b (d .kernel)) (bookStep k (vfreeCall a) (d .answer)) ever
+    pub vfree-tidy : (a : ℕ) → let d = vfreeOf (kernelOf b) (b .root) a in Tidy up (withKernel b (d .kernel)) (bookStep k (vfreeCall a) (d .answer)) ever
     vfree-tidy a =
-        vfree-outcomes a (λ (d : KernelDid). Tidy (withKernel b (d .kernel)) (bookStep k (vfreeCall a) (d .answer)) ever)
+        vfree-outcomes a (λ (d : KernelDid). Tidy up (withKernel b (d .kernel)) (bookStep k (vfreeCall a) (d .answer)) ever)
         (λ e. t)
         (λ n e. rw (book-freed a) (record { apart = apart-merge (freedAll a k); tabled = tabled-give a (n / 4096) (h .paged .account .order) (t .tabled) }))

@@ -13,4 +13,5 @@ pub mod Run
 pub mod Ends
 pub mod Orders
 pub mod Window
+pub mod Half
 pub mod Theorem

@@ -4,7 +4,6 @@ use mathlib.Core.Path.{_≡_, refl, sym, _∙_, ap, subst}
 use mathlib.Core.Bool.{Bool, true, false}
 use mathlib.Core.List.{List, [], _∷_, foldl, foldl-append, List·Memᴰ·not-nil, List·Permᴰ, List·Permᴰ·trans, Permᴰ·symm}
 use Rattle.bits.specs.Bit.{pick}
-use Rattle.paging.specs.Levels.{aboveLast}
 use Rattle.paging.specs.Map.{Memory}
 use Rattle.paging.specs.Pages.{freePage}
 use Rattle.tree.proofs.Orders.{one-end}
@@ -27,25 +26,25 @@ use Rattle.release.proofs.Paged.{run-is}
 use Rattle.release.proofs.Invariant.{Leftover, Inv, Tidy, inv-perm}
 use Rattle.release.proofs.Ends.{board, memoryAfter, kernelAfter, userAfter, Gave, kernel-gave, user-gave}
 
-gave : {b : Board} {k : List VMRegion} {u : List MappedRegion} {l : List Region} {left : Leftover} {r : Region} {c : Call} → Releases r c → Inv left b k u (r ∷ l) → Gave left b k u r l c
+gave : {up : ℕ} {b : Board} {k : List VMRegion} {u : List MappedRegion} {l : List Region} {left : Leftover} {r : Region} {c : Call} → Releases r c → Inv up left b k u (r ∷ l) → Gave up left b k u r l c
 gave (by-vfree {a = a} {n = n}) h = kernel-gave a n h
 gave (by-munmap {a = a} {n = n} {size = size} q) h = user-gave a n size q h
 
--- what releases of the regions of a list leave
-abbrev pub ended : Board → List VMRegion → List MappedRegion → List Region → Board
-ended b k u m = board b (foldl (memoryAfter (b .root)) (b .mem) m) (foldl kernelAfter k m) (foldl userAfter u m)
+-- what releases of the regions of a list leave, on a board of up levels above the last
+abbrev pub ended : ℕ → Board → List VMRegion → List MappedRegion → List Region → Board
+ended up b k u m = board b (foldl (memoryAfter up (b .root)) (b .mem) m) (foldl kernelAfter k m) (foldl userAfter u m)
 
-pub record Ended (left : Leftover) (b : Board) (k : List VMRegion) (u : List MappedRegion) (m : List Region) (cs : List Call) : Type 0 where
+pub record Ended (up : ℕ) (left : Leftover) (b : Board) (k : List VMRegion) (u : List MappedRegion) (m : List Region) (cs : List Call) : Type 0 where
   pub met : every (λ e. isMet (e .answer)) (events b cs) ≡ true
-  pub leaves : after b cs ≡ ended b k u m
-  pub inv : Inv left (ended b k u m) (foldl kernelAfter k m) (foldl userAfter u m) []
+  pub leaves : after b cs ≡ ended up b k u m
+  pub inv : Inv up left (ended up b k u m) (foldl kernelAfter k m) (foldl userAfter u m) []
 
-pub end-of : {m : List Region} {cs : List Call} → EachReleased m cs → {b : Board} {k : List VMRegion} {u : List MappedRegion} {left : Leftover} → Inv left b k u m → Ended left b k u m cs
+pub end-of : {m : List Region} {cs : List Call} → EachReleased m cs → {up : ℕ} {b : Board} {k : List VMRegion} {u : List MappedRegion} {left : Leftover} → Inv up left b k u m → Ended up left b k u m cs
 unfolding after events every
-end-of done {b} {k} {u} {left} h =
+end-of done {up} {b} {k} {u} {left} h =
     let same : b ≡ board b (b .mem) k u = λ i. record { mem = b .mem; root = b .root; kernel = h .kernelIs i; user = h .userIs i; next = b .next; marked = b .marked } in
-    record { met = refl; leaves = same; inv = subst (λ (x : Board). Inv left x k u []) same h }
-end-of (next {r = r} {c = c} {cs = cs} x xs) {b} {k} {u} {left} h =
+    record { met = refl; leaves = same; inv = subst (λ (x : Board). Inv up left x k u []) same h }
+end-of (next {r = r} {c = c} {cs = cs} x xs) {up} {b} {k} {u} {left} h =
     let g = gave x h in
     let e = end-of xs (g .inv) in
     record {
@@ -56,13 +55,13 @@ end-of (next {r = r} {c = c} {cs = cs} x xs) {b} {k} {u} {left} h =
 
 -- ---- the memory
 
-memory-end : (root : ℕ) (m : List Region) (x : Memory) → foldl (memoryAfter root) x m ≡ freeAll aboveLast root x (concat pagesOf m)
+memory-end : (up root : ℕ) (m : List Region) (x : Memory) → foldl (memoryAfter up root) x m ≡ freeAll up root x (concat pagesOf m)
 unfolding concat
-memory-end root [] x = refl
-memory-end root (r ∷ m) x =
-    memory-end root m (memoryAfter root x r)
-    ∙ ap (λ (y : Memory). freeAll aboveLast root y (concat pagesOf m)) (free-pages aboveLast root (sizeIs r / 4096) x (startIs r) ∙ ap (freeAll aboveLast root x) (run-is (startIs r) (sizeIs r / 4096)))
-    ∙ sym (foldl-append (λ (y : Memory) (v : ℕ). freePage aboveLast y root v) x (pagesOf r) (concat pagesOf m))
+memory-end up root [] x = refl
+memory-end up root (r ∷ m) x =
+    memory-end up root m (memoryAfter up root x r)
+    ∙ ap (λ (y : Memory). freeAll up root y (concat pagesOf m)) (free-pages up root (sizeIs r / 4096) x (startIs r) ∙ ap (freeAll up root x) (run-is (startIs r) (sizeIs r / 4096)))
+    ∙ sym (foldl-append (λ (y : Memory) (v : ℕ). freePage up y root v) x (pagesOf r) (concat pagesOf m))
 
 -- ---- the kernel's list
 
@@ -108,8 +107,8 @@ user-empty {u} h = holds-nothing u (λ a n. by a n (holds a n u) refl)
 
 -- ---- every two orders
 
-module _ {b : Board} {k : List VMRegion} {u : List MappedRegion} {l : List Region} {left : Leftover} (h : Inv left b k u l) where
-  pub order-end : {cs : List Call} (o : Order l cs) → Ended left b k u (o .0) cs
+module _ {up : ℕ} {b : Board} {k : List VMRegion} {u : List MappedRegion} {l : List Region} {left : Leftover} (h : Inv up left b k u l) where
+  pub order-end : {cs : List Call} (o : Order l cs) → Ended up left b k u (o .0) cs
   order-end o = end-of (o .2) (inv-perm (reordered (o .1)) h)
 
   pub one-board : {cs cs′ : List Call} → Order l cs → Order l cs′ → after b cs ≡ after b cs′
@@ -117,7 +116,7 @@ module _ {b : Board} {k : List VMRegion} {u : List MappedRegion} {l : List Regio
       let d = List·Permᴰ·trans (Permᴰ·symm (reordered (o .1))) (reordered (o′ .1)) in
       let e = order-end o in
       let e′ = order-end o′ in
-      let mem = memory-end (b .root) (o .0) (b .mem) ∙ pages-end (h .paged .account .order) (perm-concat pagesOf d) ∙ sym (memory-end (b .root) (o′ .0) (b .mem)) in
+      let mem = memory-end up (b .root) (o .0) (b .mem) ∙ pages-end (h .paged .account .order) (perm-concat pagesOf d) ∙ sym (memory-end up (b .root) (o′ .0) (b .mem)) in
       let ker = kernels-alike d k in
       let maps = user-empty (e .inv .userList) ∙ sym (user-empty (e′ .inv .userList)) in
       e .leaves ∙ (λ i. board b (mem i) (ker i) (maps i)) ∙ sym (e′ .leaves)
@@ -129,9 +128,9 @@ kernels-apart [] k h = h
 kernels-apart (kernelRegion a n ∷ m) k h = kernels-apart m (merge (freedAll a k)) (apart-merge (freedAll a k))
 kernels-apart (userRegion a n ∷ m) k h = kernels-apart m k h
 
-pub ended-tidy : {b : Board} {k : List VMRegion} {u : List MappedRegion} {l : List Region} {ever : List ℕ} {left : Leftover} → Inv left b k u l → Tidy b k ever → (m : List Region)
-    → Tidy (ended b k u m) (foldl kernelAfter k m) ever
-ended-tidy {b} {k} h t m = record {
+pub ended-tidy : {up : ℕ} {b : Board} {k : List VMRegion} {u : List MappedRegion} {l : List Region} {ever : List ℕ} {left : Leftover} → Inv up left b k u l → Tidy up b k ever → (m : List Region)
+    → Tidy up (ended up b k u m) (foldl kernelAfter k m) ever
+ended-tidy {up} {b} {k} h t m = record {
   apart = kernels-apart m k (t .apart);
-  tabled = rw (memory-end (b .root) m (b .mem)) (free-all-tabled (concat pagesOf m) (h .paged .account .order) (t .tabled));
+  tabled = rw (memory-end up (b .root) m (b .mem)) (free-all-tabled (concat pagesOf m) (h .paged .account .order) (t .tabled));
 }

@@ -12,8 +12,7 @@ use Rattle.bits.proofs.Choice.{both-true}
 use Rattle.allocator.specs.Round.{roundUp}
 use Rattle.answer.specs.Numbers.{brokenRecord, noFreeFrame}
 use Rattle.frame.proofs.Steps.{span-with}
-use Rattle.frame.specs.Frames.{withMark}
-use Rattle.paging.specs.Levels.{aboveLast}
+use Rattle.frame.specs.Frames.{isLevels, withMark}
 use Rattle.paging.specs.Map.{memory, zeroFrame}
 use Rattle.answer.specs.declared.Outcome.{Outcome}
 use Rattle.answer.specs.declared.Outcome.the-variants.{Value, Stop}
@@ -49,16 +48,16 @@ everFrom ever [] = ever
 everFrom ever (e ∷ es) = everFrom (everStep ever (e .call) (e .answer)) es
 
 -- one call
-pub step : {b : Board} {k : List VMRegion} {u : List MappedRegion} {l : List Region} {left : Leftover} → Inv left b k u l → (c : Call) → turnedAway (play b c .answer) ≡ false
-    → (u′ : List MappedRegion) × Inv left (play b c .board) (bookStep k c (play b c .answer)) u′ (liveStep l c (play b c .answer))
+pub step : {up : ℕ} {b : Board} {k : List VMRegion} {u : List MappedRegion} {l : List Region} {left : Leftover} → Inv up left b k u l → (c : Call) → turnedAway (play b c .answer) ≡ false
+    → (u′ : List MappedRegion) × Inv up left (play b c .board) (bookStep k c (play b c .answer)) u′ (liveStep l c (play b c .answer))
 unfolding play
 step {u = u} h (vmallocCall size) e = (u, vmalloc-step h size e)
 step {u = u} h (vfreeCall a) e = (u, vfree-step h a)
 step h (mmapCall hint size prot flags) e = mmap-step h hint size prot flags e
 step h (munmapCall a size) e = munmap-step h a size
 
-pub tidy-step : {b : Board} {k : List VMRegion} {u : List MappedRegion} {l : List Region} {ever : List ℕ} {left : Leftover} → Inv left b k u l → Tidy b k ever
-    → (c : Call) → turnedAway (play b c .answer) ≡ false → Tidy (play b c .board) (bookStep k c (play b c .answer)) (everStep ever c (play b c .answer))
+pub tidy-step : {up : ℕ} {b : Board} {k : List VMRegion} {u : List MappedRegion} {l : List Region} {ever : List ℕ} {left : Leftover} → Inv up left b k u l → Tidy up b k ever
+    → (c : Call) → turnedAway (play b c .answer) ≡ false → Tidy up (play b c .board) (bookStep k c (play b c .answer)) (everStep ever c (play b c .answer))
 unfolding play
 tidy-step h t (vmallocCall size) e = vmalloc-tidy h t size e
 tidy-step h t (vfreeCall a) e = vfree-tidy h t a
@@ -66,20 +65,20 @@ tidy-step h t (mmapCall hint size prot flags) e = mmap-tidy h t hint size prot f
 tidy-step h t (munmapCall a size) e = munmap-tidy h t a size
 
 -- a list of calls
-pub run-inv : (cs : List Call) {b : Board} {k : List VMRegion} {u : List MappedRegion} {l : List Region} {left : Leftover} → Inv left b k u l → noneTurnedAway (events b cs) ≡ true
-    → (u′ : List MappedRegion) × Inv left (after b cs) (bookFrom k (events b cs)) u′ (liveFrom l (events b cs))
+pub run-inv : (cs : List Call) {up : ℕ} {b : Board} {k : List VMRegion} {u : List MappedRegion} {l : List Region} {left : Leftover} → Inv up left b k u l → noneTurnedAway (events b cs) ≡ true
+    → (u′ : List MappedRegion) × Inv up left (after b cs) (bookFrom k (events b cs)) u′ (liveFrom l (events b cs))
 unfolding after events bookFrom liveFrom every
 run-inv [] {u = u} h e = (u, h)
-run-inv (c ∷ cs) {b} h e =
+run-inv (c ∷ cs) {b = b} h e =
     let r = both-true (not (turnedAway (play b c .answer))) _ e in
     let s = step h c (not-true (turnedAway (play b c .answer)) (r .0)) in
     run-inv cs (s .1) (r .1)
 
-pub run-tidy : (cs : List Call) {b : Board} {k : List VMRegion} {u : List MappedRegion} {l : List Region} {ever : List ℕ} {left : Leftover} → Inv left b k u l → Tidy b k ever
-    → noneTurnedAway (events b cs) ≡ true → Tidy (after b cs) (bookFrom k (events b cs)) (everFrom ever (events b cs))
+pub run-tidy : (cs : List Call) {up : ℕ} {b : Board} {k : List VMRegion} {u : List MappedRegion} {l : List Region} {ever : List ℕ} {left : Leftover} → Inv up left b k u l → Tidy up b k ever
+    → noneTurnedAway (events b cs) ≡ true → Tidy up (after b cs) (bookFrom k (events b cs)) (everFrom ever (events b cs))
 unfolding after events bookFrom every
 run-tidy [] h t e = t
-run-tidy (c ∷ cs) {b} h t e =
+run-tidy (c ∷ cs) {b = b} h t e =
     let r = both-true (not (turnedAway (play b c .answer))) _ e in
     let q = not-true (turnedAway (play b c .answer)) (r .0) in
     run-tidy cs (step h c q .1) (tidy-step h t c q) (r .1)
@@ -115,19 +114,19 @@ refused n a c e = apart (ap (λ (d : BoardDid). d .answer) e)
     apart : Stop n ≡ Value 0 → ⊥
     apart q = let z : _≡_ {A = ℕ} 0 1 = cc in omega arith
 
-module _ (old : Board) (s t : ℕ) (some : 0 < t) (few : t ≤ 8192) (enough : t * 512 ≤ length (old .mem .words)) (low : s + t ≤ 2 ^ 40) where
-  from-first : s ≡ withMark (untaken s t) 0 .fa .start
-  from-first = sym (span-with (untaken s t) 0 .start)
+module _ (old : Board) (up s t : ℕ) (may : isLevels (suc up) ≡ true) (some : 0 < t) (few : t ≤ 8192) (enough : t * 512 ≤ length (old .mem .words)) (low : s + t ≤ 2 ^ 40) where
+  from-first : s ≡ withMark (untaken s t (suc up)) 0 .fa .start
+  from-first = sym (span-with (untaken s t (suc up)) 0 .start)
 
   -- only the root is reached
-  root-only : (p : List ℕ) (f : ℕ) → reachIn (memory (zeroFrame (old .mem .words) s s) (withMark (untaken s t) 0)) s p ≡ Value f → p ≡ []
-  root-only p f e = fresh-only (old .mem .words) s t (suc aboveLast) some few enough low p f e .0
+  root-only : (p : List ℕ) (f : ℕ) → reachIn (memory (zeroFrame (old .mem .words) s s) (withMark (untaken s t (suc up)) 0)) s p ≡ Value f → p ≡ []
+  root-only p f e = fresh-only (old .mem .words) s t (suc up) some few enough low may p f e .0
 
-  begun-inv : Inv nothingLeft (begun old s (withMark (untaken s t) 0)) (window ∷ []) [] []
+  begun-inv : Inv up nothingLeft (begun old s (withMark (untaken s t (suc up)) 0)) (window ∷ []) [] []
   begun-inv = record {
-    paged = subst (λ (x : ℕ). Paged aboveLast (memory (zeroFrame (old .mem .words) x s) (withMark (untaken s t) 0)) s [] []) from-first (record {
-      account = fresh-accounted (old .mem .words) s t (suc aboveLast) some few enough low;
-      plain = fresh-plain (old .mem .words) s t (suc aboveLast) some few enough low;
+    paged = subst (λ (x : ℕ). Paged up (memory (zeroFrame (old .mem .words) x s) (withMark (untaken s t (suc up)) 0)) s [] []) from-first (record {
+      account = fresh-accounted (old .mem .words) s t (suc up) some few enough low may;
+      plain = fresh-plain (old .mem .words) s t (suc up) some few enough low may;
       live = bare-live root-only;
     });
     first = from-first;
@@ -139,30 +138,39 @@ module _ (old : Board) (s t : ℕ) (some : 0 < t) (few : t ≤ 8192) (enough : t
     once = tt;
   }
 
-  begun-tidy : Tidy (begun old s (withMark (untaken s t) 0)) (window ∷ []) []
+  begun-tidy : Tidy up (begun old s (withMark (untaken s t (suc up)) 0)) (window ∷ []) []
   begun-tidy = record {
     apart = tt;
-    tabled = subst (λ (x : ℕ). Tabled (memory (zeroFrame (old .mem .words) x s) (withMark (untaken s t) 0)) s aboveLast []) from-first (bare-tabled root-only);
+    tabled = subst (λ (x : ℕ). Tabled (memory (zeroFrame (old .mem .words) x s) (withMark (untaken s t (suc up)) 0)) s up []) from-first (bare-tabled root-only);
   }
 
 -- 'what any met start leaves, whatever the lent record held before'
-module _ (old fresh : Board) (from to : ℕ) where
+module _ (old fresh : Board) (from to up : ℕ) where
   begun-cases : (P : Board → Type 0)
-      → ((s t : ℕ) → 0 < t → t ≤ 8192 → t * 512 ≤ length (old .mem .words) → s + t ≤ 2 ^ 40 → P (begun old s (withMark (untaken s t) 0)))
-      → start old from to ≡ boardDid (Value 0) fresh → P fresh
+      → ((s t : ℕ) → isLevels (suc up) ≡ true → 0 < t → t ≤ 8192 → t * 512 ≤ length (old .mem .words) → s + t ≤ 2 ^ 40 → P (begun old s (withMark (untaken s t (suc up)) 0)))
+      → start old from to (suc up) ≡ boardDid (Value 0) fresh → P fresh
   begun-cases P holds =
-      start-cases old from to (λ (d : BoardDid). d ≡ boardDid (Value 0) fresh → P fresh)
-      (λ le top some enough e. subst P (ap (λ (d : BoardDid). d .board) e) (holds (from / 4096) (min ((to - from) / 4096) 8192) some (omega arith) enough (omega arith)))
+      start-cases old from to (suc up) (λ (d : BoardDid). d ≡ boardDid (Value 0) fresh → P fresh)
+      (λ may le top some enough e. subst P (ap (λ (d : BoardDid). d .board) e) (holds (from / 4096) (min ((to - from) / 4096) 8192) may some (omega arith) enough (omega arith)))
       (λ e. absurd (refused brokenRecord old fresh e))
       (λ e. absurd (refused noFreeFrame old fresh e))
 
-  pub fresh-inv : start old from to ≡ boardDid (Value 0) fresh → Inv nothingLeft fresh (window ∷ []) [] []
-  fresh-inv = begun-cases (λ x. Inv nothingLeft x (window ∷ []) [] []) (begun-inv old)
+  pub fresh-inv : start old from to (suc up) ≡ boardDid (Value 0) fresh → Inv up nothingLeft fresh (window ∷ []) [] []
+  fresh-inv = begun-cases (λ x. Inv up nothingLeft x (window ∷ []) [] []) (begun-inv old up)
 
-  pub fresh-tidy : start old from to ≡ boardDid (Value 0) fresh → Tidy fresh (window ∷ []) []
-  fresh-tidy = begun-cases (λ x. Tidy x (window ∷ []) []) (begun-tidy old)
+  pub fresh-tidy : start old from to (suc up) ≡ boardDid (Value 0) fresh → Tidy up fresh (window ∷ []) []
+  fresh-tidy = begun-cases (λ x. Tidy up x (window ∷ []) []) (begun-tidy old up)
+
+-- it is of 4 or 5 levels
+pub met-levels : (old fresh : Board) (from to levels : ℕ) → start old from to levels ≡ boardDid (Value 0) fresh → isLevels levels ≡ true
+met-levels old fresh from to levels =
+    start-cases old from to levels (λ (d : BoardDid). d ≡ boardDid (Value 0) fresh → isLevels levels ≡ true) (λ may _ _ _ _ _. may)
+    (λ e. absurd (refused brokenRecord old fresh e)) (λ e. absurd (refused noFreeFrame old fresh e))
+
+pub some-levels : (old fresh : Board) (from to : ℕ) → start old from to 0 ≡ boardDid (Value 0) fresh → ⊥
+some-levels old fresh from to e = false≢true (met-levels old fresh from to 0 e)
 
 -- so from a fresh board on the invariant holds along every list of calls, with what those turned away leave behind
-pub fresh-any : (old fresh : Board) (from to : ℕ) → start old from to ≡ boardDid (Value 0) fresh → (cs : List Call)
-    → (u : List MappedRegion) × Inv (leftFrom nothingLeft fresh cs) (after fresh cs) (listFrom (window ∷ []) (events fresh cs)) u (liveFrom [] (events fresh cs))
-fresh-any old fresh from to st cs = run-any cs (fresh-inv old fresh from to st)
+pub fresh-any : (old fresh : Board) (from to up : ℕ) → start old from to (suc up) ≡ boardDid (Value 0) fresh → (cs : List Call)
+    → (u : List MappedRegion) × Inv up (leftFrom up nothingLeft fresh cs) (after fresh cs) (listFrom (window ∷ []) (events fresh cs)) u (liveFrom [] (events fresh cs))
+fresh-any old fresh from to up st cs = run-any cs (fresh-inv old fresh from to up st)

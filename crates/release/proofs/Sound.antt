@@ -1,4 +1,4 @@
--- A board that the invariant holds of is not broken, so no call on it answers 10.
+-- A board that the invariant holds of is not broken, so no call on it answers 10, and calls go by the levels of its tables.
 use Prim.Native.Nat.{ℕ, _-_, _%_}
 use mathlib.Core.Path.{_≡_, refl}
 use mathlib.Core.Bool.{true}
@@ -6,6 +6,7 @@ use mathlib.Core.List.{List}
 use native.Mathlib.Omega.{arith}
 use lib.ListN.{length}
 use borrow.Author.Tests.{le-leb, eq-eqb}
+use Rattle.paging.specs.Levels.{aboveLast}
 use Rattle.tree.proofs.Ordered.{ordered-whole}
 use Rattle.slots.proofs.Filled.{filled, listed-filled, drop-filled, every-zero}
 use Rattle.regions.specs.declared.VMRegion.{VMRegion}
@@ -34,9 +35,13 @@ unfolding soundMappings
 mappings-sound {u} next h e =
     rw (le-leb _ _ (h .few), listed-filled noMappedRegion u, h .rising .0, h .rising .1, eq-eqb (next % 4096) 0 e)
 
-module _ {b : Board} {k : List VMRegion} {u : List MappedRegion} {l : List Region} {left : Leftover} (h : Inv left b k u l) where
+module _ {up : ℕ} {b : Board} {k : List VMRegion} {u : List MappedRegion} {l : List Region} {left : Leftover} (h : Inv up left b k u l) where
   pub kernel-sound : soundKernel (kernelOf b) (b .root) ≡ true
   kernel-sound = rw (ordered-whole (h .paged .account .order), h .kernelIs) (regions-sound (h .kernelList))
 
   pub user-sound : soundUser (userOf b) (b .root) ≡ true
   user-sound = rw (ordered-whole (h .paged .account .order), h .userIs) (mappings-sound (b .next) (h .userList) (h .next))
+
+  -- it has so many levels above its last
+  pub above-is : aboveLast (b .mem) ≡ up
+  above-is = omega (arith, h .paged .account .order .levels)

@@ -11,12 +11,11 @@ use Rattle.bits.specs.Bit.{pick, both}
 use Rattle.bits.proofs.Choice.{both-true}
 use Rattle.allocator.specs.Round.{roundUp}
 use Rattle.answer.specs.Numbers.{regionNotFound}
-use Rattle.paging.specs.Levels.{aboveLast}
 use Rattle.answer.specs.declared.Outcome.the-variants.{Value, Stop}
 use Rattle.slots.specs.Slots.{every}
 use Rattle.regions.specs.declared.VMRegion.{VMRegion}
 use Rattle.regions.specs.Regions.{windowStart, windowEnd, window, firstFit, takeFirst, usedSize, freeFirst, merge}
-use Rattle.vmalloc.specs.Calls.{KernelDid, vmalloc}
+use Rattle.vmalloc.specs.Calls.{KernelDid, vmallocOf}
 use Rattle.regions.proofs.Merge.{freedAll}
 use Rattle.regions.proofs.Rows.{freed-first}
 use Rattle.regions.proofs.Used.{all-free}
@@ -38,14 +37,14 @@ abbrev pub Whole : List VMRegion → Type 0
 Whole k = Tiled windowStart windowEnd k
 
 -- a vmalloc that is met answers the first region large enough
-fit-of : {b : Board} {k : List VMRegion} {u : List MappedRegion} {l : List Region} {left : Leftover} → Inv left b k u l → (size a : ℕ)
-    → vmalloc aboveLast (kernelOf b) (b .root) size .answer ≡ Value a → firstFit (roundUp 12 size) k ≡ Value a
-fit-of {b} {k} h size a =
+fit-of : {up : ℕ} {b : Board} {k : List VMRegion} {u : List MappedRegion} {l : List Region} {left : Leftover} → Inv up left b k u l → (size a : ℕ)
+    → vmallocOf (kernelOf b) (b .root) size .answer ≡ Value a → firstFit (roundUp 12 size) k ≡ Value a
+fit-of {b = b} {k = k} h size a =
     vmalloc-outcomes h size (λ (d : KernelDid). d .answer ≡ Value a → firstFit (roundUp 12 size) k ≡ Value a)
     (λ e _ q. absurd (not-both q refl)) (λ c x pos f met q. f ∙ q) (λ c e pos f met t q. absurd (not-both q refl))
 
 -- one call
-module _ {b : Board} {k : List VMRegion} {u : List MappedRegion} {l : List Region} {left : Leftover} (h : Inv left b k u l) (t : Whole k) where
+module _ {up : ℕ} {b : Board} {k : List VMRegion} {u : List MappedRegion} {l : List Region} {left : Leftover} (h : Inv up left b k u l) (t : Whole k) where
   whole-take : (n a : ℕ) → firstFit n k ≡ Value a → both (leb 256 (length k)) (exceeds a n k) ≡ false → Whole (takePart a n (ltb (length k) 256) k)
   whole-take n a f q = rw (take-cut n a windowStart windowEnd (ltb (length k) 256) k (h .kernelList .rows) f) (by (ltb (length k) 256) refl)
     where
@@ -63,19 +62,19 @@ module _ {b : Board} {k : List VMRegion} {u : List MappedRegion} {l : List Regio
   whole-step : (c : Call) → cuts k c (play b c .answer) ≡ false → Whole (bookStep k c (play b c .answer))
   unfolding play
   whole-step (vmallocCall size) =
-      walked-cases (λ w. (vmalloc aboveLast (kernelOf b) (b .root) size .answer ≡ w) → cuts k (vmallocCall size) w ≡ false → Whole (bookStep k (vmallocCall size) w))
-      (vmalloc aboveLast (kernelOf b) (b .root) size .answer)
+      walked-cases (λ w. (vmallocOf (kernelOf b) (b .root) size .answer ≡ w) → cuts k (vmallocCall size) w ≡ false → Whole (bookStep k (vmallocCall size) w))
+      (vmallocOf (kernelOf b) (b .root) size .answer)
       (λ a _ e q. whole-take (roundUp 12 size) a (fit-of h size a e) q) (λ n _ e q. t) refl
   whole-step (vfreeCall a) = walked-cases (λ w. cuts k (vfreeCall a) w ≡ false → Whole (bookStep k (vfreeCall a) w)) (play b (vfreeCall a) .answer) (λ x _ q. whole-give a) (λ n _ q. t)
   whole-step (mmapCall hint size prot flags) = λ q. t
   whole-step (munmapCall a size) = λ q. t
 
 -- a list of calls
-pub whole-run : (cs : List Call) {b : Board} {k : List VMRegion} {u : List MappedRegion} {l : List Region} {left : Leftover} → Inv left b k u l → noneTurnedAway (events b cs) ≡ true
+pub whole-run : (cs : List Call) {up : ℕ} {b : Board} {k : List VMRegion} {u : List MappedRegion} {l : List Region} {left : Leftover} → Inv up left b k u l → noneTurnedAway (events b cs) ≡ true
     → uncutFrom k (events b cs) ≡ true → Whole k → Whole (bookFrom k (events b cs))
 unfolding events bookFrom uncutFrom every
 whole-run [] h e q t = t
-whole-run (c ∷ cs) {b} {k} h e q t =
+whole-run (c ∷ cs) {b = b} {k = k} h e q t =
     let r = both-true (not (turnedAway (play b c .answer))) _ e in
     let s = both-true (not (cuts k c (play b c .answer))) _ q in
     whole-run cs (step h c (not-true (turnedAway (play b c .answer)) (r .0)) .1) (r .1) (s .1) (whole-step h t c (not-true (cuts k c (play b c .answer)) (s .0)))

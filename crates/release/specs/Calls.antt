@@ -6,13 +6,12 @@ use lib.IntN.{ℤ}
 use lib.Dec.{eqb}
 use Rattle.bits.specs.Bit.{pick}
 use Rattle.answer.specs.Numbers.{noFreeFrame, mapPageFailed}
-use Rattle.paging.specs.Levels.{aboveLast}
 use Rattle.answer.specs.declared.Outcome.{Outcome}
 use Rattle.answer.specs.declared.Outcome.the-variants.{Value, Stop}
-use Rattle.vmalloc.specs.Calls.{Kernel, kernel, vmalloc, vfree}
+use Rattle.vmalloc.specs.Calls.{Kernel, kernel, vmallocOf, vfreeOf}
 use Rattle.vmalloc.specs.Calls.{KernelDid}
 use Rattle.mmap.specs.declared.OptAddr.{OptAddr}
-use Rattle.mmap.specs.Calls.{User, user, mmap, munmap}
+use Rattle.mmap.specs.Calls.{User, user, mmapOf, munmapOf}
 use Rattle.mmap.specs.Calls.{UserDid}
 use Rattle.board.specs.Board.{Board, BoardDid, boardDid}
 
@@ -42,12 +41,12 @@ byKernel b d = boardDid (d .answer) (withKernel b (d .kernel))
 abbrev pub byUser : Board → UserDid → BoardDid
 byUser b d = boardDid (d .answer) (withUser b (d .user))
 
--- a call on a board of `up` levels above the last: its answer, and the board that it leaves
+-- a call on a board, of 4 or 5 levels: its answer, and the board that it leaves
 unfoldable pub play : Board → Call → BoardDid
-play b (vmallocCall size) = byKernel b (vmalloc aboveLast (kernelOf b) (b .root) size)
-play b (vfreeCall a) = byKernel b (vfree aboveLast (kernelOf b) (b .root) a)
-play b (mmapCall hint size prot flags) = byUser b (mmap aboveLast (userOf b) (b .root) hint size prot flags)
-play b (munmapCall a size) = byUser b (munmap aboveLast (userOf b) (b .root) a size)
+play b (vmallocCall size) = byKernel b (vmallocOf (kernelOf b) (b .root) size)
+play b (vfreeCall a) = byKernel b (vfreeOf (kernelOf b) (b .root) a)
+play b (mmapCall hint size prot flags) = byUser b (mmapOf (userOf b) (b .root) hint size prot flags)
+play b (munmapCall a size) = byUser b (munmapOf (userOf b) (b .root) a size)
 
 -- the board after a list of calls, 'each call on the state the last one left'
 unfoldable pub after : Board → List Call → Board

@@ -1,6 +1,6 @@
 -- Demand 3, the release paper, as one statement about lists of calls (Calls.antt) from a board's start (crate board). What 'live', 'the window book' and 'cut' mean is
 -- defined here from calls and answers, and 'page tables' from the words, as document 01 does under 'The release paper'.
-use Prim.Native.Nat.{ℕ, zero, suc, _+_, _-_, _/_, _^_, _≤_, _<_}
+use Prim.Native.Nat.{ℕ, zero, suc, _+_, _-_, _*_, _/_, _^_, _≤_, _<_}
 use mathlib.Core.Path.{_≡_}
 use mathlib.Core.Bool.{Bool, true, false, not}
 use mathlib.Core.Logic.{_⊎_}
@@ -13,7 +13,8 @@ use Rattle.answer.specs.Numbers.{notMapped}
 use Rattle.answer.specs.declared.Outcome.the-variants.{Value, Stop}
 use Rattle.entry.specs.Entry.{indices}
 use Rattle.bitmap.specs.Bitmap.{marked as markOf}
-use Rattle.paging.specs.Levels.{aboveLast}
+use Rattle.frame.specs.Frames.{isLevels}
+use Rattle.paging.specs.Levels.{levelsOf}
 use Rattle.answer.specs.declared.Outcome.{Outcome}
 use Rattle.paging.specs.Walk.{reach}
 use Rattle.paging.specs.Map.{startFrame, totalOf}
@@ -33,20 +34,31 @@ use Rattle.release.specs.Calls.{Call, vmallocCall, vfreeCall, mmapCall, 
 abbrev pub noneTurnedAway : List Event → Bool
 noneTurnedAway es = every (λ e. not (turnedAway (e .answer))) es
 
--- 'every fixed or page-aligned hinted range ends at or below 2^47': it 'runs from the given address over the rounded size; it counts where its mmap is met or turned away
+-- 'every fixed or page-aligned hinted range ends at or below 2^47', and 'on a 5-level board the fixed and hinted ranges .. may reach 2^56'
+abbrev pub topOf : ℕ → ℕ
+topOf levels = pick (eqb levels 5) (2 ^ 56) (2 ^ 47)
+
+-- the ranges below it are those of the lower half of the top table: of their addresses the top index, bits 9 × levels + 3 to 9 × levels + 11, is below 256, and no bit
+-- above it is set
+abbrev pub LowHalf : Type 0
+LowHalf =
+    (levels v : ℕ) → isLevels levels ≡ true
+    → (v < topOf levels → v / 2 ^ (9 * levels + 3) < 256) × (v / 2 ^ (9 * levels + 3) < 256 → v < topOf levels)
+
+-- whether a call's range ends at or below `top`: it 'runs from the given address over the rounded size; it counts where its mmap is met or turned away
 -- with 11 or 13'
-abbrev pub lowRange : Call → Bool
-lowRange (vmallocCall size) = true
-lowRange (vfreeCall a) = true
-lowRange (mmapCall NoAddr size prot flags) = true
-lowRange (mmapCall (SomeAddr a) size prot flags) = pick (pick (fixed flags) true (onPage a)) (leb (a + roundUp 12 size) (2 ^ 47)) true
-lowRange (munmapCall a size) = true
+abbrev pub lowRange : ℕ → Call → Bool
+lowRange top (vmallocCall size) = true
+lowRange top (vfreeCall a) = true
+lowRange top (mmapCall NoAddr size prot flags) = true
+lowRange top (mmapCall (SomeAddr a) size prot flags) = pick (pick (fixed flags) true (onPage a)) (leb (a + roundUp 12 size) top) true
+lowRange top (munmapCall a size) = true
 
 abbrev pub counts : Outcome → Bool
 counts w = pick (isMet w) true (turnedAway w)
 
-abbrev pub lowRanges : List Event → Bool
-lowRanges es = every (λ e. pick (counts (e .answer)) (lowRange (e .call)) true) es
+abbrev pub lowRanges : ℕ → List Event → Bool
+lowRanges top es = every (λ e. pick (counts (e .answer)) (lowRange top (e .call)) true) es
 
 -- ---- live regions
 
@@ -130,11 +142,11 @@ Order l cs = (m : List Region) × Reordered l m × EachReleased m cs
 
 -- ---- page tables
 
--- 'Page tables are the frames that present entries above the last level reach from the root'
-pub record PageTable (b : Board) (f : ℕ) : Type 0 where
+-- 'Page tables are the frames that present entries above the last level reach from the root', on a board of so many levels
+pub record PageTable (levels : ℕ) (b : Board) (f : ℕ) : Type 0 where
   pub path : List ℕ
   pub proper : 1 ≤ length path
-  pub above : length path ≤ aboveLast
+  pub above : length path < levels
   pub reached : reach (b .mem .words) (startFrame (b .mem)) (totalOf (b .mem)) (b .root) path ≡ Value f
 
 -- the pages of a region: n of them from v on
@@ -151,16 +163,16 @@ runsTo zero p = []
 runsTo (suc n) p = runsTo n p ++ (take (suc n) p ∷ [])
 
 -- 'run of leading indices, neither empty nor whole', of a page
-abbrev pub runsOf : ℕ → List (List ℕ)
-runsOf v = runsTo aboveLast (indices (suc aboveLast) v)
+abbrev pub runsOf : ℕ → ℕ → List (List ℕ)
+runsOf levels v = runsTo (levels - 1) (indices levels v)
 
 unfoldable pub concat : {A B : Type 0} → (A → List B) → List A → List B
 concat f [] = []
 concat f (a ∷ l) = f a ++ concat f l
 
 -- the runs of 'pages of all regions ever live'
-abbrev pub leadingRuns : List Event → List (List ℕ)
-leadingRuns es = concat runsOf (concat pagesOf (everLive es))
+abbrev pub leadingRuns : ℕ → List Event → List (List ℕ)
+leadingRuns levels es = concat (runsOf levels) (concat pagesOf (everLive es))
 
 -- whether two runs are one
 unfoldable pub sameRun : List ℕ → List ℕ → Bool
@@ -242,46 +254,53 @@ neverCut es = uncutFrom (window ∷ []) es
 
 -- ---- the statement
 
--- what holds of the board e that is left when all regions are released which the events es left live
-pub record Ended (es : List Event) (e : Board) : Type 0 where
+-- what holds of the board e, started with so many levels, that is left when all regions are released which the events es left live
+pub record Ended (levels : ℕ) (es : List Event) (e : Board) : Type 0 where
+  -- it has them still
+  pub as-started : levelsOf (e .mem) ≡ levels
   -- 'There no address translates'
-  pub no-address : (v : ℕ) → translate aboveLast (e .mem .words) (startFrame (e .mem)) (totalOf (e .mem)) (e .root) v ≡ Stop notMapped
+  pub no-address : (v : ℕ) → translate levels (e .mem .words) (startFrame (e .mem)) (totalOf (e .mem)) (e .root) v ≡ Stop notMapped
   -- 'exactly the root and the page tables are still marked': the root is the first of the lent frames
   pub root-first : e .root ≡ startFrame (e .mem)
   pub root-marked : markOf (e .mem .frames .bits) 0 ≡ 1
-  pub tables-marked : (f : ℕ) → PageTable e f
+  pub tables-marked : (f : ℕ) → PageTable levels e f
       → (startFrame (e .mem) ≤ f) × (f < startFrame (e .mem) + totalOf (e .mem)) × (markOf (e .mem .frames .bits) (f - startFrame (e .mem)) ≡ 1)
-  pub no-other-marked : (f : ℕ) → f < totalOf (e .mem) → markOf (e .mem .frames .bits) f ≡ 1 → (f ≡ 0) ⊎ PageTable e (startFrame (e .mem) + f)
+  pub no-other-marked : (f : ℕ) → f < totalOf (e .mem) → markOf (e .mem .frames .bits) f ≡ 1 → (f ≡ 0) ⊎ PageTable levels e (startFrame (e .mem) + f)
   -- 'counter = 1 + page tables', where there is 'one for each different run of leading indices .. of pages of all regions ever live': each of these runs comes to a page
   -- table, each page table lies at such a run, and at one alone, so that there are as many page tables as different runs; and the root is none of them
-  pub counter : e .mem .frames .fa .allocated ≡ 1 + length (different (leadingRuns es))
-  pub run-has-table : (p : List ℕ) → among p (leadingRuns es) ≡ true → (f : ℕ) × (reach (e .mem .words) (startFrame (e .mem)) (totalOf (e .mem)) (e .root) p ≡ Value f)
-  pub table-has-run : (f : ℕ) (t : PageTable e f) → among (t .path) (leadingRuns es) ≡ true
-  pub one-run-each : (f : ℕ) (t t′ : PageTable e f) → t .path ≡ t′ .path
-  pub root-no-table : PageTable e (e .root) → ⊥
+  pub counter : e .mem .frames .fa .allocated ≡ 1 + length (different (leadingRuns levels es))
+  pub run-has-table : (p : List ℕ) → among p (leadingRuns levels es) ≡ true → (f : ℕ) × (reach (e .mem .words) (startFrame (e .mem)) (totalOf (e .mem)) (e .root) p ≡ Value f)
+  pub table-has-run : (f : ℕ) (t : PageTable levels e f) → among (t .path) (leadingRuns levels es) ≡ true
+  pub one-run-each : (f : ℕ) (t t′ : PageTable levels e f) → t .path ≡ t′ .path
+  pub root-no-table : PageTable levels e (e .root) → ⊥
   -- 'if no vmalloc cut a larger region while the vmalloc list held 256, the kernel window is one free region again'
   pub one-window : neverCut es ≡ true → e .kernel ≡ record { slots = window ∷ replicate 255 noVmRegion; count = 1 }
 
 -- what holds of the board b that the events es led to, for two orders rs and rs′ of releasing; each may stand in the other's place
-pub record Released (b : Board) (es : List Event) (rs rs′ : List Call) : Type 0 where
+pub record Released (levels : ℕ) (b : Board) (es : List Event) (rs rs′ : List Call) : Type 0 where
   -- 'each release is met'
   pub met : every (λ e. isMet (e .answer)) (events b rs) ≡ true
   -- 'both end in one and the same state, every lent word and record equal' (the order of the vmalloc slots too, after a cut as well)
   pub same : after b rs ≡ after b rs′
-  pub ended : Ended es (after b rs)
+  pub ended : Ended levels es (after b rs)
 
--- 'For every list of vmalloc, vfree, mmap and munmap calls, refused ones included, from a fresh board': 'what any met start leaves', whatever the lent parts held before
-abbrev pub Demand3 : Type 0
-Demand3 =
-    (old fresh : Board) (from to : ℕ) → start old from to ≡ boardDid (Value 0) fresh
-    → (cs : List Call) → noneTurnedAway (events fresh cs) ≡ true → lowRanges (events fresh cs) ≡ true
+-- 'For every list of vmalloc, vfree, mmap and munmap calls, refused ones included, from a fresh board': 'what any met start leaves', whatever the lent parts held before; on
+-- boards of so many levels
+abbrev pub Demand3At : ℕ → Type 0
+Demand3At levels =
+    (old fresh : Board) (from to : ℕ) → start old from to levels ≡ boardDid (Value 0) fresh
+    → (cs : List Call) → noneTurnedAway (events fresh cs) ≡ true → lowRanges (topOf levels) (events fresh cs) ≡ true
     → (rs rs′ : List Call) → Order (live (events fresh cs)) rs → Order (live (events fresh cs)) rs′
-    → Released (after fresh cs) (events fresh cs) rs rs′
+    → Released levels (after fresh cs) (events fresh cs) rs rs′
+
+-- of four levels or of five: no start is met with another number
+abbrev pub Demand3 : Type 0
+Demand3 = (levels : ℕ) → Demand3At levels
 
 -- 'While no call was turned away with 11 or 13, the vmalloc list holds exactly the book's parts, free and used alike' (in the order of their addresses)
 abbrev pub BookHolds : Type 0
 BookHolds =
-    (old fresh : Board) (from to : ℕ) → start old from to ≡ boardDid (Value 0) fresh
+    (old fresh : Board) (from to levels : ℕ) → start old from to levels ≡ boardDid (Value 0) fresh
     → (cs : List Call) → noneTurnedAway (events fresh cs) ≡ true
     → listed (after fresh cs .kernel) ≡ book (events fresh cs)
 
@@ -293,6 +312,6 @@ partsRise from (r ∷ l) = both (leb from (r .start)) (partsRise (r .start + r .
 -- the order in which the book's parts are written is that of their addresses
 abbrev pub BookRises : Type 0
 BookRises =
-    (old fresh : Board) (from to : ℕ) → start old from to ≡ boardDid (Value 0) fresh
+    (old fresh : Board) (from to levels : ℕ) → start old from to levels ≡ boardDid (Value 0) fresh
     → (cs : List Call) → noneTurnedAway (events fresh cs) ≡ true
     → partsRise 0 (book (events fresh cs)) ≡ true

@@ -210,6 +210,7 @@ pub fn run_tape() {
         empty,
         FIRST,
         LAST,
+        frame::LEVELS,
     );
     let answer = started.answer;
     let records = started.records;

@@ -7,6 +7,7 @@ use native.Mathlib.Omega.{arith}
 use lib.ListN.{take}
 use lib.Pow.{pow-pos, shr-shr, field, mod-mod-pow}
 use Rattle.entry.specs.Entry.{index, indices}
+use Rattle.entry.proofs.Entry.{index-last}
 use Rattle.tree.proofs.Paths.{upper, last}
 use Rattle.spans.specs.Spans.{toEnd}
 
@@ -60,12 +61,8 @@ to-end-some d v = omega (arith, mod-lt (v / 2 ^ 12) (pow-pos (9 * d)))
 
 -- ---- the next page of a table
 
-pub last-is : (up v : ℕ) → last up v ≡ v / 2 ^ 12 % 512
-last-is zero v = refl
-last-is (suc up) v = last-is up v
-
 pub last-next : (up v j : ℕ) → last up v + j < 512 → last up (v + j * 4096) ≡ last up v + j
-last-next up v j h = last-is up (v + j * 4096) ∙ omega (arith, last-is up v)
+last-next up v j h = index-last up (v + j * 4096) ∙ omega (arith, index-last up v)
 
 pub upper-next : (up v j : ℕ) → last up v + j < 512 → upper up (v + j * 4096) ≡ upper up v
-upper-next up v j h = same-above (suc up) 1 (v + j * 4096) v (span-above 1 v j (omega (arith, last-is up v))) up (omega arith)
+upper-next up v j h = same-above (suc up) 1 (v + j * 4096) v (span-above 1 v j (omega (arith, index-last up v))) up (omega arith)

@@ -64,8 +64,8 @@ entered-roomy u m t i e n r = subst (λ (x : Memory). RoomToTake x n) (sym (ap (
 
 -- the same in the loop over the indices i ∷ q that are left, of which l were passed
 module _ (u : Bool) (m : Memory) (t i : ℕ) (w : Outcome) (m′ : Memory) (e : out w m′ ≡ enter u m t i) where
-  pub entered-left : (l k : ℕ) → l < k → k ≤ 3 → RoomToTake m (3 - l) → RoomToTake m′ (3 - (l + 1))
-  entered-left l k h s r = entered-roomy u m t i e (3 - (l + 1)) (roomy-less (3 - (l + 1) + 1) (omega arith) r)
+  pub entered-left : (l k : ℕ) → l < k → k ≤ 4 → RoomToTake m (4 - l) → RoomToTake m′ (4 - (l + 1))
+  entered-left l k h s r = entered-roomy u m t i e (4 - (l + 1)) (roomy-less (4 - (l + 1) + 1) (omega arith) r)
 
   pub made-stop : {o : Out} (p q : List ℕ) → o ≡ make u m t p → p ≡ i ∷ q → (n : ℕ) → w ≡ Stop n → out (Stop n) m′ ≡ o
   made-stop p q a b n h = sym (a ∙ make-stop u m t b m′ n (stepped e h))

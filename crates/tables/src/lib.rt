@@ -2,16 +2,18 @@
 use address::Frame;
 use address::FrameAnswer;
 use address::PhysAddr;
+use address::VirtAddr;
 use answer::Outcome;
 use entry::paging::PageTableEntry;
 use frame::FrameAllocator;
 use frame::Marks;
 use paging::Entered;
 ghost use mathlib.Core.Path.{_≡_};
-ghost use Prim.Native.Nat.{ℕ, _+_, _<_, _≤_};
-ghost use lib.ListN.{length, getD, take};
+ghost use Prim.Native.Nat.{suc, _+_, _<_, _≤_};
+ghost use lib.ListN.{length, take};
+ghost use Rattle.entry.specs.Entry.{indices as indicesOf};
 ghost use Rattle.paging.specs.Map.{out, clear, create, enter as entered, make, RoomToTake};
-ghost use Rattle.paging.specs.Levels.{aboveLast};
+ghost use Rattle.paging.specs.Levels.{mostAbove};
 ghost use Rattle.paging.specs.Kept.{lentMemory};
 
 // All 512 words of a frame, from word `at` on.
@@ -87,26 +89,29 @@ pub fn enter(
     create_table(words, bitmap, frames, at, user)
 }
 
-// The tables along the first k indices, made where there are none; it comes to the last one.
-pub fn make_tables(
+// The tables along the first k indices of an address, below `up` levels, made where there are none; it comes to the last one.
+fn tables_below(
     words: &mut [u64],
     bitmap: &mut Marks,
     frames: FrameAllocator,
+    up: u64,
     root: Frame,
-    indices: [usize; 4],
-    k: usize,
+    virt: VirtAddr,
+    k: u64,
     user: bool,
 ) -> Entered
-    requires { ⌜ RoomToTake (lentMemory (now words) (now bitmap) frames) aboveLast ⌝ }
-    requires { ⌜ k ≤ aboveLast ⌝ }
-    requires { ⌜ ((j : ℕ) → getD indices j 0 < 512) ⌝ }
+    requires { ⌜ RoomToTake (lentMemory (now words) (now bitmap) frames) mostAbove ⌝ }
+    requires { ⌜ up ≤ mostAbove ⌝ }
+    requires { ⌜ k ≤ up ⌝ }
     ensures { λ r. ⌜ out (r .walked) (lentMemory (now (words .exit)) (now (bitmap .exit)) (r .frames))
-        ≡ make user (lentMemory (now (words .entry)) (now (bitmap .entry)) frames) (root .0) (take k indices) ⌝ }
+        ≡ make user (lentMemory (now (words .entry)) (now (bitmap .entry)) frames) (root .0)
+        (take k (indicesOf (suc up) (virt .0))) ⌝ }
 {
     let mut t = root.0;
     let mut left = frames;
-    for level in 0..k {
-        let r = enter(words, bitmap, left, t, indices[level], user);
+    for done in 0..k {
+        let i = entry::page_index(virt, up - done);
+        let r = enter(words, bitmap, left, t, i, user);
         let walked = r.walked;
         left = r.frames;
         match walked {
@@ -125,4 +130,30 @@ pub fn make_tables(
         walked: Outcome::Value(t),
         frames: left,
     }
+}
+
+// The same. For a page of a board of four levels the loop's length is written out, for the compiler.
+pub fn make_tables(
+    words: &mut [u64],
+    bitmap: &mut Marks,
+    frames: FrameAllocator,
+    up: u64,
+    root: Frame,
+    virt: VirtAddr,
+    k: u64,
+    user: bool,
+) -> Entered
+    requires { ⌜ RoomToTake (lentMemory (now words) (now bitmap) frames) mostAbove ⌝ }
+    requires { ⌜ up ≤ mostAbove ⌝ }
+    requires { ⌜ k ≤ up ⌝ }
+    ensures { λ r. ⌜ out (r .walked) (lentMemory (now (words .exit)) (now (bitmap .exit)) (r .frames))
+        ≡ make user (lentMemory (now (words .entry)) (now (bitmap .entry)) frames) (root .0)
+        (take k (indicesOf (suc up) (virt .0))) ⌝ }
+{
+    if up == 3 {
+        if k == 3 {
+            return tables_below(words, bitmap, frames, 3, root, virt, 3, user);
+        }
+    }
+    tables_below(words, bitmap, frames, up, root, virt, k, user)
 }

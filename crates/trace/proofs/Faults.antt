@@ -40,7 +40,7 @@ stays-raw : (m : Memory) → Stays m (rawFrame m .mem)
 unfolding rawFrame
 stays-raw m =
     take-cases (m .frames) (λ (d : FramesDid FrameAnswer). Stays m (asTaken m (d .answer) (d .frames) .mem))
-    (λ j _ _ _. record { start = span-with (m .frames) j .start; total = span-with (m .frames) j .total; words = past-same _ (m .words) })
+    (λ j _ _ _. record { start = span-with (m .frames) j .start; total = span-with (m .frames) j .total; levels = span-with (m .frames) j .levels; words = past-same _ (m .words) })
     (λ _. stays-same m)
 
 stays-map-frame : (up : ℕ) (m : Memory) (root v f : ℕ) (w u : Bool) → Stays m (mapFrame up m root v f w u .mem)

@@ -1,5 +1,5 @@
 -- No call touches a word past the lent frames: one theorem over all calls.
-use Prim.Native.Nat.{ℕ, suc, _*_, _/_, _≤_}
+use Prim.Native.Nat.{ℕ, suc, _-_, _*_, _/_, _≤_}
 use mathlib.Core.Path.{_≡_, refl, subst}
 use mathlib.Core.Bool.{Bool, true, false}
 use mathlib.Core.List.{List}
@@ -18,9 +18,8 @@ use Rattle.frame.specs.Frames.{withMark}
 use Rattle.answer.specs.declared.Outcome.{Outcome}
 use Rattle.answer.specs.declared.Outcome.the-variants.{Value, Stop}
 use Rattle.paging.specs.declared.HugePageSize.{HugePageSize}
-use Rattle.paging.specs.Walk.{mayWalk}
 use Rattle.paging.specs.Map.{Memory, totalOf, startFrame, Out, Left}
-use Rattle.paging.specs.Calls.{whole, sizeOf, tablesAbove, mapPage, mapHuge, unmapPage}
+use Rattle.paging.specs.Calls.{whole, lentWalk, sizeOf, tablesAbove, mapPage, mapHuge, unmapPage}
 use Rattle.paging.proofs.Past.{Past, past-same, past-clear, past-unmap, Stays, stays-same, stays-then, stays-words, stays-map-at, stays-map-pages, stays-clear-pages, stays-free-pages}
 use Rattle.vmalloc.specs.Calls.{Kernel, kernelPages, vmalloc, vfree}
 use Rattle.vmalloc.specs.Calls.{KernelDid, kernelMapped}
@@ -40,11 +39,11 @@ use Rattle.trace.proofs.Faults.{stays-fault, stays-second}
 
 -- ---- the calls on pages and tables
 
-stays-map-page : (up : ℕ) (m : Memory) (root v p : ℕ) (w u : Bool) → Stays m (mapPage up m root v p w u .mem)
+pub stays-map-page : (up : ℕ) (m : Memory) (root v p : ℕ) (w u : Bool) → Stays m (mapPage up m root v p w u .mem)
 unfolding mapPage
 stays-map-page up m root v p w u = pick-cases (λ (o : Out). Stays m (o .mem)) (whole m root) _ _ (λ _. stays-map-at up up u m root v (entryOf p w u)) (λ _. stays-same m)
 
-stays-map-huge : (up : ℕ) (m : Memory) (root v p : ℕ) (s : HugePageSize) (w u : Bool) → Stays m (mapHuge up m root v p s w u .mem)
+pub stays-map-huge : (up : ℕ) (m : Memory) (root v p : ℕ) (s : HugePageSize) (w u : Bool) → Stays m (mapHuge up m root v p s w u .mem)
 unfolding mapHuge
 stays-map-huge up m root v p s w u =
     pick-cases (λ (o : Out). Stays m (o .mem)) (whole m root) _ _
@@ -52,11 +51,11 @@ stays-map-huge up m root v p s w u =
     (λ _. stays-map-at up (tablesAbove up s) u m root v (hugeEntryOf p w u)) (λ _. stays-same m))
     (λ _. stays-same m)
 
-past-unmap-page : (up : ℕ) (ws : List ℕ) (start total root v : ℕ) → Past (total * 512) ws (unmapPage up ws start total root v .words)
+past-unmap-page : (levels : ℕ) (ws : List ℕ) (start total root v : ℕ) → Past (total * 512) ws (unmapPage levels ws start total root v .words)
 unfolding unmapPage
-past-unmap-page up ws start total root v =
-    pick-cases (λ (l : Left). Past (total * 512) ws (l .words)) (mayWalk (length ws) start total root) _ _
-    (λ _. past-unmap ws start total root _ _ (indices-lt (suc up) v up)) (λ _. past-same _ ws)
+past-unmap-page levels ws start total root v =
+    pick-cases (λ (l : Left). Past (total * 512) ws (l .words)) (lentWalk levels (length ws) start total root) _ _
+    (λ _. past-unmap ws start total root _ _ (indices-lt (suc (levels - 1)) v (levels - 1))) (λ _. past-same _ ws)
 
 -- ---- vmalloc, vfree, mmap and munmap
 
@@ -99,12 +98,12 @@ stays-munmap up s root a size =
     munmap-cases up s root a size (λ (d : UserDid). Stays (s .mem) (d .user .mem))
     (λ _. stays-same (s .mem)) (λ _ _. stays-same (s .mem)) (λ _ _ _ _. stays-free-pages up root (roundUp 12 size / 4096) (s .mem) a)
 
-stays-regions : (b : Board) (c : Call) → Stays (b .mem) (playRegions b c .board .mem)
+pub stays-regions : (b : Board) (c : Call) → Stays (b .mem) (playRegions b c .board .mem)
 unfolding playRegions
-stays-regions b (vmallocCall size) = stays-vmalloc 3 _ (b .root) size
-stays-regions b (vfreeCall a) = stays-vfree 3 _ (b .root) a
-stays-regions b (mmapCall hint size prot flags) = stays-mmap 3 _ (b .root) hint size prot flags
-stays-regions b (munmapCall a size) = stays-munmap 3 _ (b .root) a size
+stays-regions b (vmallocCall size) = stays-vmalloc _ _ (b .root) size
+stays-regions b (vfreeCall a) = stays-vfree _ _ (b .root) a
+stays-regions b (mmapCall hint size prot flags) = stays-mmap _ _ (b .root) hint size prot flags
+stays-regions b (munmapCall a size) = stays-munmap _ _ (b .root) a size
 
 -- ---- the theorem
 
@@ -119,26 +118,26 @@ words-untouched : (b left : Board) → left .mem .words ≡ b .mem .words → Un
 words-untouched b left e = rw e (record { number = refl; past = λ i l. refl })
 
 -- a start lends other frames, the first of which it zeroes
-start-untouched : (b : Board) (from to : ℕ) → Untouched b (start b from to .board)
+start-untouched : (b : Board) (from to levels : ℕ) → Untouched b (start b from to levels .board)
 unfolding withMark
-start-untouched b from to =
-    start-cases b from to (λ (d : BoardDid). Untouched b (d .board))
-    (λ _ _ some _. let p = past-clear _ (b .mem .words) _ _ (omega arith) in record { number = p .number; past = p .past })
+start-untouched b from to levels =
+    start-cases b from to levels (λ (d : BoardDid). Untouched b (d .board))
+    (λ _ _ _ some _. let p = past-clear _ (b .mem .words) _ _ (omega arith) in record { number = p .number; past = p .past })
     (words-untouched b b refl) (words-untouched b b refl)
 
 pub none-touched : NoneTouched
 none-touched b (regionCall c) = stays-untouched b _ (stays-regions b c)
 none-touched b (mprotectCall a size prot) = words-untouched b _ refl
-none-touched b (faultCall a code) = stays-untouched b _ (stays-fault 3 _ (b .root) a code)
-none-touched b (secondFaultCall a code) = stays-untouched b _ (stays-second 3 (b .mem) (b .root) a code)
+none-touched b (faultCall a code) = stays-untouched b _ (stays-fault _ _ (b .root) a code)
+none-touched b (secondFaultCall a code) = stays-untouched b _ (stays-second _ (b .mem) (b .root) a code)
 none-touched b (markCowCall a) = words-untouched b _ refl
 none-touched b (unmarkCowCall a) = words-untouched b _ refl
 none-touched b (isCowCall a) = words-untouched b _ refl
-none-touched b (mapPageCall v p w u) = stays-untouched b _ (stays-map-page 3 (b .mem) (b .root) v p w u)
-none-touched b (mapHugeCall v p size w u) = stays-untouched b _ (stays-map-huge 3 (b .mem) (b .root) v p size w u)
+none-touched b (mapPageCall v p w u) = stays-untouched b _ (stays-map-page _ (b .mem) (b .root) v p w u)
+none-touched b (mapHugeCall v p size w u) = stays-untouched b _ (stays-map-huge _ (b .mem) (b .root) v p size w u)
 none-touched b (unmapPageCall v) =
     let left = play b (unmapPageCall v) .board in
-    let p : Past (totalOf (b .mem) * 512) (b .mem .words) (left .mem .words) = past-unmap-page 3 (b .mem .words) (startFrame (b .mem)) _ (b .root) v in
+    let p : Past (totalOf (b .mem) * 512) (b .mem .words) (left .mem .words) = past-unmap-page _ (b .mem .words) (startFrame (b .mem)) _ (b .root) v in
     stays-untouched b left (stays-words (b .mem) _ p)
 none-touched b (translateCall v) = words-untouched b _ refl
 none-touched b (userMayCall v write) = words-untouched b _ refl
@@ -150,4 +149,4 @@ none-touched b freeFramesCall = words-untouched b _ refl
 none-touched b allocatedFramesCall = words-untouched b _ refl
 none-touched b totalFramesCall = words-untouched b _ refl
 none-touched b (initCall from to) = words-untouched b _ refl
-none-touched b (startCall from to) = start-untouched b from to
+none-touched b (startCall from to levels) = start-untouched b from to levels

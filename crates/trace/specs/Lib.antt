@@ -1,2 +1,3 @@
 pub mod Trace
 pub mod Untouched
+pub mod Levels

@@ -13,14 +13,14 @@ use Rattle.frame.specs.Frames.{FramesDid}
 use Rattle.answer.specs.declared.Outcome.{Outcome}
 use Rattle.paging.specs.declared.HugePageSize.{HugePageSize}
 use Rattle.paging.specs.Map.{Memory, memory, startFrame, totalOf, Out, Left}
-use Rattle.paging.specs.Calls.{translate, userMay, mapPage, mapHuge, unmapPage}
-use Rattle.paging.specs.Levels.{aboveLast, levels}
+use Rattle.paging.specs.Calls.{translate, userMay, mapPageOf, mapHugeOf, unmapPage}
+use Rattle.paging.specs.Levels.{levelsOf}
 use Rattle.slots.specs.Slots.{Slots}
 use Rattle.mmap.specs.Calls.{mprotect}
 use Rattle.cow.specs.Marked.{MarkedDid, markCow, unmarkCow, isCow}
-use Rattle.fault.specs.Faults.{Faulting, faulting, handleFault}
+use Rattle.fault.specs.Faults.{Faulting, faulting, handleFaultOf}
 use Rattle.fault.specs.Faults.{FaultDid}
-use Rattle.handler.specs.Handler.{handleFaultSecond}
+use Rattle.handler.specs.Handler.{handleFaultSecondOf}
 use Rattle.board.specs.Board.{Board, BoardDid, start}
 use Rattle.release.specs.Calls.{Call, vmallocCall, vfreeCall, mmapCall, munmapCall}
 use Rattle.release.specs.Calls.{play as playRegions}
@@ -45,8 +45,9 @@ pub data AnyCall : Type 0 where
   allocateCall : AnyCall
   deallocateCall markAllocatedCall isAllocatedCall : ℕ → AnyCall
   freeFramesCall allocatedFramesCall totalFramesCall : AnyCall
-  -- `FrameAllocator::init` and the board's start: first and last address
-  initCall startCall : ℕ → ℕ → AnyCall
+  -- `FrameAllocator::init`: first and last address, and the board's start: these two and the number of levels
+  initCall : ℕ → ℕ → AnyCall
+  startCall : ℕ → ℕ → ℕ → AnyCall
 
 -- what a call prints, and the board that it leaves
 pub record Played : Type 0 where
@@ -98,20 +99,20 @@ byFrames b d = played (answerLine (d .answer)) (withFrames b (d .frames))
 abbrev pub byStart : BoardDid → Played
 byStart d = played (answerLine (asAnswer (d .answer))) (d .board)
 
--- a call on a board of four levels
+-- a call on a board
 abbrev pub play : Board → AnyCall → Played
 play b (regionCall c) = byRegions c (playRegions b c)
 play b (mprotectCall a size prot) = played (answerLine (asAnswer mprotect)) b
-play b (faultCall a code) = byFault b (handleFault aboveLast (faulting (b .mem) (b .marked)) (b .root) a code)
-play b (secondFaultCall a code) = byStep b (handleFaultSecond aboveLast (b .mem) (b .root) a code)
+play b (faultCall a code) = byFault b (handleFaultOf (faulting (b .mem) (b .marked)) (b .root) a code)
+play b (secondFaultCall a code) = byStep b (handleFaultSecondOf (b .mem) (b .root) a code)
 play b (markCowCall a) = byMark b (markCow (b .marked) a)
 play b (unmarkCowCall a) = byMark b (unmarkCow (b .marked) a)
 play b (isCowCall a) = played (flagLine (isCow (b .marked) a)) b
-play b (mapPageCall v p w u) = byStep b (mapPage aboveLast (b .mem) (b .root) v p w u)
-play b (mapHugeCall v p size w u) = byStep b (mapHuge aboveLast (b .mem) (b .root) v p size w u)
-play b (unmapPageCall v) = byUnmap b (unmapPage aboveLast (b .mem .words) (startFrame (b .mem)) (totalOf (b .mem)) (b .root) v)
-play b (translateCall v) = played (physLine (asPhys (translate aboveLast (b .mem .words) (startFrame (b .mem)) (totalOf (b .mem)) (b .root) v))) b
-play b (userMayCall v write) = played (flagLine (userMay aboveLast (b .mem .words) (startFrame (b .mem)) (totalOf (b .mem)) (b .root) v write)) b
+play b (mapPageCall v p w u) = byStep b (mapPageOf (b .mem) (b .root) v p w u)
+play b (mapHugeCall v p size w u) = byStep b (mapHugeOf (b .mem) (b .root) v p size w u)
+play b (unmapPageCall v) = byUnmap b (unmapPage (levelsOf (b .mem)) (b .mem .words) (startFrame (b .mem)) (totalOf (b .mem)) (b .root) v)
+play b (translateCall v) = played (physLine (asPhys (translate (levelsOf (b .mem)) (b .mem .words) (startFrame (b .mem)) (totalOf (b .mem)) (b .root) v))) b
+play b (userMayCall v write) = played (flagLine (userMay (levelsOf (b .mem)) (b .mem .words) (startFrame (b .mem)) (totalOf (b .mem)) (b .root) v write)) b
 play b allocateCall = let d = allocate (b .mem .frames) in played (frameLine (d .answer)) (withFrames b (d .frames))
 play b (deallocateCall n) = byFrames b (deallocate (b .mem .frames) n)
 play b (markAllocatedCall n) = byFrames b (markAllocated (b .mem .frames) n)
@@ -120,4 +121,4 @@ play b freeFramesCall = played (countLine (freeFrames (b .mem .frames))) b
 play b allocatedFramesCall = played (countLine (allocatedFrames (b .mem .frames))) b
 play b totalFramesCall = played (countLine (totalFrames (b .mem .frames))) b
 play b (initCall from to) = byFrames b (init (b .mem .frames) from to)
-play b (startCall from to) = byStart (start b from to)
+play b (startCall from to levels) = byStart (start b from to levels)

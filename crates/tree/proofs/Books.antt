@@ -154,7 +154,7 @@ module _ {m : Memory} {root up : ℕ} (a : Live m root up []) where
   no-page p f lp h = List·Memᴰ·not-nil (a .only p f lp h .1)
 
   -- no address translates
-  pub silent : Ordered m root (suc up) → PlainIn m root (suc up) → (v : ℕ) → translateIn up m root v ≡ Stop notMapped
+  pub silent : Ordered m root (suc up) → PlainIn m root (suc up) → (v : ℕ) → translateIn (suc up) m root v ≡ Stop notMapped
   silent o w v = no-page-translates o w v (λ f. no-page (path up v) f (length-path up v))
 
   -- and, if none is lost, each marked frame is the root or a table

@@ -12,9 +12,9 @@ use Rattle.entry.specs.Entry.{frameOf}
 use Rattle.entry.proofs.Entry.{indices-lt}
 use Rattle.answer.specs.declared.Outcome.{Outcome}
 use Rattle.answer.specs.declared.Outcome.the-variants.{Value, Stop}
-use Rattle.paging.specs.Walk.{address, mayWalk}
+use Rattle.paging.specs.Walk.{address}
 use Rattle.paging.specs.Map.{Memory, startFrame, totalOf}
-use Rattle.paging.specs.Calls.{mapAt, translate}
+use Rattle.paging.specs.Calls.{mapAt, lentWalk, translate}
 use Rattle.paging.proofs.Map.{map-entry-kept}
 use Rattle.tree.proofs.Paths.{leads-take, path, upper, last, length-path, length-upper, take-small, upper-small, last-small, path-split, take-path}
 use Rattle.tree.proofs.Ordered.{reachIn, leafIn, insideIn, markIn, translateIn, Ordered}
@@ -35,19 +35,19 @@ module _ {m : Memory} {root up : ℕ} (o : Ordered m root (suc up)) (u : Bool) (
 
   -- nor its translation
   pub below-translate : (k : ℕ) → k ≤ up → (v′ : ℕ) → (take (suc k) (path up v′) ≡ take (suc k) (path up v) → ⊥)
-      → translateIn up (mapAt up k u m root v e .mem) root v′ ≡ translateIn up m root v′
+      → translateIn (suc up) (mapAt up k u m root v e .mem) root v′ ≡ translateIn (suc up) m root v′
   unfolding translate
   below-translate k l v′ d =
       let c = map-entry-kept u m root (take k (path up v)) (getD (path up v) k 0) e in
-      let s : mayWalk (length (mapAt up k u m root v e .mem .words)) (startFrame (mapAt up k u m root v e .mem)) (totalOf (mapAt up k u m root v e .mem)) root
-      ≡ mayWalk (length (m .words)) (startFrame m) (totalOf m) root = rw (c .words, c .start, c .total) in
+      let s : lentWalk (suc up) (length (mapAt up k u m root v e .mem .words)) (startFrame (mapAt up k u m root v e .mem)) (totalOf (mapAt up k u m root v e .mem)) root
+      ≡ lentWalk (suc up) (length (m .words)) (startFrame m) (totalOf m) root = rw (c .words, c .start, c .total) in
       ap₂ (λ (x : Bool) (y : Outcome). pick x y (Stop brokenRecord)) s (ap (address v′) (below-other k l v′ d))
 
   -- so a page's word, met or refused, changes no other page
   pub page-other : (v′ : ℕ) → (path up v′ ≡ path up v → ⊥) → leafIn (mapAt up up u m root v e .mem) root (path up v′) ≡ leafIn m root (path up v′)
   page-other v′ d = below-other up (omega arith) v′ (λ a. d (sym (take-path up v′) ∙ a ∙ take-path up v))
 
-  pub page-translate : (v′ : ℕ) → (path up v′ ≡ path up v → ⊥) → translateIn up (mapAt up up u m root v e .mem) root v′ ≡ translateIn up m root v′
+  pub page-translate : (v′ : ℕ) → (path up v′ ≡ path up v → ⊥) → translateIn (suc up) (mapAt up up u m root v e .mem) root v′ ≡ translateIn (suc up) m root v′
   page-translate v′ d = below-translate up (omega arith) v′ (λ a. d (sym (take-path up v′) ∙ a ∙ take-path up v))
 
   -- refused it changes no leaf at all

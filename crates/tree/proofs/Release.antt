@@ -117,6 +117,8 @@ module _ {m : Memory} {root n : ℕ} (o : Ordered m root n) (q : List ℕ) (j t 
       wide = wide;
       small = small;
       counted = counted;
+      levels = o .levels;
+      board = o .board;
     };
     plain = λ c. cut-plain (o .tree) (o .sizes .enough) q t j under hq sj 0 c (flag-zero 0);
     start = refl;

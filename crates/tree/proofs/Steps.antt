@@ -78,6 +78,8 @@ module _ {m : Memory} {root n : ℕ} (o : Ordered m root n) (j : ℕ) (lt : j < 
       wide = length-mark (m .frames .bits) j ∙ o .wide;
       small = mark-words (m .frames .bits) j free (o .small);
       counted = ap (λ (x : ℕ). x + 1) (o .counted) ∙ sym (count-mark (m .frames .bits) j (totalOf m) free lt (in-bitmap o j lt));
+      levels = o .levels;
+      board = o .board;
     };
     plain =
         idle-plain (m .words) _ (startFrame m) (totalOf m) root n (startFrame m + j) (zero-other (m .words) (startFrame m) (totalOf m) (startFrame m + j) fresh-inside) fresh-new;
@@ -132,6 +134,8 @@ module _ {m : Memory} {root n : ℕ} (o : Ordered m root n) (q : List ℕ) (s j 
       wide = o .wide;
       small = o .small;
       counted = o .counted;
+      levels = o .levels;
+      board = o .board;
     };
     plain = λ a. grown-plain (o .tree) (o .sizes .enough) q s j lq hq small e a f (c .bit) (c .names) (c .new) (c .blank) (c .low);
     start = refl;

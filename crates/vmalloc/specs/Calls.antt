@@ -7,6 +7,7 @@ use Rattle.allocator.specs.Round.{rounded}
 use Rattle.answer.specs.Numbers.{sizeZero, brokenRecord, regionNotFound}
 use Rattle.answer.specs.declared.Outcome.{Outcome}
 use Rattle.answer.specs.declared.Outcome.the-variants.{Value, Stop}
+use Rattle.paging.specs.Levels.{aboveLast}
 use Rattle.paging.specs.Map.{Memory}
 use Rattle.paging.specs.Calls.{whole}
 use Rattle.slots.specs.Slots.{Slots, listed, store}
@@ -57,6 +58,10 @@ vmalloc up k root size =
     (pick (eqb size 0) (kernelDid (Stop sizeZero) k)
     (kernelSized up k root (rounded size)))
 
+-- on a board, by its own levels
+abbrev pub vmallocOf : Kernel → ℕ → ℕ → KernelDid
+vmallocOf k root size = vmalloc (aboveLast (k .mem)) k root size
+
 -- a used region of n bytes at a, unmapped, freed and merged; or 16
 abbrev pub released : ℕ → Kernel → ℕ → ℕ → Outcome → KernelDid
 released up k root a (Value n) =
@@ -69,6 +74,10 @@ vfree up k root a =
     unless (soundKernel k root) (kernelDid (Stop brokenRecord) k)
     (pick (eqb a 0) (kernelDid (Stop regionNotFound) k)
     (released up k root a (usedSize a (listed (k .regions)))))
+
+-- on a board, by its own levels
+abbrev pub vfreeOf : Kernel → ℕ → ℕ → KernelDid
+vfreeOf k root a = vfree (aboveLast (k .mem)) k root a
 
 abbrev pub isVmallocAddr : ℕ → Bool
 isVmallocAddr a = both (leb windowStart a) (ltb a windowEnd)

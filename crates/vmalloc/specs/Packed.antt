@@ -19,7 +19,7 @@ use Rattle.regions.specs.Regions.{firstFit, usedSize}
 use Rattle.vm_list.specs.Packed.{vmIn, vmOut, vmFit}
 use Rattle.vmalloc.specs.declared.Vmalloced.{Vmalloced}
 use Rattle.vmalloc.specs.declared.Vfreed.{Vfreed}
-use Rattle.vmalloc.specs.Calls.{Kernel, kernel, KernelDid, soundKernel, kernelPlaced, released, vmalloc, vfree}
+use Rattle.vmalloc.specs.Calls.{Kernel, kernel, KernelDid, soundKernel, kernelPlaced, released, vmallocOf, vfreeOf}
 
 -- what a call leaves, its list packed again
 abbrev pub keptKernel : {A : Type 0} → (Outcome → A) → KernelDid → Kept A
@@ -30,10 +30,10 @@ unfoldable pub onVmList : {A : Type 0} → (Outcome → A) → (Kernel → Kerne
 onVmList form call m list = unless (vmFit list) (kept (form (Stop brokenRecord)) m list) (keptKernel form (call (kernel m (vmIn list))))
 
 abbrev pub vmallocOn : Memory → List ℕ → ℕ → ℕ → Kept VirtAnswer
-vmallocOn m list root size = onVmList asVirt (λ (k : Kernel). vmalloc aboveLast k root size) m list
+vmallocOn m list root size = onVmList asVirt (λ (k : Kernel). vmallocOf k root size) m list
 
 abbrev pub vfreeOn : Memory → List ℕ → ℕ → ℕ → Kept Answer
-vfreeOn m list root a = onVmList asAnswer (λ (k : Kernel). vfree aboveLast k root a) m list
+vfreeOn m list root a = onVmList asAnswer (λ (k : Kernel). vfreeOf k root a) m list
 
 -- what code returns, beside the words, bitmap and list that it was lent
 abbrev pub vmalloced : Vmalloced → List ℕ → List ℕ → List ℕ → Kept VirtAnswer
@@ -56,7 +56,7 @@ soundLent m list root = both (vmFit list) (soundKernel (kernel m (vmIn list)) ro
 
 -- the calls once all of that is tested
 abbrev pub placedOn : Memory → List ℕ → ℕ → ℕ → KernelDid
-placedOn m list root n = kernelPlaced aboveLast (kernel m (vmIn list)) root n (firstFit n (listed (vmIn list)))
+placedOn m list root n = kernelPlaced (aboveLast m) (kernel m (vmIn list)) root n (firstFit n (listed (vmIn list)))
 
 abbrev pub releasedOn : Memory → List ℕ → ℕ → ℕ → KernelDid
-releasedOn m list root a = released aboveLast (kernel m (vmIn list)) root a (usedSize a (listed (vmIn list)))
+releasedOn m list root a = released (aboveLast m) (kernel m (vmIn list)) root a (usedSize a (listed (vmIn list)))

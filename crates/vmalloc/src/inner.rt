@@ -40,7 +40,18 @@ pub fn allocate(
     }
     let r = vm_list::slot(list, i);
     let start = VirtAddr(r.start);
-    let run = pages::map_pages(words, bitmap, frames, root, start, size / 4096, true, false);
+    let up = frames.levels - 1;
+    let run = pages::map_pages(
+        words,
+        bitmap,
+        frames,
+        up,
+        root,
+        start,
+        size / 4096,
+        true,
+        false,
+    );
     let walked = run.walked;
     let left = run.frames;
     match walked {
@@ -85,7 +96,8 @@ pub fn free(
         };
     }
     let r = vm_list::slot(list, i);
-    let left = pages::free_pages(words, bitmap, frames, root, addr, r.size / 4096);
+    let up = frames.levels - 1;
+    let left = pages::free_pages(words, bitmap, frames, up, root, addr, r.size / 4096);
     vm_list::free_region(list, n, i);
     Vfreed {
         answer: Answer::Met,

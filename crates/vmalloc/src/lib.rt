@@ -9,9 +9,8 @@ use answer::Outcome;
 use frame::FrameAllocator;
 use frame::Marks;
 ghost use mathlib.Core.Path.{_≡_};
-ghost use Rattle.paging.specs.Levels.{aboveLast};
 ghost use Rattle.paging.specs.Kept.{lentMemory};
-ghost use Rattle.vmalloc.specs.Calls.{vmalloc as vmallocOf, vfree as vfreeOf, isVmallocAddr};
+ghost use Rattle.vmalloc.specs.Calls.{vmallocOf, vfreeOf, isVmallocAddr};
 ghost use Rattle.vmalloc.specs.Packed.{vmallocOn, vfreeOn, vmalloced, vfreed, KernelReads, soundLent};
 
 // What a vmalloc answers, and the frame record that it leaves.
@@ -52,7 +51,7 @@ pub fn vmalloc(
 ) -> Vmalloced
     ensures { λ r. ⌜ vmalloced r (now (words .exit)) (now (bitmap .exit)) (now (list .exit))
         ≡ vmallocOn (lentMemory (now (words .entry)) (now (bitmap .entry)) frames) (now (list .entry)) (root .0) size ⌝ }
-    ensures { λ _. ⌜ KernelReads (λ k. vmallocOf aboveLast k (root .0) size)
+    ensures { λ _. ⌜ KernelReads (λ k. vmallocOf k (root .0) size)
         (lentMemory (now (words .entry)) (now (bitmap .entry)) frames) (now (list .entry)) (now (list .exit)) ⌝ }
 {
     if !is_whole(words, bitmap, frames, root, list) {
@@ -86,7 +85,7 @@ pub fn vfree(
 ) -> Vfreed
     ensures { λ r. ⌜ vfreed r (now (words .exit)) (now (bitmap .exit)) (now (list .exit))
         ≡ vfreeOn (lentMemory (now (words .entry)) (now (bitmap .entry)) frames) (now (list .entry)) (root .0) (addr .0) ⌝ }
-    ensures { λ _. ⌜ KernelReads (λ k. vfreeOf aboveLast k (root .0) (addr .0))
+    ensures { λ _. ⌜ KernelReads (λ k. vfreeOf k (root .0) (addr .0))
         (lentMemory (now (words .entry)) (now (bitmap .entry)) frames) (now (list .entry)) (now (list .exit)) ⌝ }
 {
     if !is_whole(words, bitmap, frames, root, list) {

@@ -8,12 +8,12 @@ use answer::Outcome;
 use entry::paging::PageTableEntry;
 use paging::Leaf;
 ghost use mathlib.Core.Path.{_≡_};
-ghost use Prim.Native.Nat.{ℕ, _-_, _%_, _^_, _<_, _≤_};
-ghost use lib.ListN.{getD, take};
+ghost use Prim.Native.Nat.{suc, _-_, _%_, _^_, _<_, _≤_};
+ghost use lib.ListN.{take};
 ghost use Rattle.entry.specs.Entry.{indices as indicesOf};
 ghost use Rattle.paging.specs.Walk.{place, entryAt, reach, leaf, address, mayWalk, WordsLent};
-ghost use Rattle.paging.specs.Calls.{userLeaf, translate as translated, userMay};
-ghost use Rattle.paging.specs.Levels.{aboveLast, levels};
+ghost use Rattle.paging.specs.Calls.{lentWalk, userLeaf, translate as translated, userMay};
+ghost use Rattle.paging.specs.Levels.{mostAbove, mostLevels};
 ghost use Rattle.address.specs.Address.{asPhys};
 
 // The word number of entry i of table t, which is lent.
@@ -42,18 +42,26 @@ pub fn entry_at(words: &[u64], start: u64, total: u64, t: u64, i: usize) -> Outc
     Outcome::Stop(answer::NOT_MAPPED)
 }
 
-// The entry that a translation ends at. Only the third level looks at HUGE.
-pub fn find_leaf(words: &[u64], start: u64, total: u64, root: Frame, virt: VirtAddr) -> Leaf
+// The entry that a translation ends at, of the levels from the root's on. They count from the bottom, 1 the last; only the last but one looks at HUGE.
+fn leaf_below(
+    words: &[u64],
+    start: u64,
+    total: u64,
+    levels: u64,
+    root: Frame,
+    virt: VirtAddr,
+) -> Leaf
     requires { ⌜ WordsLent (now words) start total ⌝ }
+    requires { ⌜ levels ≤ mostLevels ⌝ }
     ensures { λ r. ⌜ r ≡ leaf (now (words .entry)) start total (root .0) (indicesOf levels (virt .0)) ⌝ }
 {
-    let indices = entry::page_indices(virt);
     let mut t = root.0;
-    for level in 0..4 {
-        match entry_at(words, start, total, t, indices[level]) {
+    let mut level = levels;
+    while level > 0 {
+        match entry_at(words, start, total, t, entry::page_index(virt, level - 1)) {
             Outcome::Stop(n) => return Leaf::NoLeaf(n),
             Outcome::Value(e) => {
-                if level == 3 {
+                if level == 1 {
                     return Leaf::Page(e);
                 }
                 if level == 2 && PageTableEntry(e).is_huge() {
@@ -62,8 +70,31 @@ pub fn find_leaf(words: &[u64], start: u64, total: u64, root: Frame, virt: VirtA
                 t = PageTableEntry(e).addr().0 >> 12;
             }
         }
+        level = level - 1;
     }
     Leaf::NoLeaf(answer::NOT_MAPPED)
+}
+
+// The table of level 4 on an address's way: the root on a board of four levels, what it names on one of five.
+fn fourth_table(
+    words: &[u64],
+    start: u64,
+    total: u64,
+    levels: u64,
+    root: Frame,
+    virt: VirtAddr,
+) -> Outcome
+    requires { ⌜ WordsLent (now words) start total ⌝ }
+    requires { ⌜ levels ≤ mostLevels ⌝ }
+    ensures { λ r. ⌜ r ≡ reach (now (words .entry)) start total (root .0) (take (levels - 4) (indicesOf 5 (virt .0))) ⌝ }
+{
+    if levels < 5 {
+        return Outcome::Value(root.0);
+    }
+    match entry_at(words, start, total, root.0, entry::page_index(virt, 4)) {
+        Outcome::Stop(n) => Outcome::Stop(n),
+        Outcome::Value(e) => Outcome::Value(PageTableEntry(e).addr().0 >> 12),
+    }
 }
 
 // An address's place within a large page.
@@ -73,12 +104,11 @@ fn large_offset(virt: VirtAddr) -> u64
     virt.0 & 0x1F_FFFF
 }
 
-// From a virtual address to the physical one.
-pub fn walk(words: &[u64], start: u64, total: u64, root: Frame, virt: VirtAddr) -> PhysAnswer
-    requires { ⌜ WordsLent (now words) start total ⌝ }
-    ensures { λ r. ⌜ r ≡ asPhys (address (virt .0) (leaf (now (words .entry)) start total (root .0) (indicesOf levels (virt .0)))) ⌝ }
+// An address's physical one, by the entry that its translation ends at.
+fn phys_at(end: Leaf, virt: VirtAddr) -> PhysAnswer
+    ensures { λ r. ⌜ r ≡ asPhys (address (virt .0) end) ⌝ }
 {
-    match find_leaf(words, start, total, root, virt) {
+    match end {
         Leaf::Page(e) => {
             PhysAnswer::AtPhys(PhysAddr(PageTableEntry(e).addr().0 + virt.page_offset()))
         }
@@ -87,6 +117,22 @@ pub fn walk(words: &[u64], start: u64, total: u64, root: Frame, virt: VirtAddr) 
         }
         Leaf::NoLeaf(n) => PhysAnswer::NoPhys(n),
     }
+}
+
+// From a virtual address to the physical one, along so many levels.
+pub fn walk(
+    words: &[u64],
+    start: u64,
+    total: u64,
+    levels: u64,
+    root: Frame,
+    virt: VirtAddr,
+) -> PhysAnswer
+    requires { ⌜ WordsLent (now words) start total ⌝ }
+    requires { ⌜ levels ≤ mostLevels ⌝ }
+    ensures { λ r. ⌜ r ≡ asPhys (address (virt .0) (leaf (now (words .entry)) start total (root .0) (indicesOf levels (virt .0)))) ⌝ }
+{
+    phys_at(leaf_below(words, start, total, levels, root, virt), virt)
 }
 
 // Whether a leaf lets user code read, or write.
@@ -102,28 +148,61 @@ pub fn user_entry(e: PageTableEntry, write: bool) -> bool
     true
 }
 
-// The last table on the way to a page.
-pub fn find_table(
+// Whether the entry that a translation ends at lets user code read, or write.
+fn user_leaf(end: Leaf, write: bool) -> bool
+    ensures { λ r. ⌜ r ≡ userLeaf write end ⌝ }
+{
+    match end {
+        Leaf::Page(e) => user_entry(PageTableEntry(e), write),
+        Leaf::Large(_) => false,
+        Leaf::NoLeaf(_) => false,
+    }
+}
+
+// The last table on the way to a page, below `up` levels.
+fn table_below(
     words: &[u64],
     start: u64,
     total: u64,
+    up: u64,
     root: Frame,
-    indices: [usize; 4],
+    virt: VirtAddr,
 ) -> Outcome
     requires { ⌜ WordsLent (now words) start total ⌝ }
-    requires { ⌜ ((k : ℕ) → getD indices k 0 < 512) ⌝ }
-    ensures { λ r. ⌜ r ≡ reach (now (words .entry)) start total (root .0) (take aboveLast indices) ⌝ }
+    requires { ⌜ up ≤ mostAbove ⌝ }
+    ensures { λ r. ⌜ r ≡ reach (now (words .entry)) start total (root .0) (take up (indicesOf (suc up) (virt .0))) ⌝ }
 {
     let mut t = root.0;
-    for level in 0..3 {
-        match entry_at(words, start, total, t, indices[level]) {
+    let mut below = up;
+    while below > 0 {
+        match entry_at(words, start, total, t, entry::page_index(virt, below)) {
             Outcome::Stop(n) => return Outcome::Stop(n),
             Outcome::Value(e) => {
                 t = PageTableEntry(e).addr().0 >> 12;
             }
         }
+        below = below - 1;
     }
     Outcome::Value(t)
+}
+
+// The same. Where there are three levels above it the loop's length is written out, for the compiler.
+pub fn find_table(
+    words: &[u64],
+    start: u64,
+    total: u64,
+    up: u64,
+    root: Frame,
+    virt: VirtAddr,
+) -> Outcome
+    requires { ⌜ WordsLent (now words) start total ⌝ }
+    requires { ⌜ up ≤ mostAbove ⌝ }
+    ensures { λ r. ⌜ r ≡ reach (now (words .entry)) start total (root .0) (take up (indicesOf (suc up) (virt .0))) ⌝ }
+{
+    if up == 3 {
+        return table_below(words, start, total, 3, root, virt);
+    }
+    table_below(words, start, total, up, root, virt)
 }
 
 // Whether a walk can start: the frames lent are those of a record that is not broken.
@@ -142,13 +221,33 @@ pub fn is_lent(len: usize, start: u64, total: u64, root: Frame) -> bool
     frame::inner::is_inside(start, total, root.0)
 }
 
-pub fn translate(words: &[u64], start: u64, total: u64, root: Frame, virt: VirtAddr) -> PhysAnswer
-    ensures { λ r. ⌜ r ≡ asPhys (translated aboveLast (now (words .entry)) start total (root .0) (virt .0)) ⌝ }
+// The same with a number of levels, for the calls that are lent no frame record.
+pub fn may_walk(len: usize, start: u64, total: u64, levels: u64, root: Frame) -> bool
+    ensures { λ r. ⌜ r ≡ lentWalk levels len start total (root .0) ⌝ }
 {
-    if !is_lent(words.len(), start, total, root) {
+    if !frame::is_levels(levels) {
+        return false;
+    }
+    is_lent(len, start, total, root)
+}
+
+pub fn translate(
+    words: &[u64],
+    start: u64,
+    total: u64,
+    levels: u64,
+    root: Frame,
+    virt: VirtAddr,
+) -> PhysAnswer
+    ensures { λ r. ⌜ r ≡ asPhys (translated levels (now (words .entry)) start total (root .0) (virt .0)) ⌝ }
+{
+    if !may_walk(words.len(), start, total, levels, root) {
         return PhysAnswer::NoPhys(answer::BROKEN_RECORD);
     }
-    walk(words, start, total, root, virt)
+    match fourth_table(words, start, total, levels, root, virt) {
+        Outcome::Stop(n) => PhysAnswer::NoPhys(n),
+        Outcome::Value(t) => phys_at(leaf_below(words, start, total, 4, Frame(t), virt), virt),
+    }
 }
 
 // Whether user code may read an address, or write it.
@@ -156,18 +255,21 @@ pub fn user_may(
     words: &[u64],
     start: u64,
     total: u64,
+    levels: u64,
     root: Frame,
     virt: VirtAddr,
     write: bool,
 ) -> FlagAnswer
-    ensures { λ r. ⌜ r ≡ userMay aboveLast (now (words .entry)) start total (root .0) (virt .0) write ⌝ }
+    ensures { λ r. ⌜ r ≡ userMay levels (now (words .entry)) start total (root .0) (virt .0) write ⌝ }
 {
-    if !is_lent(words.len(), start, total, root) {
+    if !may_walk(words.len(), start, total, levels, root) {
         return FlagAnswer::NoFlag(answer::BROKEN_RECORD);
     }
-    match find_leaf(words, start, total, root, virt) {
-        Leaf::Page(e) => FlagAnswer::Flag(user_entry(PageTableEntry(e), write)),
-        Leaf::Large(_) => FlagAnswer::Flag(false),
-        Leaf::NoLeaf(_) => FlagAnswer::Flag(false),
+    match fourth_table(words, start, total, levels, root, virt) {
+        Outcome::Stop(_) => FlagAnswer::Flag(false),
+        Outcome::Value(t) => {
+            let end = leaf_below(words, start, total, 4, Frame(t), virt);
+            FlagAnswer::Flag(user_leaf(end, write))
+        }
     }
 }

@@ -32,10 +32,10 @@ mark-frame-requires : tie.Need-mark-frame-requires
 mark-frame-requires c κs =
     let i = c .before .before in
     let s = i .before .before .before .before .before .before .before in
-    fresh-held (lent s) (s .args .from) (s .args .to) (s .pre .0) (i .init .ensures .0) (i .init .ensures .1)
+    fresh-held (lent s) (s .args .from) (s .args .to) (s .args .levels) (s .pre .0) (i .init .ensures .0) (i .init .ensures .1)
 
 zero-frame-requires : tie.Need-zero-frame-requires
-zero-frame-requires c κs = let s = c .before .before .before .before .before .before .before .before .before .before .before in omega (arith, met-tests _ (s .args .from) (s .args .to) (s .pre .0))
+zero-frame-requires c κs = let s = c .before .before .before .before .before .before .before .before .before .before .before in omega (arith, met-tests _ (s .args .from) (s .args .to) (s .args .levels) (s .pre .0))
 
 start-requires : tie.Need-start-requires
 start-requires c κs = let s = c .before .before .before .before .before .before .before .before .before .before .before .before .before .before .before in eqb-true _ _ (long s .0)
@@ -67,7 +67,7 @@ returns c =
     let f = z .before .before in
     let i = f .before .before .before in
     let s = i .before .before .before .before .before .before .before in
-    begun-told (lent s) (s .args .from) (s .args .to) (s .pre .0) (i .init .ensures .0) (i .init .ensures .1) (f .mark-frame .ensures .0) (f .mark-frame .ensures .1)
+    begun-told (lent s) (s .args .from) (s .args .to) (s .args .levels) (s .pre .0) (i .init .ensures .0) (i .init .ensures .1) (f .mark-frame .ensures .0) (f .mark-frame .ensures .1)
     (z .zero-frame .ensures) (k .start .ensures) (u .start2 .ensures) (m .start3 .ensures)
 
 pub begin-spec : {M : Type 1} → statement M

@@ -22,7 +22,7 @@ are-long-requires : tie.Need-are-long-requires
 are-long-requires c κs = search needs
 
 returns : tie.Need-returns
-returns c = let s = c .before .before .before .before .before .before in (sym (in-short (lent s) (s .args .from) (s .args .to) (failed (c .before .are-long .ensures) (c .if1 .taken))), λ e. absurd (never e))
+returns c = let s = c .before .before .before .before .before .before in (sym (in-short (lent s) (s .args .from) (s .args .to) (s .args .levels) (failed (c .before .are-long .ensures) (c .if1 .taken))), λ e. absurd (never e))
 
 may-start-requires : tie.Need-may-start-requires
 may-start-requires c κs = search needs
@@ -41,7 +41,7 @@ returns-2 c =
     let m = c .before .before .before in
     let s = m .before .before .before .before .before .before .before in
     let h = sym (m .may-start .ensures) ∙ c .before .n .given .1 in
-    (sym (in-refused (lent s) (s .args .from) (s .args .to) (long (m .before)) _ h), λ e. absurd (never e))
+    (sym (in-refused (lent s) (s .args .from) (s .args .to) (s .args .levels) (long (m .before)) _ h), λ e. absurd (never e))
 
 same-length : tie.Need-same-length
 same-length c = search needs
@@ -63,7 +63,7 @@ returns-3 c =
     let s = m .before .before .before .before .before .before .before in
     let h = sym (m .may-start .ensures) ∙ t .enum-told .given .1 in
     let e = d .begin .ensures in
-    (ap (λ (p : BoardBytes). record { answer = Met; board = p }) (e .0) ∙ sym (in-met (lent s) (s .args .from) (s .args .to) (long (m .before)) h), λ _. e .1)
+    (ap (λ (p : BoardBytes). record { answer = Met; board = p }) (e .0) ∙ sym (in-met (lent s) (s .args .from) (s .args .to) (s .args .levels) (long (m .before)) h), λ _. e .1)
 
 pub start-spec : {M : Type 1} → statement M
 start-spec =

@@ -1,7 +1,6 @@
 -- `copy_on_write`: 11, or the copy to the frame that was taken.
 use mathlib.Core.Path.{sym, _∙_}
 use Rattle.tables.proofs.Laws.{stepped}
-use Rattle.paging.specs.Levels.{aboveLast}
 use Rattle.copying.proofs.Copying.{taken-roomy, taken-lent, cow-none, cow-on}
 use borrow.Author.Needs.{needs}
 use Rattle.copying.proofs.copy_on_write.Statement.{statement}
@@ -20,18 +19,19 @@ copy-to-requires : tie.Need-copy-to-requires
 copy-to-requires c κs =
     let s = c .before .before .before .before .before .before .before .before .before in
     let e = c .before .before .before .before .before .before .raw-frame .ensures (s .args .words .now) in
-    (taken-roomy _ e 6 (s .pre), taken-lent _ e _ (c .before .before .before .walked2 .given .1))
+    (taken-roomy _ e 8 (s .pre .0), (taken-lent _ e _ (c .before .before .before .walked2 .given .1), s .pre .1))
 
 returns : tie.Need-returns
-returns c = sym (cow-none aboveLast _ _ _ _ _ _ (stepped (c .before .before .before .before .raw-frame .ensures _) (c .before .walked .given .1)))
+returns c = sym (cow-none (c .before .before .before .before .before .before .before .args .up) _ _ _ _ _ _ (stepped (c .before .before .before .before .raw-frame .ensures _) (c .before .walked .given .1)))
 
 same-length : tie.Need-same-length
 same-length c = search needs
 
 returns-2 : tie.Need-returns-2
 returns-2 c =
-    c .before .before .copy-to .ensures ∙ sym (cow-on aboveLast _ _
-    (c .before .before .before .before .before .before .before .before .before .before .before .before .args .page .0) _ _ _
+    let a = c .before .before .before .before .before .before .before .before .before .before .before .before .args in
+    c .before .before .copy-to .ensures ∙ sym (cow-on (a .up) _ _
+    (a .page .0) _ _ _
     (stepped (c .before .before .before .before .before .before .before .before .before .raw-frame .ensures _)
     (c .before .before .before .before .before .before .walked2 .given .1)))
 

@@ -1,6 +1,7 @@
 -- `copy_to`: the words copied, then the page remapped.
+use native.Mathlib.Omega.{arith}
 use Rattle.paging.specs.Kept.{lentMemory}
-use Rattle.paging.specs.Levels.{aboveLast}
+use Rattle.paging.proofs.Map.{roomy-less}
 use Rattle.paging.specs.Map.{Memory, memory}
 use Rattle.copying.proofs.Copying.{frame-low, copied-on-roomy, copy-to-stop, copy-to-on}
 use borrow.Author.Needs.{needs}
@@ -23,9 +24,9 @@ lent s = lentMemory (s .args .words .now) (s .args .bitmap .now) (s .args .frame
 remap-page-requires : tie.Need-remap-page-requires
 remap-page-requires c κs =
     let s = c .before .before .before .before .before .before .before .before .before .before .before in (
-      copied-on-roomy aboveLast (lent s) (s .args .root .0) (s .args .page .0) (s .args .f)
-          (c .before .before .before .before .before .before .before .copy-page .ensures) aboveLast (s .pre .0),
-      frame-low {m = lent s} (s .args .f) (s .pre .0) (s .pre .1),
+      copied-on-roomy (s .args .up) (lent s) (s .args .root .0) (s .args .page .0) (s .args .f)
+          (c .before .before .before .before .before .before .before .copy-page .ensures) 4 (roomy-less _ (omega (arith, s .pre .1 .1)) (s .pre .0)),
+      (frame-low {m = lent s} (s .args .f) (s .pre .0) (s .pre .1 .0), s .pre .1 .1),
     )
 
 same-length : tie.Need-same-length
@@ -34,7 +35,7 @@ same-length c = search needs
 returns : tie.Need-returns
 returns c =
     let s = c .before .before .before .before .before .before .before .before .before .before in
-    copy-to-stop aboveLast (lent s) (s .args .root .0) (s .args .page .0) (s .args .f) (s .args .user)
+    copy-to-stop (s .args .up) (lent s) (s .args .root .0) (s .args .page .0) (s .args .f) (s .args .user)
     (c .before .before .before .before .before .before .copy-page .ensures) (c .before .walked .given .1)
 
 same-length-2 : tie.Need-same-length-2
@@ -43,7 +44,7 @@ same-length-2 c = search needs
 returns-2 : tie.Need-returns-2
 returns-2 c =
     let s = c .before .before .before .before .before .before .before .before .before .before .before .before .before .before in
-    copy-to-on aboveLast (lent s) (s .args .root .0) (s .args .page .0) (s .args .f) (s .args .user)
+    copy-to-on (s .args .up) (lent s) (s .args .root .0) (s .args .page .0) (s .args .f) (s .args .user)
     (c .before .before .before .before .before .before .before .before .before .before .copy-page .ensures)
     (c .before .before .before .before .before .enum-told .given .1) (c .before .before .remap-page .ensures)
 

@@ -1,8 +1,8 @@
 -- `map_frame`: what mapping the page answers, with 18 for each refusal.
 use Rattle.paging.specs.Kept.{lentMemory}
-use Rattle.paging.specs.Levels.{aboveLast}
 use Rattle.paging.specs.Map.{Memory, memory}
 use Rattle.copying.proofs.Copying.{map-frame-met, map-frame-refused}
+use native.Mathlib.Omega.{arith}
 use borrow.Author.Needs.{needs}
 use Rattle.copying.proofs.map_frame.Statement.{statement}
 use Rattle.copying.proofs.map_frame.Tie as tie
@@ -14,7 +14,7 @@ set-requires : tie.Need-set-requires
 set-requires c κs = search needs
 
 map-entry-requires : tie.Need-map-entry-requires
-map-entry-requires c κs = search needs
+map-entry-requires c κs = let t = c .before .before .before .before .before in (t .pre .0, (t .pre .1 .1, omega arith))
 
 enum-told : tie.Need-enum-told
 enum-told c = search needs
@@ -35,7 +35,7 @@ returns c =
     let s = m .before .before .before in
     let t = s .before .before .before in
     let a = t .args in
-    map-frame-met aboveLast (lent t) (a .root .0) (a .virt .0) (a .f) (a .writable) (a .user) (t .pre .1) (s .before .start-address .ensures) (s .set .ensures) (m .map-entry .ensures)
+    map-frame-met (a .up) (lent t) (a .root .0) (a .virt .0) (a .f) (a .writable) (a .user) (t .pre .1 .0) (s .before .start-address .ensures) (s .set .ensures) (m .map-entry .ensures)
     (c .enum-told .given .1)
 
 same-length-2 : tie.Need-same-length-2
@@ -47,7 +47,7 @@ returns-2 c =
     let s = m .before .before .before in
     let t = s .before .before .before in
     let a = t .args in
-    map-frame-refused aboveLast (lent t) (a .root .0) (a .virt .0) (a .f) (a .writable) (a .user) (t .pre .1) (s .before .start-address .ensures) (s .set .ensures) (m .map-entry .ensures) _
+    map-frame-refused (a .up) (lent t) (a .root .0) (a .virt .0) (a .f) (a .writable) (a .user) (t .pre .1 .0) (s .before .start-address .ensures) (s .set .ensures) (m .map-entry .ensures) _
     (c .enum-told2 .given .1)
 
 pub map-frame-spec : {M : Type 1} → statement M

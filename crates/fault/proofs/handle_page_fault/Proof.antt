@@ -1,16 +1,16 @@
 -- `handle_page_fault`: 10, or the first path at the address's page.
+use Prim.Native.Nat.{_-_}
 use mathlib.Core.Path.{_≡_}
 use mathlib.Core.Bool.{true}
 use Rattle.bits.specs.Bit.{both}
 use Rattle.frame.proofs.Laws.{passed, failed}
-use Rattle.paging.specs.Levels.{aboveLast}
 use Rattle.paging.specs.Map.{Memory}
 use Rattle.paging.specs.Kept.{lentMemory}
 use Rattle.paging.specs.Calls.{whole}
-use Rattle.paging.proofs.Calls.{whole-roomy}
+use Rattle.paging.proofs.Calls.{whole-up, whole-above, whole-roomy}
 use Rattle.cow.specs.Marked.{soundMarked}
 use Rattle.cow.specs.Packed.{markedIn, markedFit}
-use Rattle.fault.specs.Faults.{Faulting, FaultDid, handled, handleFault}
+use Rattle.fault.specs.Faults.{Faulting, FaultDid, handled, handleFaultOf}
 use Rattle.fault.proofs.Faults.{says-broken, says-on, fault-broken, fault-unsorted, fault-is}
 use borrow.Author.Needs.{needs}
 use Rattle.fault.proofs.handle_page_fault.Statement.{statement}
@@ -21,7 +21,7 @@ abbrev mem : tie.Start → Memory
 mem s = lentMemory (s .args .words .now) (s .args .bitmap .now) (s .args .frames)
 
 abbrev path : tie.Start → Faulting → FaultDid
-path s x = handleFault aboveLast x (s .args .root .0) (s .args .addr .0) (s .args .code)
+path s x = handleFaultOf x (s .args .root .0) (s .args .addr .0) (s .args .code)
 
 -- nothing is broken
 good : (c : tie.Else1) → let s = c .before .before .before .before .before .before in whole (mem s) (s .args .root .0) ≡ true
@@ -41,7 +41,7 @@ returns : tie.Need-returns
 returns c =
     let s = c .before .before .before .before .before .before in
     let a = s .args in
-    let e = fault-broken aboveLast (mem s) (a .marked .now) (a .root .0) (a .addr .0) (a .code) (failed (c .before .is-whole .ensures) (c .if1 .taken)) in
+    let e = fault-broken (a .frames .levels - 1) (mem s) (a .marked .now) (a .root .0) (a .addr .0) (a .code) (failed (c .before .is-whole .ensures) (c .if1 .taken)) in
     says-broken (path s) (mem s) (a .marked .now) (λ _. e) (λ k. c .before .before .before .before .slice-known2 .given k .fits)
 
 is-sound-requires : tie.Need-is-sound-requires
@@ -58,14 +58,24 @@ returns-2 c =
     let g = c .before .before .before in
     let s = g .before .before .before .before .before .before in
     let a = s .args in
-    let e = fault-unsorted aboveLast (mem s) (a .marked .now) (a .root .0) (a .addr .0) (a .code) (good g) (failed (c .before .is-sound .ensures) (c .if2 .taken)) in
+    let e = fault-unsorted (a .frames .levels - 1) (mem s) (a .marked .now) (a .root .0) (a .addr .0) (a .code) (good g) (failed (c .before .is-sound .ensures) (c .if2 .taken)) in
     says-broken (path s) (mem s) (a .marked .now) e (λ k. g .before .before .before .before .slice-known2 .given k .fits)
+
+sub-handle : tie.Need-sub-handle
+sub-handle c =
+    let g = c .before .before .before .before .before .before in
+    let s = g .before .before .before .before .before .before in
+    whole-up (mem s) (s .args .root .0) (good g)
 
 page-of-requires : tie.Need-page-of-requires
 page-of-requires c κs = search needs
 
 handle-requires : tie.Need-handle-requires
-handle-requires c κs = let e = c .before .before .before .before in (whole-roomy _ _ (good (e .before .before .before)) 7 (search needs), sorted e)
+handle-requires c κs =
+    let e = c .before .before .before .before .before in
+    let g = e .before .before .before in
+    let s = g .before .before .before .before .before .before in
+    (whole-roomy (mem s) (s .args .root .0) (good g) 9 (search needs), (sorted e, whole-above (mem s) (s .args .root .0) (good g)))
 
 same-length-4 : tie.Need-same-length-4
 same-length-4 c = search needs
@@ -76,12 +86,12 @@ same-length-5 c = search needs
 returns-3 : tie.Need-returns-3
 returns-3 c =
     let h = c .before .before .before .before in
-    let e = h .before .before .before .before .before in
+    let e = h .before .before .before .before .before .before in
     let g = e .before .before .before in
     let s = g .before .before .before .before .before .before in
     let a = s .args in
-    says-on (path s) (λ x. handled aboveLast x (a .root .0) (h .before .page-of .result .0) (a .code)) (mem s) (a .marked .now)
-    (fault-is aboveLast (mem s) (a .marked .now) (a .root .0) (a .addr .0) (a .code) (good g) (sorted e) (h .before .page-of .ensures)) (h .handle .ensures)
+    says-on (path s) (λ x. handled (a .frames .levels - 1) x (a .root .0) (h .before .page-of .result .0) (a .code)) (mem s) (a .marked .now)
+    (fault-is (a .frames .levels - 1) (mem s) (a .marked .now) (a .root .0) (a .addr .0) (a .code) (good g) (sorted e) (h .before .page-of .ensures)) (h .handle .ensures)
 
 pub handle-page-fault-spec : {M : Type 1} → statement M
 handle-page-fault-spec =
@@ -94,6 +104,7 @@ handle-page-fault-spec =
     same-length-2
     same-length-3
     returns-2
+    sub-handle
     page-of-requires
     handle-requires
     same-length-4

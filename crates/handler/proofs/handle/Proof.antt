@@ -2,7 +2,6 @@
 use mathlib.Core.Path.{_≡_, sym, _∙_}
 use mathlib.Core.Bool.{false}
 use Rattle.paging.specs.Kept.{lentMemory}
-use Rattle.paging.specs.Levels.{aboveLast}
 use Rattle.paging.specs.Map.{Memory}
 use Rattle.paging.proofs.Calls.{told}
 use Rattle.error_code.specs.ErrorCode.{isReserved}
@@ -24,7 +23,7 @@ plain c = sym (c .before .is-reserved .ensures) ∙ c .if1 .left
 returns : tie.Need-returns
 returns c =
     let s = c .before .before .before in
-    told (second-reserved aboveLast (lent s) _ (s .args .page .0) (s .args .code) (sym (c .before .is-reserved .ensures) ∙ c .if1 .taken))
+    told (second-reserved (s .args .up) (lent s) _ (s .args .page .0) (s .args .code) (sym (c .before .is-reserved .ensures) ∙ c .if1 .taken))
 
 is-present-requires : tie.Need-is-present-requires
 is-present-requires c κs = search needs
@@ -35,7 +34,7 @@ refusal-requires c κs = search needs
 returns-2 : tie.Need-returns-2
 returns-2 c =
     let s = c .before .before .before .before .before .before in
-    told (second-present aboveLast (lent s) _ (s .args .page .0) (s .args .code) (plain (c .before .before .before))
+    told (second-present (s .args .up) (lent s) _ (s .args .page .0) (s .args .code) (plain (c .before .before .before))
     (sym (c .before .before .is-present .ensures) ∙ c .before .if2 .taken) (c .refusal .ensures))
 
 is-write-requires : tie.Need-is-write-requires
@@ -56,7 +55,7 @@ same-length c = search needs
 returns-3 : tie.Need-returns-3
 returns-3 c =
     let s = c .before .before .before .before .before .before .before .before .before .before .before .before .before .before in
-    second-absent aboveLast (lent s) _ (s .args .page .0) (s .args .code)
+    second-absent (s .args .up) (lent s) _ (s .args .page .0) (s .args .code)
     (plain (c .before .before .before .before .before .before .before .before .before .before .before))
     (sym (c .before .before .before .before .before .before .before .before .before .before .is-present .ensures)
     ∙ c .before .before .before .before .before .before .before .before .before .if2 .left)

@@ -1,11 +1,13 @@
--- `map_page`: 10, or the entry below three tables.
+-- `map_page`: 10, or the entry below the tables of the levels above.
+use Prim.Native.Nat.{_-_}
 use mathlib.Core.Path.{_≡_, refl}
+use native.Mathlib.Omega.{arith}
 use lib.Dec.{lit≤}
 use mathlib.Core.Bool.{true}
 use Rattle.frame.proofs.Laws.{passed, failed}
 use Rattle.paging.specs.Kept.{lentMemory}
 use Rattle.paging.specs.Calls.{whole}
-use Rattle.paging.proofs.Calls.{told, whole-roomy, map-broken}
+use Rattle.paging.proofs.Calls.{told, whole-up, whole-above, whole-roomy, map-broken}
 use Rattle.mapper.proofs.Laws.{page-told}
 use borrow.Author.Needs.{needs}
 use Rattle.mapper.proofs.map_page.Statement.{statement}
@@ -21,7 +23,7 @@ returns : tie.Need-returns
 returns c =
     let a = c .before .before .before .before .before .args in
     told
-    (map-broken 3 (lentMemory (a .words .now) (a .bitmap .now) (a .frames)) (a .root .0) (a .virt .0) (a .phys .0) (a .writable) (a .user)
+    (map-broken (a .frames .levels - 1) (lentMemory (a .words .now) (a .bitmap .now) (a .frames)) (a .root .0) (a .virt .0) (a .phys .0) (a .writable) (a .user)
     (failed (c .before .is-whole .ensures) (c .if1 .taken)))
 
 -- nothing is broken
@@ -32,11 +34,18 @@ good c = passed (c .before .is-whole .ensures) (c .if1 .left)
 set-requires : tie.Need-set-requires
 set-requires c κs = search needs
 
+sub-up : tie.Need-sub-up
+sub-up c =
+    let g = c .before .before in
+    let a = g .before .before .before .before .before .args in
+    whole-up (lentMemory (a .words .now) (a .bitmap .now) (a .frames)) (a .root .0) (good g)
+
 map-entry-requires : tie.Need-map-entry-requires
 map-entry-requires c κs =
-    let g = c .before .before .before in
+    let g = c .before .before .before .before in
     let a = g .before .before .before .before .before .args in
-    (whole-roomy (lentMemory (a .words .now) (a .bitmap .now) (a .frames)) (a .root .0) (good g) 3 (lit≤ tt), lit≤ tt)
+    let m = lentMemory (a .words .now) (a .bitmap .now) (a .frames) in
+    (whole-roomy m (a .root .0) (good g) 4 (lit≤ tt), (whole-above m (a .root .0) (good g), omega arith))
 
 same-length-2 : tie.Need-same-length-2
 same-length-2 c = c .before .before .map-entry .kept .0
@@ -44,9 +53,9 @@ same-length-2 c = c .before .before .map-entry .kept .0
 returns-2 : tie.Need-returns-2
 returns-2 c =
     let r = c .before .before in
-    let e = r .before .before .before in
+    let e = r .before .before .before .before in
     let a = e .before .before .before .before .before .before .args in
-    page-told (lentMemory (a .words .now) (a .bitmap .now) (a .frames)) (a .root .0) (a .virt .0) (a .phys .0) (a .writable) (a .user) (good (e .before))
+    page-told (a .frames .levels - 1) (lentMemory (a .words .now) (a .bitmap .now) (a .frames)) (a .root .0) (a .virt .0) (a .phys .0) (a .writable) (a .user) (good (e .before))
     (e .set .result .0) (e .set .ensures) (r .map-entry .ensures)
 
 pub map-page-spec : {M : Type 1} → statement M
@@ -57,6 +66,7 @@ map-page-spec =
     same-length
     returns
     set-requires
+    sub-up
     map-entry-requires
     same-length-2
     returns-2)

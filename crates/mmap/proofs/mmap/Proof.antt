@@ -1,5 +1,5 @@
 -- `mmap`: 10, 1, 3 for the size, then the region.
-use Prim.Native.Nat.{ℕ}
+use Prim.Native.Nat.{_-_, ℕ}
 use mathlib.Core.Path.{_≡_, refl, sym, _∙_, ap, subst}
 use mathlib.Core.Bool.{Bool, true, false, not}
 use mir.Syntax.{w32}
@@ -12,12 +12,11 @@ use Rattle.allocator.specs.Round.{rounded}
 use Rattle.address.specs.declared.VirtAnswer.{VirtAnswer}
 use Rattle.answer.specs.declared.Outcome.the-variants.{Value}
 use Rattle.frame.proofs.Laws.{passed, failed}
-use Rattle.paging.specs.Levels.{aboveLast}
 use Rattle.address.specs.Address.{asVirt}
 use Rattle.paging.specs.Kept.{Kept}
 use Rattle.mappings.specs.Packed.{mmapFit}
 use Rattle.mmap.specs.declared.Mmapped.{Mmapped}
-use Rattle.mmap.specs.Calls.{User, UserDid, soundUser, chosenRegion, mmap}
+use Rattle.mmap.specs.Calls.{User, UserDid, soundUser, chosenRegion, mmapOf}
 use Rattle.mmap.specs.Packed.{lentUser, mmapOn, mmapped, UserReads, UserLeaves}
 use Rattle.mmap.proofs.Leaving.{no-mapping-left, on-list, on-broken}
 use Rattle.mmap.proofs.Steps.{mmap-broken, mmap-empty, mmap-large, mmap-sized, hint-same, rounded-whole}
@@ -29,7 +28,7 @@ lent s = lentUser (s .args .words .now) (s .args .bitmap .now) (s .args .frames)
 
 -- the call on whatever list
 abbrev call : tie.Start → User → UserDid
-call s u = mmap aboveLast u (s .args .root .0) (s .args .hint) (s .args .size) (s .args .prot) (s .args .flags)
+call s u = mmapOf u (s .args .root .0) (s .args .hint) (s .args .size) (s .args .prot) (s .args .flags)
 
 is-whole-requires : tie.Need-is-whole-requires
 is-whole-requires c κs = tt
@@ -60,7 +59,7 @@ returns c =
     let s = k .before .before in
     let a = s .args in
     let r = on-broken asVirt (call s) (lent s .mem) (a .list .now) (λ i. k .slice-known2 .given i .fits) (soundUser (lent s) (a .root .0))
-    (failed (w .is-whole .ensures) (c .before .if1 .taken)) (mmap-broken aboveLast (lent s) (a .root .0) (a .hint) (a .size) (a .prot) (a .flags)) in
+    (failed (w .is-whole .ensures) (c .before .if1 .taken)) (mmap-broken (s .args .frames .levels - 1) (lent s) (a .root .0) (a .hint) (a .size) (a .prot) (a .flags)) in
     (ap (λ (x : Mmapped). mmapped x (a .words .now) (a .bitmap .now) (a .list .now)) (c .no-mapping .ensures) ∙ r .0, r .1)
 
 no-mapping-requires-2 : tie.Need-no-mapping-requires-2
@@ -80,7 +79,7 @@ returns-2 c =
     let a = s .args in
     on-list asVirt (call s) (lent s .mem) (a .list .now) (good e .0)
     (no-mapping-left _ (λ i. k .slice-known2 .given i .fits) (good e .0)
-    (mmap-empty aboveLast (lent s) (a .root .0) (a .hint) (a .size) (a .prot) (a .flags) (good e .1) (c .before .if2 .taken)) (c .no-mapping2 .ensures))
+    (mmap-empty (s .args .frames .levels - 1) (lent s) (a .root .0) (a .hint) (a .size) (a .prot) (a .flags) (good e .1) (c .before .if2 .taken)) (c .no-mapping2 .ensures))
 
 page-align-up-requires : tie.Need-page-align-up-requires
 page-align-up-requires c κs = tt
@@ -118,7 +117,7 @@ returns-3 c =
     let a = s .args in
     on-list asVirt (call s) (lent s .mem) (a .list .now) (g .0)
     (no-mapping-left _ (λ i. k .slice-known2 .given i .fits) (g .0)
-    (mmap-large aboveLast (lent s) (a .root .0) (a .hint) (a .size) (a .prot) (a .flags) (g .1) (t .if2 .left) _ (sym (r .page-align-up .ensures) ∙ e .e .given .1))
+    (mmap-large (s .args .frames .levels - 1) (lent s) (a .root .0) (a .hint) (a .size) (a .prot) (a .flags) (g .1) (t .if2 .left) _ (sym (r .page-align-up .ensures) ∙ e .e .given .1))
     (c .no-mapping3 .ensures))
 
 same-length-7 : tie.Need-same-length-7
@@ -130,15 +129,15 @@ same-length-8 c = search needs
 -- what the region leaves, over the arguments alone; a signed number that is passed on is what its bits read back
 sized : (s : tie.Start) (n : ℕ) {k : Kept VirtAnswer} → Good s → (s .args .size ≡ 0 → ⊥)
     → rounded (s .args .size) ≡ Value n
-    → UserLeaves asVirt k (chosenRegion aboveLast (lent s) (s .args .root .0) (s .args .hint) n (toZ w32 (ofZ w32 (s .args .prot))) (toZ w32 (ofZ w32 (s .args .flags))))
+    → UserLeaves asVirt k (chosenRegion (s .args .frames .levels - 1) (lent s) (s .args .root .0) (s .args .hint) n (toZ w32 (ofZ w32 (s .args .prot))) (toZ w32 (ofZ w32 (s .args .flags))))
     → (k ≡ mmapOn (lent s .mem) (s .args .list .now) (s .args .root .0) (s .args .hint) (s .args .size) (s .args .prot) (s .args .flags))
     × UserReads (call s) (lent s .mem) (s .args .list .now) (k .list)
 sized s n {k = k} g z e t =
     let a = s .args in
     on-list asVirt (call s) (lent s .mem) (a .list .now) (g .0)
     (subst (UserLeaves asVirt k)
-    (sym (mmap-sized aboveLast (lent s) (a .root .0) (a .hint) (a .size) (a .prot) (a .flags) (g .1) z n e
-    ∙ hint-same aboveLast (lent s) (a .root .0) (a .hint) n (sym (toZ-ofZ (s .fits .prot))) (sym (toZ-ofZ (s .fits .flags))))) t)
+    (sym (mmap-sized (s .args .frames .levels - 1) (lent s) (a .root .0) (a .hint) (a .size) (a .prot) (a .flags) (g .1) z n e
+    ∙ hint-same (s .args .frames .levels - 1) (lent s) (a .root .0) (a .hint) n (sym (toZ-ofZ (s .fits .prot))) (sym (toZ-ofZ (s .fits .flags))))) t)
 
 returns-4 : tie.Need-returns-4
 returns-4 c =

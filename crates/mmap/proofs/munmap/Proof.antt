@@ -1,5 +1,5 @@
 -- `munmap`: 10, 1, 2, 3, then the region.
-use Prim.Native.Nat.{ℕ, _%_}
+use Prim.Native.Nat.{_-_, ℕ, _%_}
 use mathlib.Core.Path.{_≡_, refl, sym, _∙_, ap, subst}
 use mathlib.Core.Bool.{Bool, true, false, not}
 use borrow.Author.Needs.{needs}
@@ -9,12 +9,11 @@ use Rattle.allocator.specs.Round.{rounded}
 use Rattle.answer.specs.declared.Answer.{Answer}
 use Rattle.answer.specs.declared.Outcome.the-variants.{Value}
 use Rattle.frame.proofs.Laws.{passed, failed}
-use Rattle.paging.specs.Levels.{aboveLast}
 use Rattle.answer.specs.Outcomes.{asAnswer}
 use Rattle.paging.specs.Kept.{Kept}
 use Rattle.mappings.specs.Packed.{mmapFit}
 use Rattle.mmap.specs.declared.Munmapped.{Munmapped}
-use Rattle.mmap.specs.Calls.{User, UserDid, soundUser, unmapRegion, munmap}
+use Rattle.mmap.specs.Calls.{User, UserDid, soundUser, unmapRegion, munmapOf}
 use Rattle.mmap.specs.Packed.{lentUser, munmapOn, munmapped, UserReads, UserLeaves}
 use Rattle.mmap.proofs.Leaving.{not-unmapped-left, on-list, on-broken}
 use Rattle.mmap.proofs.Steps.{munmap-broken, munmap-empty, munmap-odd, munmap-large, munmap-sized}
@@ -26,7 +25,7 @@ lent s = lentUser (s .args .words .now) (s .args .bitmap .now) (s .args .frames)
 
 -- the call on whatever list
 abbrev call : tie.Start → User → UserDid
-call s u = munmap aboveLast u (s .args .root .0) (s .args .addr .0) (s .args .size)
+call s u = munmapOf u (s .args .root .0) (s .args .addr .0) (s .args .size)
 
 is-whole-requires : tie.Need-is-whole-requires
 is-whole-requires c κs = tt
@@ -57,7 +56,7 @@ returns c =
     let s = k .before .before in
     let a = s .args in
     let r = on-broken asAnswer (call s) (lent s .mem) (a .list .now) (λ i. k .slice-known2 .given i .fits) (soundUser (lent s) (a .root .0))
-    (failed (w .is-whole .ensures) (c .before .if1 .taken)) (munmap-broken aboveLast (lent s) (a .root .0) (a .addr .0) (a .size)) in
+    (failed (w .is-whole .ensures) (c .before .if1 .taken)) (munmap-broken (s .args .frames .levels - 1) (lent s) (a .root .0) (a .addr .0) (a .size)) in
     (ap (λ (x : Munmapped). munmapped x (a .words .now) (a .bitmap .now) (a .list .now)) (c .not-unmapped .ensures) ∙ r .0, r .1)
 
 not-unmapped-requires-2 : tie.Need-not-unmapped-requires-2
@@ -77,7 +76,7 @@ returns-2 c =
     let a = s .args in
     on-list asAnswer (call s) (lent s .mem) (a .list .now) (good e .0)
     (not-unmapped-left _ (λ i. k .slice-known2 .given i .fits) (good e .0)
-    (munmap-empty aboveLast (lent s) (a .root .0) (a .addr .0) (a .size) (good e .1) (c .before .if2 .taken)) (c .not-unmapped2 .ensures))
+    (munmap-empty (s .args .frames .levels - 1) (lent s) (a .root .0) (a .addr .0) (a .size) (good e .1) (c .before .if2 .taken)) (c .not-unmapped2 .ensures))
 
 not-unmapped-requires-3 : tie.Need-not-unmapped-requires-3
 not-unmapped-requires-3 c κs = tt
@@ -97,7 +96,7 @@ returns-3 c =
     let a = s .args in
     on-list asAnswer (call s) (lent s .mem) (a .list .now) (g .0)
     (not-unmapped-left _ (λ i. k .slice-known2 .given i .fits) (g .0)
-    (munmap-odd aboveLast (lent s) (a .root .0) (a .addr .0) (a .size) (g .1) (e .if2 .left) (c .before .if3 .taken)) (c .not-unmapped3 .ensures))
+    (munmap-odd (s .args .frames .levels - 1) (lent s) (a .root .0) (a .addr .0) (a .size) (g .1) (e .if2 .left) (c .before .if3 .taken)) (c .not-unmapped3 .ensures))
 
 page-align-up-requires : tie.Need-page-align-up-requires
 page-align-up-requires c κs = tt
@@ -132,7 +131,7 @@ returns-4 c =
     let a = s .args in
     on-list asAnswer (call s) (lent s .mem) (a .list .now) (g .0)
     (not-unmapped-left _ (λ i. k .slice-known2 .given i .fits) (g .0)
-    (munmap-large aboveLast (lent s) (a .root .0) (a .addr .0) (a .size) (g .1) (e .if2 .left) (t .if3 .left) _ (sym (r .page-align-up .ensures) ∙ x .e .given .1))
+    (munmap-large (s .args .frames .levels - 1) (lent s) (a .root .0) (a .addr .0) (a .size) (g .1) (e .if2 .left) (t .if3 .left) _ (sym (r .page-align-up .ensures) ∙ x .e .given .1))
     (c .not-unmapped4 .ensures))
 
 same-length-9 : tie.Need-same-length-9
@@ -143,12 +142,12 @@ same-length-10 c = search needs
 
 -- what the region leaves, over the arguments alone
 sized : (s : tie.Start) (n : ℕ) {k : Kept Answer} → Good s → (s .args .size ≡ 0 → ⊥)
-    → s .args .addr .0 % 4096 ≡ 0 → rounded (s .args .size) ≡ Value n → UserLeaves asAnswer k (unmapRegion aboveLast (lent s) (s .args .root .0) (s .args .addr .0) n)
+    → s .args .addr .0 % 4096 ≡ 0 → rounded (s .args .size) ≡ Value n → UserLeaves asAnswer k (unmapRegion (s .args .frames .levels - 1) (lent s) (s .args .root .0) (s .args .addr .0) n)
     → (k ≡ munmapOn (lent s .mem) (s .args .list .now) (s .args .root .0) (s .args .addr .0) (s .args .size)) × UserReads (call s) (lent s .mem) (s .args .list .now) (k .list)
 sized s n {k = k} g z o e t =
     let a = s .args in
     on-list asAnswer (call s) (lent s .mem) (a .list .now) (g .0)
-    (subst (UserLeaves asAnswer k) (sym (munmap-sized aboveLast (lent s) (a .root .0) (a .addr .0) (a .size) (g .1) z o n e)) t)
+    (subst (UserLeaves asAnswer k) (sym (munmap-sized (s .args .frames .levels - 1) (lent s) (a .root .0) (a .addr .0) (a .size) (g .1) z o n e)) t)
 
 returns-5 : tie.Need-returns-5
 returns-5 c =

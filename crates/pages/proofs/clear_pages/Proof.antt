@@ -13,25 +13,25 @@ use Rattle.pages.proofs.clear_pages.Statement.{statement}
 use Rattle.pages.proofs.clear_pages.Tie as tie
 
 abbrev Inv-loop : tie.InvT-loop
-Inv-loop words₀ frames root virt n i₀ words i =
+Inv-loop words₀ frames up root virt n i₀ words i =
     (i ≤ n) × (length words ≡ length words₀)
-    × ((b : List ℕ) → clearPages 3 (lentMemory words₀ b frames) (root .0) (virt .0) n
-    ≡ clearPages 3 (lentMemory words b frames) (root .0) (virt .0 + i * 4096) (n - i))
+    × ((b : List ℕ) → clearPages up (lentMemory words₀ b frames) (root .0) (virt .0) n
+    ≡ clearPages up (lentMemory words b frames) (root .0) (virt .0 + i * 4096) (n - i))
 
 abbrev μ-loop : tie.MeasureT-loop
-μ-loop words₀ frames root virt n i₀ words i = n - i
+μ-loop words₀ frames up root virt n i₀ words i = n - i
 
 loop-holds : tie.Need-loop-holds Inv-loop μ-loop
 loop-holds c = (search needs, refl, λ b. simp unary-clauses)
 
-mul-t11 : tie.Need-mul-t11 Inv-loop μ-loop
-mul-t11 c = search needs
+mul-t12 : tie.Need-mul-t12 Inv-loop μ-loop
+mul-t12 c = search needs
 
-add-t12 : tie.Need-add-t12 Inv-loop μ-loop
-add-t12 c = search needs
+add-t13 : tie.Need-add-t13 Inv-loop μ-loop
+add-t13 c = search needs
 
 clear-page-requires : tie.Need-clear-page-requires Inv-loop μ-loop
-clear-page-requires c κs = let l = c .before .before .before in lent-still (l .loop .inv .1) (l .before .before .pre .0)
+clear-page-requires c κs = let l = c .before .before .before in (lent-still (l .loop .inv .1) (l .before .before .pre .0), l .before .before .pre .1 .1)
 
 add-i : tie.Need-add-i Inv-loop μ-loop
 add-i c =
@@ -53,7 +53,7 @@ loop-again c =
       onward (l .loop .i) (a .n) (t .loop-test .taken),
       x .kept .0 ∙ l .loop .inv .1,
       λ b. l .loop .inv .2 b
-          ∙ clear-on (a .root .0) (a .virt .0) (l .loop .i) (a .n) (t .loop-test .taken) 3 (lentMemory (l .loop .words) b (a .frames))
+          ∙ clear-on (a .root .0) (a .virt .0) (l .loop .i) (a .n) (t .loop-test .taken) (a .up) (lentMemory (l .loop .words) b (a .frames))
           (lentMemory (x .last .0) b (a .frames)) (x .ensures b),
     )
 
@@ -70,8 +70,8 @@ clear-pages-spec =
     Inv-loop
     μ-loop
     loop-holds
-    mul-t11
-    add-t12
+    mul-t12
+    add-t13
     clear-page-requires
     add-i
     loop-less

@@ -18,7 +18,7 @@ enum-known-f : tie.Need-enum-known-f
 enum-known-f c = c .match .keys2
 
 give-frame-requires : tie.Need-give-frame-requires
-give-frame-requires c κs = c .before .before .before .before .before .before .before .before .before .pre .held
+give-frame-requires c κs = c .before .before .before .before .before .before .before .before .before .pre .0 .held
 
 same-length : tie.Need-same-length
 same-length c = c .before .before .before .before .unmap-leaf .kept .0
@@ -27,7 +27,7 @@ returns : tie.Need-returns
 returns c =
     let u = c .before .before .before .before in
     let a = u .before .before .before .args in
-    sym (free-none 3 (lentMemory (a .words .now) (a .bitmap .now) (a .frames)) (a .root .0) (a .virt .0) _ (u .unmap-leaf .last .0)
+    sym (free-none (a .up) (lentMemory (a .words .now) (a .bitmap .now) (a .frames)) (a .root .0) (a .virt .0) _ (u .unmap-leaf .last .0)
     (unmapped (u .unmap-leaf .ensures .0) (u .unmap-leaf .ensures .1) (c .enum-told .given .1)))
 
 same-length-2 : tie.Need-same-length-2
@@ -40,7 +40,7 @@ returns-2 c =
     let u = f .before .before .before .before in
     let a = u .before .before .before .args in
     given-back (u .unmap-leaf .last .0) (lentFrames (a .bitmap .now) (a .frames)) _ (g .give-frame .ensures .0) (g .give-frame .ensures .1)
-    ∙ sym (free-page 3 (lentMemory (a .words .now) (a .bitmap .now) (a .frames)) (a .root .0) (a .virt .0) _ (u .unmap-leaf .last .0)
+    ∙ sym (free-page (a .up) (lentMemory (a .words .now) (a .bitmap .now) (a .frames)) (a .root .0) (a .virt .0) _ (u .unmap-leaf .last .0)
     (unmapped (u .unmap-leaf .ensures .0) (u .unmap-leaf .ensures .1) (f .f .given .1)))
 
 pub free-page-spec : {M : Type 1} → statement M

@@ -1,105 +1,70 @@
--- `free_pages`: one span a turn, of no more pages than there are. The invariant: what is left to free comes out as the whole run, and the tables marked in
--- `empty` have no present entry.
-use Prim.Native.Nat.{_≤_, _-_, _+_, _*_}
-use mathlib.Core.Path.{_≡_, refl, sym, _∙_}
-use lib.ListN.{length}
+-- `free_pages`: no more pages than there are, in one run or block by block.
+use mathlib.Core.Path.{_∙_}
 use borrow.Author.Needs.{needs}
-use Rattle.bitmap.specs.Bitmap.{marksIn}
 use Rattle.paging.specs.Kept.{lentMemory}
-use Rattle.paging.specs.Map.{RoomToTake}
-use Rattle.paging.specs.Pages.{freePages}
-use Rattle.pages.specs.Freeing.{Blank}
-use Rattle.pages.proofs.Laws.{free-end}
-use Rattle.pages.proofs.Steps.{span-start, span-on, span-some, span-within, span-fits, span-less, span-roomy}
+use Rattle.pages.proofs.Steps.{most-are, most-fit, block-above}
 use Rattle.pages.proofs.Blanks.{blank-start}
 use Rattle.pages.proofs.free_pages.Statement.{statement}
 use Rattle.pages.proofs.free_pages.Tie as tie
 
-abbrev Inv-loop : tie.InvT-loop
-Inv-loop words₀ bitmap₀ root virt n most empty₀ left₀ done₀ words bitmap empty left done =
-    (done ≤ most) × (most ≤ n) × (length words ≡ length words₀) × RoomToTake (lentMemory words bitmap left) 0 × Blank words (marksIn empty)
-    × (freePages 3 (lentMemory words₀ bitmap₀ left₀) (root .0) (virt .0) n
-    ≡ freePages 3 (lentMemory words bitmap left) (root .0) (virt .0 + done * 4096) (most - done))
+all-pages-requires : tie.Need-all-pages-requires
+all-pages-requires c κs = search needs
 
-abbrev μ-loop : tie.MeasureT-loop
-μ-loop words₀ bitmap₀ root virt n most empty₀ left₀ done₀ words bitmap empty left done = most - done
-
-at-most-requires : tie.Need-at-most-requires Inv-loop μ-loop
+at-most-requires : tie.Need-at-most-requires
 at-most-requires c κs = search needs
 
-loop-holds : tie.Need-loop-holds Inv-loop μ-loop
-loop-holds c = (search needs, search needs, refl, c .before .before .pre .0, blank-start _, span-start _ _ _ _ (c .at-most .ensures))
+free-run-requires : tie.Need-free-run-requires
+free-run-requires c κs =
+    let o = c .before .before .before .before in
+    let s = o .before .before .before in
+    (s .pre .0, (blank-start _, (most-fit (s .args .virt .0) (s .args .n) (o .before .all-pages .result) (o .at-most .ensures) (s .pre .1 .0), s .pre .1 .1)))
 
-mul-t17 : tie.Need-mul-t17 Inv-loop μ-loop
-mul-t17 c = search needs
+same-length : tie.Need-same-length
+same-length c = search needs
 
-add-t18 : tie.Need-add-t18 Inv-loop μ-loop
-add-t18 c = search needs
+returns : tie.Need-returns
+returns c =
+    let r = c .before .before in
+    let o = r .before .before .before .before .before in
+    let a = o .before .before .before .args in
+    r .free-run .ensures .1
+    ∙ most-are (a .up) (a .root .0) (a .virt .0) (a .n) (lentMemory (a .words .now) (a .bitmap .now) (a .frames)) (o .before .all-pages .ensures) (o .at-most .ensures)
 
-sub-free-span : tie.Need-sub-free-span Inv-loop μ-loop
-sub-free-span c = search needs
-
-free-span-requires : tie.Need-free-span-requires Inv-loop μ-loop
-free-span-requires c κs = let l = c .before .before .before .before .before in
-    (l .loop .inv .3, (l .loop .inv .4, span-some (l .before .at-most .result) (l .loop .done) (c .before .before .before .before .loop-test .taken)))
-
-add-done : tie.Need-add-done Inv-loop μ-loop
-add-done c =
-    let r = c .before .before .before .before in
-    let l = r .before .before .before .before .before .before in
-    span-fits (l .before .at-most .result) (l .loop .done) (r .free-span .result .done) (r .free-span .ensures .1 .1 .0) (l .loop .inv .0) (l .loop .inv .1)
-    (l .before .before .before .fits .n)
-
-loop-less : tie.Need-loop-less Inv-loop μ-loop
-loop-less c =
-    let r = c .before .before .before .before in
-    let l = r .before .before .before .before .before .before in
-    span-less (l .before .at-most .result) (l .loop .done) (r .free-span .result .done) (r .free-span .ensures .1 .1 .0) (r .free-span .ensures .1 .0)
-
-loop-again : tie.Need-loop-again Inv-loop μ-loop
-loop-again c =
-    let r = c .before .before .before .before in
-    let l = r .before .before .before .before .before .before in
-    let a = l .before .before .before .args in
-    let most = l .before .at-most .result in
-    let x = r .free-span in
-    let e = x .ensures in (
-      span-within most (l .loop .done) (x .result .done) (e .1 .1 .0) (l .loop .inv .0),
-      l .loop .inv .1,
-      x .kept .0 ∙ l .loop .inv .2,
-      span-roomy (lentMemory (l .loop .words) (l .loop .bitmap) (l .loop .left)) (a .root .0) (a .virt .0 + l .loop .done * 4096) (x .result .done)
-          (e .1 .1 .1) (l .loop .inv .3),
-      e .0,
-      l .loop .inv .5
-          ∙ span-on (a .root .0) (a .virt .0) most (l .loop .done) (x .result .done) (lentMemory (l .loop .words) (l .loop .bitmap) (l .loop .left))
-          (lentMemory (x .last .0) (x .last .1 .0) (x .result .frames)) (e .1 .1 .0) (l .loop .inv .0) (e .1 .1 .1),
+free-blocks-requires : tie.Need-free-blocks-requires
+free-blocks-requires c κs =
+    let e = c .before .before .before in
+    let o = e .before in
+    let s = o .before .before .before in (
+      s .pre .0,
+      (
+        blank-start _,
+        (
+          most-fit (s .args .virt .0) (s .args .n) (o .before .all-pages .result) (o .at-most .ensures) (s .pre .1 .0),
+          (block-above (s .args .up) (s .args .n) (o .before .all-pages .ensures) (o .at-most .ensures) (e .if1 .left), s .pre .1 .1),
+        ),
+      ),
     )
 
-same-length : tie.Need-same-length Inv-loop μ-loop
-same-length c = c .before .loop .inv .2
+same-length-2 : tie.Need-same-length-2
+same-length-2 c = search needs
 
-returns : tie.Need-returns Inv-loop μ-loop
-returns c =
-    let l = c .before in
-    let a = l .before .before .before .args in
-    sym
-    (l .loop .inv .5 ∙ free-end (a .root .0) (a .virt .0 + l .loop .done * 4096) (l .loop .done) (l .before .at-most .result) (c .loop-test .left)
-    (lentMemory (l .loop .words) (l .loop .bitmap) (l .loop .left)) 3)
+returns-2 : tie.Need-returns-2
+returns-2 c =
+    let r = c .before .before in
+    let o = r .before .before .before .before .before in
+    let a = o .before .before .before .args in
+    r .free-blocks .ensures
+    ∙ most-are (a .up) (a .root .0) (a .virt .0) (a .n) (lentMemory (a .words .now) (a .bitmap .now) (a .frames)) (o .before .all-pages .ensures) (o .at-most .ensures)
 
 pub free-pages-spec : {M : Type 1} → statement M
 free-pages-spec =
     tie.close
     (tie.spec
-    Inv-loop
-    μ-loop
+    all-pages-requires
     at-most-requires
-    loop-holds
-    mul-t17
-    add-t18
-    sub-free-span
-    free-span-requires
-    add-done
-    loop-less
-    loop-again
+    free-run-requires
     same-length
-    returns)
+    returns
+    free-blocks-requires
+    same-length-2
+    returns-2)

@@ -1,6 +1,6 @@
--- `map_fresh`: a fresh frame, then its entry below three tables; 13 where that is refused.
+-- `map_fresh`: a fresh frame, then its entry below the tables of the levels above; 13 where that is refused.
 use mathlib.Core.Path.{sym, _∙_}
-use lib.Dec.{lit≤}
+use native.Mathlib.Omega.{arith}
 use Rattle.bitmap.specs.Bitmap.{marksIn}
 use Rattle.paging.specs.Kept.{lentMemory}
 use borrow.Author.Needs.{needs}
@@ -31,8 +31,8 @@ map-entry-requires c κs =
     let a = r .before .before .before .before .args in
     let x = r .fresh-frame in (
       fresh-left {m = lentMemory (a .words .now) (a .bitmap .now) (a .frames)} {m′ = lentMemory (x .last .0) (x .last .1 .0) (x .result .frames)}
-          (x .ensures) 3 (r .before .before .before .before .pre),
-      lit≤ tt,
+          (x .ensures) 4 (r .before .before .before .before .pre .0),
+      (r .before .before .before .before .pre .1, omega arith),
     )
 
 or-failed-requires : tie.Need-or-failed-requires
@@ -47,7 +47,7 @@ returns c =
     let a = r .before .before .before .before .args in
     let x = r .fresh-frame in
     sym
-    (map-fresh-none 3 (a .writable) (a .user) (lentMemory (a .words .now) (a .bitmap .now) (a .frames)) (a .root .0) (a .virt .0) _
+    (map-fresh-none (a .up) (a .writable) (a .user) (lentMemory (a .words .now) (a .bitmap .now) (a .frames)) (a .root .0) (a .virt .0) _
     (lentMemory (x .last .0) (x .last .1 .0) (x .result .frames)) (stepped (x .ensures) (c .before .walked .given .1)))
 
 same-length-2 : tie.Need-same-length-2
@@ -65,7 +65,7 @@ returns-2 c =
     let a = b .args in
     let x = r .fresh-frame in
     let y = e .map-entry in
-    map-fresh-made 3 (a .writable) (a .user) (lentMemory (a .words .now) (a .bitmap .now) (a .frames)) (a .root .0) (a .virt .0) (b .pre .held .low) _
+    map-fresh-made (a .up) (a .writable) (a .user) (lentMemory (a .words .now) (a .bitmap .now) (a .frames)) (a .root .0) (a .virt .0) (b .pre .0 .held .low) _
     (lentMemory (x .last .0) (x .last .1 .0) (x .result .frames)) (stepped (x .ensures) (w .walked2 .given .1))
     (s .set .result .0) (s .before .start-address .result) (s .set .ensures) (s .before .start-address .ensures)
     (y .result) (y .last .0) (marksIn (y .last .1 .0)) (y .ensures) (c .or-failed .result) (c .or-failed .ensures)

@@ -16,27 +16,27 @@ use Rattle.pages.proofs.map_pages.Statement.{statement}
 use Rattle.pages.proofs.map_pages.Tie as tie
 
 abbrev Inv-loop : tie.InvT-loop
-Inv-loop words₀ bitmap₀ root virt n writable user left₀ i₀ words bitmap left i =
-    (i ≤ n) × (length words ≡ length words₀) × RoomToTake (lentMemory words bitmap left) ((n - i) * 4)
-    × (mapPages 3 writable user (lentMemory words₀ bitmap₀ left₀) (root .0) (virt .0) 0 n
-    ≡ mapPages 3 writable user (lentMemory words bitmap left) (root .0) (virt .0 + i * 4096) i (n - i))
+Inv-loop words₀ bitmap₀ up root virt n writable user left₀ i₀ words bitmap left i =
+    (i ≤ n) × (length words ≡ length words₀) × RoomToTake (lentMemory words bitmap left) ((n - i) * 5)
+    × (mapPages up writable user (lentMemory words₀ bitmap₀ left₀) (root .0) (virt .0) 0 n
+    ≡ mapPages up writable user (lentMemory words bitmap left) (root .0) (virt .0 + i * 4096) i (n - i))
 
 abbrev μ-loop : tie.MeasureT-loop
-μ-loop words₀ bitmap₀ root virt n writable user left₀ i₀ words bitmap left i = n - i
+μ-loop words₀ bitmap₀ up root virt n writable user left₀ i₀ words bitmap left i = n - i
 
 loop-holds : tie.Need-loop-holds Inv-loop μ-loop
 loop-holds c = (search needs, refl, roomy-less _ (omega arith) (c .before .pre .0), simp unary-clauses)
 
-mul-t18 : tie.Need-mul-t18 Inv-loop μ-loop
-mul-t18 c = search needs
+mul-t19 : tie.Need-mul-t19 Inv-loop μ-loop
+mul-t19 c = search needs
 
-add-t19 : tie.Need-add-t19 Inv-loop μ-loop
-add-t19 c = search needs
+add-t20 : tie.Need-add-t20 Inv-loop μ-loop
+add-t20 c = search needs
 
 map-fresh-requires : tie.Need-map-fresh-requires Inv-loop μ-loop
 map-fresh-requires c κs =
     let t = c .before .before .before in
-    roomy-less 4 (omega (arith, t .loop-test .taken)) (t .before .loop .inv .2)
+    (roomy-less 5 (omega (arith, t .loop-test .taken)) (t .before .loop .inv .2), t .before .before .before .pre .1 .1)
 
 enum-known-walked : tie.Need-enum-known-walked Inv-loop μ-loop
 enum-known-walked c = c .match .keys1
@@ -52,7 +52,7 @@ returns c =
     let a = l .before .before .args in
     let i = l .loop .i in
     let x = r .map-fresh in
-    turn-stop (a .root .0) (a .virt .0) i (a .n) (t .loop-test .taken) (a .writable) (a .user) (lentMemory (l .loop .words) (l .loop .bitmap) (l .loop .left))
+    turn-stop (a .root .0) (a .virt .0) i (a .n) (t .loop-test .taken) (a .up) (a .writable) (a .user) (lentMemory (l .loop .words) (l .loop .bitmap) (l .loop .left))
     (lentMemory (x .last .0) (x .last .1 .0) (x .result .frames)) (x .ensures) (l .loop .inv .3) _ (c .before .walked .given .1)
 
 enum-told : tie.Need-enum-told Inv-loop μ-loop
@@ -78,9 +78,9 @@ loop-again c =
     let x = r .map-fresh in (
       onward i (a .n) (t .loop-test .taken),
       x .kept .0 ∙ l .loop .inv .1,
-      turn-left (a .root .0) (a .virt .0) i (a .n) (t .loop-test .taken) (a .writable) (a .user) (lentMemory (l .loop .words) (l .loop .bitmap) (l .loop .left))
-          (lentMemory (x .last .0) (x .last .1 .0) (x .result .frames)) (x .ensures) (l .loop .inv .2),
-      turn-on (a .root .0) (a .virt .0) i (a .n) (t .loop-test .taken) (a .writable) (a .user) (lentMemory (l .loop .words) (l .loop .bitmap) (l .loop .left))
+      turn-left (a .root .0) (a .virt .0) i (a .n) (t .loop-test .taken) (a .up) (a .writable) (a .user) (lentMemory (l .loop .words) (l .loop .bitmap) (l .loop .left))
+          (lentMemory (x .last .0) (x .last .1 .0) (x .result .frames)) (x .ensures) (l .before .before .pre .1 .1) (l .loop .inv .2),
+      turn-on (a .root .0) (a .virt .0) i (a .n) (t .loop-test .taken) (a .up) (a .writable) (a .user) (lentMemory (l .loop .words) (l .loop .bitmap) (l .loop .left))
           (lentMemory (x .last .0) (x .last .1 .0) (x .result .frames)) (x .ensures) (l .loop .inv .3) _ (c .enum-told .given .1),
     )
 
@@ -95,7 +95,7 @@ returns-2 c =
     sym
     (l .loop .inv .3
     ∙ run-end (a .root .0) (a .virt .0 + l .loop .i * 4096) (l .loop .i) (a .n) (c .loop-test .left)
-    (lentMemory (l .loop .words) (l .loop .bitmap) (l .loop .left)) 3 (a .writable)
+    (lentMemory (l .loop .words) (l .loop .bitmap) (l .loop .left)) (a .up) (a .writable)
     (a .user)
     ∙ λ j. ran (Value 0) (e j) (lentMemory (l .loop .words) (l .loop .bitmap) (l .loop .left)))
 
@@ -106,8 +106,8 @@ map-pages-spec =
     Inv-loop
     μ-loop
     loop-holds
-    mul-t18
-    add-t19
+    mul-t19
+    add-t20
     map-fresh-requires
     enum-known-walked
     same-length

@@ -1,6 +1,5 @@
 -- The call, its line, and the board with what it was lent.
-use Rattle.paging.specs.Levels.{aboveLast}
-use Rattle.fault.specs.Faults.{Faulting, handleFault}
+use Rattle.fault.specs.Faults.{Faulting, handleFaultOf}
 use Rattle.player.proofs.Turns.{fault-turn}
 use borrow.Author.Needs.{needs}
 use Rattle.player.proofs.play_fault.Statement.{statement}
@@ -24,7 +23,7 @@ returns c =
     let s = v .before .before .before .before .before .before .before .before in
     let a = s .args in
     fault-turn (a .records) (a .words .now) (a .bitmap .now) (a .marked .now) 5 _ (c .answer-line .ensures)
-    (λ (f : Faulting). handleFault aboveLast f (a .records .root .0) (a .c .addr) (a .c .code)) (s .pre) (v .handle-page-fault .ensures .0) (v .handle-page-fault .ensures .1)
+    (λ (f : Faulting). handleFaultOf f (a .records .root .0) (a .c .addr) (a .c .code)) (s .pre) (v .handle-page-fault .ensures .0) (v .handle-page-fault .ensures .1)
 
 pub play-fault-spec : {M : Type 1} → statement M
 play-fault-spec =

@@ -3,8 +3,7 @@ use mir.Val.{SFits}
 use mir.Facts.{toZ-ofZ}
 use mir.Syntax.{w32}
 use Rattle.address.specs.Address.{asVirt, virtLine}
-use Rattle.paging.specs.Levels.{aboveLast}
-use Rattle.mmap.specs.Calls.{User, mmap}
+use Rattle.mmap.specs.Calls.{User, mmapOf}
 use Rattle.mmap.specs.Packed.{optAddr}
 use Rattle.release.specs.Calls.{play as playRegions}
 use Rattle.player.proofs.Turns.{user-turn}
@@ -39,7 +38,7 @@ returns c =
     let f : SFits w32 (a .c .flags) = search (needs, told) in
     let e = rw (toZ-ofZ p, toZ-ofZ f, o .opt-addr .ensures) at (v .mmap .ensures) in
     user-turn (a .records) (a .words .now) (a .bitmap .now) (a .user .now) 3 asVirt virtLine _ (c .virt-line .ensures)
-    (λ (u : User). mmap aboveLast u (a .records .root .0) (optAddr (a .c .given) (a .c .addr)) (a .c .size) (a .c .prot) (a .c .flags)) (s .pre) (e .0) (e .1)
+    (λ (u : User). mmapOf u (a .records .root .0) (optAddr (a .c .given) (a .c .addr)) (a .c .size) (a .c .prot) (a .c .flags)) (s .pre) (e .0) (e .1)
 
 pub play-mmap-spec : {M : Type 1} → statement M
 play-mmap-spec =

@@ -1,8 +1,7 @@
 -- The call, its line, and the board with what it was lent.
 use Rattle.answer.specs.Numbers.{answerLine}
 use Rattle.answer.specs.Outcomes.{asAnswer}
-use Rattle.paging.specs.Levels.{aboveLast}
-use Rattle.mmap.specs.Calls.{User, munmap}
+use Rattle.mmap.specs.Calls.{User, munmapOf}
 use Rattle.release.specs.Calls.{play as playRegions}
 use Rattle.player.proofs.Turns.{user-turn}
 use borrow.Author.Needs.{needs}
@@ -28,7 +27,7 @@ returns c =
     let s = v .before .before .before .before .before .before .before .before in
     let a = s .args in
     user-turn (a .records) (a .words .now) (a .bitmap .now) (a .user .now) 4 asAnswer answerLine _ (c .answer-line .ensures)
-    (λ (u : User). munmap aboveLast u (a .records .root .0) (a .c .addr) (a .c .size)) (s .pre) (v .munmap .ensures .0) (v .munmap .ensures .1)
+    (λ (u : User). munmapOf u (a .records .root .0) (a .c .addr) (a .c .size)) (s .pre) (v .munmap .ensures .0) (v .munmap .ensures .1)
 
 pub play-munmap-spec : {M : Type 1} → statement M
 play-munmap-spec =

@@ -1,8 +1,7 @@
 -- The call, its line, and the board with what it was lent.
 use Rattle.answer.specs.Numbers.{answerLine}
 use Rattle.answer.specs.Outcomes.{asAnswer}
-use Rattle.paging.specs.Levels.{aboveLast}
-use Rattle.vmalloc.specs.Calls.{Kernel, vfree}
+use Rattle.vmalloc.specs.Calls.{Kernel, vfreeOf}
 use Rattle.release.specs.Calls.{play as playRegions}
 use Rattle.player.proofs.Turns.{kernel-turn}
 use borrow.Author.Needs.{needs}
@@ -28,7 +27,7 @@ returns c =
     let s = v .before .before .before .before .before .before .before .before in
     let a = s .args in
     kernel-turn (a .records) (a .words .now) (a .bitmap .now) (a .kernel .now) 2 asAnswer answerLine _ (c .answer-line .ensures)
-    (λ (k : Kernel). vfree aboveLast k (a .records .root .0) (a .addr)) (s .pre) (v .vfree .ensures .0) (v .vfree .ensures .1)
+    (λ (k : Kernel). vfreeOf k (a .records .root .0) (a .addr)) (s .pre) (v .vfree .ensures .0) (v .vfree .ensures .1)
 
 pub play-vfree-spec : {M : Type 1} → statement M
 play-vfree-spec =

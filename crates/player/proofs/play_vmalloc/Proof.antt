@@ -1,7 +1,6 @@
 -- The call, its line, and the board with what it was lent.
 use Rattle.address.specs.Address.{asVirt, virtLine}
-use Rattle.paging.specs.Levels.{aboveLast}
-use Rattle.vmalloc.specs.Calls.{Kernel, vmalloc}
+use Rattle.vmalloc.specs.Calls.{Kernel, vmallocOf}
 use Rattle.release.specs.Calls.{play as playRegions}
 use Rattle.player.proofs.Turns.{kernel-turn}
 use borrow.Author.Needs.{needs}
@@ -27,7 +26,7 @@ returns c =
     let s = v .before .before .before .before .before .before .before .before in
     let a = s .args in
     kernel-turn (a .records) (a .words .now) (a .bitmap .now) (a .kernel .now) 1 asVirt virtLine _ (c .virt-line .ensures)
-    (λ (k : Kernel). vmalloc aboveLast k (a .records .root .0) (a .size)) (s .pre) (v .vmalloc .ensures .0) (v .vmalloc .ensures .1)
+    (λ (k : Kernel). vmallocOf k (a .records .root .0) (a .size)) (s .pre) (v .vmalloc .ensures .0) (v .vmalloc .ensures .1)
 
 pub play-vmalloc-spec : {M : Type 1} → statement M
 play-vmalloc-spec =

@@ -1,40 +1,44 @@
--- `leaves_apart`: the end of the leaves, moved down for each entry on the way. The invariant: so it is for the levels that were looked at.
+-- `leaves_apart`: the end of the leaves, moved down for each entry on the way. The invariant: so it is for the entries that were looked at.
 use Prim.Native.Nat.{ℕ, _≤_, _<_, _-_, _+_}
 use mathlib.Core.List.{List}
 use mathlib.Core.Path.{_≡_}
 use mathlib.Core.Logic.{_⊎_, inl, inr, ⊎-elim}
 use native.Mathlib.Omega.{arith}
 use lib.ListN.{getD}
-use mir.Facts.{fits-lit}
 use borrow.Author.Count.{below-more}
 use borrow.Author.Needs.{needs}
-use Rattle.bits.proofs.Counter.{onward, fewer, next-fits}
+use Rattle.bits.proofs.Counter.{onward, fewer, level-fits}
+use Rattle.entry.specs.Entry.{index}
 use Rattle.spans.proofs.leaves_apart.Statement.{statement}
 use Rattle.spans.proofs.leaves_apart.Tie as tie
 
--- the entries on the way down to a level, if they are entries of table t, come before the leaves from `from` to `end`, or are not before the last of them
-abbrev Passed : List ℕ → List ℕ → ℕ → ℕ → ℕ → ℕ → Type 0
-Passed above is t from end level = (l : ℕ) → l < level → getD above l 0 ≡ t → (getD is l 0 < from) ⊎ (end ≤ getD is l 0 + 1)
+-- entry x of table t comes before the leaves from `from` to `end`, or is not before the last of them
+abbrev Past : ℕ → ℕ → ℕ → Type 0
+Past x from end = (x < from) ⊎ (end ≤ x + 1)
 
--- one level more
-more : (above is : List ℕ) (t from end end′ level : ℕ) → end′ ≤ end → Passed above is t from end level
-    → (getD above level 0 ≡ t → (getD is level 0 < from) ⊎ (end′ ≤ getD is level 0 + 1)) → Passed above is t from end′ (level + 1)
-more above is t from end end′ level less h k =
-    below-more (λ l. getD above l 0 ≡ t → (getD is l 0 < from) ⊎ (end′ ≤ getD is l 0 + 1)) level
+-- so it is for each of the first entries on the way that is one of table t
+abbrev Passed : List ℕ → ℕ → ℕ → ℕ → ℕ → ℕ → ℕ → Type 0
+Passed above up v t from end passed = (l : ℕ) → l < passed → getD above l 0 ≡ t → Past (index (up - l) v) from end
+
+-- one entry more
+more : (above : List ℕ) (up v t from end end′ passed : ℕ) → end′ ≤ end → Passed above up v t from end passed
+    → (getD above passed 0 ≡ t → Past (index (up - passed) v) from end′) → Passed above up v t from end′ (passed + 1)
+more above up v t from end end′ passed less h k =
+    below-more (λ l. getD above l 0 ≡ t → Past (index (up - l) v) from end′) passed
     (λ l b e. ⊎-elim (λ x. inl x) (λ x. inr (omega arith)) (h l b e)) k
 
 abbrev Inv-loop : tie.InvT-loop
-Inv-loop t above indices from end₀ level₀ end level =
-    (level ≤ 3) × (from < end) × (end ≤ 512) × Passed above indices t from end level
+Inv-loop up virt t above from end₀ passed₀ end passed =
+    (passed ≤ up) × (from < end) × (end ≤ 512) × Passed above up (virt .0) t from end passed
 
 abbrev μ-loop : tie.MeasureT-loop
-μ-loop t above indices from end₀ level₀ end level = 3 - level
+μ-loop up virt t above from end₀ passed₀ end passed = up - passed
 
-array-read-from : tie.Need-array-read-from Inv-loop μ-loop
-array-read-from c = search needs
+page-index-requires : tie.Need-page-index-requires Inv-loop μ-loop
+page-index-requires c κs = search needs
 
 loop-holds : tie.Need-loop-holds Inv-loop μ-loop
-loop-holds c = (search needs, c .pre 3, search needs, λ l h. absurd (omega arith))
+loop-holds c = (search needs, c .page-index .ensures .1, search needs, λ l h. absurd (omega arith))
 
 mul-if1 : tie.Need-mul-if1 Inv-loop μ-loop
 mul-if1 c = search needs
@@ -42,35 +46,36 @@ mul-if1 c = search needs
 array-read-if1 : tie.Need-array-read-if1 Inv-loop μ-loop
 array-read-if1 c = search needs
 
-mul-stop-past : tie.Need-mul-stop-past Inv-loop μ-loop
-mul-stop-past c = search needs
+sub-page-index : tie.Need-sub-page-index Inv-loop μ-loop
+sub-page-index c = search needs
 
-array-read-stop-past : tie.Need-array-read-stop-past Inv-loop μ-loop
-array-read-stop-past c = search needs
+page-index-requires-2 : tie.Need-page-index-requires-2 Inv-loop μ-loop
+page-index-requires-2 c κs = search needs
 
 stop-past-requires : tie.Need-stop-past-requires Inv-loop μ-loop
 stop-past-requires c κs = search needs
 
-add-level : tie.Need-add-level Inv-loop μ-loop
-add-level c = let t = c .before in next-fits (t .before .loop .level) 3 (t .loop-test .taken) (fits-lit tt)
+add-passed : tie.Need-add-passed Inv-loop μ-loop
+add-passed c = let t = c .before in level-fits (t .before .loop .passed) (t .before .before .before .args .up) (t .loop-test .taken) (t .before .before .before .pre)
 
 loop-less : tie.Need-loop-less Inv-loop μ-loop
-loop-less c = let t = c .before in fewer (t .before .loop .level) 3 (t .loop-test .taken)
+loop-less c = let t = c .before in fewer (t .before .loop .passed) (t .before .before .before .args .up) (t .loop-test .taken)
 
 loop-again : tie.Need-loop-again Inv-loop μ-loop
 loop-again c =
     let l = c .before .before in
-    let a = l .before .args in
-    let next = more (a .t1) (a .t2) (a .t) (getD (a .t2) 3 0) (l .loop .end) (c .if1 .end) (l .loop .level) in
+    let a = l .before .before .args in
+    let next = more (a .t1) (a .up) (a .virt .0) (a .t) (l .before .page-index .result) (l .loop .end) (c .if1 .end) (l .loop .passed) in
+    let on = onward (l .loop .passed) (a .up) (c .before .loop-test .taken) in
     ⊎-elim
-    (λ w. let p = w .1 .ensures in (
-      onward (l .loop .level) 3 (c .before .loop-test .taken),
-      rw (w .2) (p .0),
-      omega (arith, w .2, p .1 .0, l .loop .inv .2),
-      next (omega (arith, w .2, p .1 .0)) (l .loop .inv .3) (λ _. rw (w .2) (p .1 .1)),
+    (λ w. let p = w .2 .ensures in (
+      on,
+      rw (w .3) (p .0),
+      omega (arith, w .3, p .1 .0, l .loop .inv .2),
+      next (omega (arith, w .3, p .1 .0)) (l .loop .inv .3) (λ _. rw (w .3, ← w .1 .ensures .0) (p .1 .1)),
     ))
     (λ w. (
-      onward (l .loop .level) 3 (c .before .loop-test .taken),
+      on,
       omega (arith, w .1, l .loop .inv .1),
       omega (arith, w .1, l .loop .inv .2),
       next (omega (arith, w .1)) (l .loop .inv .3) (λ e. absurd (w .0 .left e)),
@@ -83,11 +88,11 @@ sub-result c = search needs
 returns : tie.Need-returns Inv-loop μ-loop
 returns c =
     let l = c .before in
-    let e = l .loop .end in (
+    let i = l .before .page-index .ensures .0 in (
       omega (arith, l .loop .inv .1),
       (
-        omega (arith, l .loop .inv .1, l .loop .inv .2),
-        λ k h q. ⊎-elim (λ x. inl x) (λ x. inr (omega (arith, l .loop .inv .1))) (l .loop .inv .3 k (omega (arith, c .loop-test .left)) q),
+        omega (arith, i, l .loop .inv .1, l .loop .inv .2),
+        λ k h q. ⊎-elim (λ x. inl (omega (arith, i))) (λ x. inr (omega (arith, i, l .loop .inv .1))) (l .loop .inv .3 k (omega (arith, c .loop-test .left)) q),
       ),
     )
 
@@ -97,14 +102,14 @@ leaves-apart-spec =
     (tie.spec
     Inv-loop
     μ-loop
-    array-read-from
+    page-index-requires
     loop-holds
     mul-if1
     array-read-if1
-    mul-stop-past
-    array-read-stop-past
+    sub-page-index
+    page-index-requires-2
     stop-past-requires
-    add-level
+    add-passed
     loop-less
     loop-again
     sub-result

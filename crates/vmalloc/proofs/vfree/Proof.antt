@@ -1,15 +1,15 @@
 -- `vfree`: 10, 16 for the null address, or the used region at the address.
+use Prim.Native.Nat.{_-_}
 use mathlib.Core.Path.{_≡_}
 use mathlib.Core.Bool.{true}
 use Rattle.answer.specs.Numbers.{regionNotFound}
 use Rattle.answer.specs.Outcomes.{asAnswer}
 use Rattle.frame.proofs.Laws.{passed, failed}
-use Rattle.paging.specs.Levels.{aboveLast}
 use Rattle.paging.specs.Map.{Memory}
 use Rattle.paging.specs.Kept.{lentMemory}
 use Rattle.regions.specs.Regions.{fits}
 use Rattle.vm_list.specs.Packed.{vmIn}
-use Rattle.vmalloc.specs.Calls.{Kernel, kernel, KernelDid, vfree}
+use Rattle.vmalloc.specs.Calls.{Kernel, kernel, KernelDid, vfreeOf}
 use Rattle.vmalloc.specs.Packed.{soundLent}
 use Rattle.vmalloc.proofs.Calls.{vfree-broken, vfree-null, vfree-is}
 use Rattle.vmalloc.proofs.Told.{told-on, told-refused, told-broken}
@@ -22,7 +22,7 @@ abbrev lent : tie.Start → Memory
 lent s = lentMemory (s .args .words .now) (s .args .bitmap .now) (s .args .frames)
 
 abbrev called : tie.Start → Kernel → KernelDid
-called s k = vfree aboveLast k (s .args .root .0) (s .args .addr .0)
+called s k = vfreeOf k (s .args .root .0) (s .args .addr .0)
 
 -- nothing is broken
 good : (e : tie.Else1) → let s = e .before .before .before .before .before .before .before in soundLent (lent s) (s .args .list .now) (s .args .root .0) ≡ true
@@ -41,7 +41,7 @@ returns : tie.Need-returns
 returns c =
     let s = c .before .before .before .before .before .before .before in
     told-broken asAnswer (called s) (lent s) (s .args .list .now) (s .args .root .0) (failed (c .before .is-whole .ensures) (c .if1 .taken)) (λ k. c .before .before .before .before .before .slice-known2 .given k .fits)
-    (vfree-broken aboveLast (kernel (lent s) (vmIn (s .args .list .now))) (s .args .root .0) (s .args .addr .0))
+    (vfree-broken (s .args .frames .levels - 1) (kernel (lent s) (vmIn (s .args .list .now))) (s .args .root .0) (s .args .addr .0))
 
 same-length-3 : tie.Need-same-length-3
 same-length-3 c = search needs
@@ -54,7 +54,7 @@ returns-2 c =
     let s = c .before .before .before .before .before .before .before .before .before in
     let g = good (c .before .before) in
     told-refused asAnswer (called s) (lent s) (s .args .list .now) (lent-fit (lent s) (s .args .list .now) (s .args .root .0) g) (λ k. c .before .before .before .before .before .before .before .slice-known2 .given k .fits) regionNotFound
-    (vfree-null aboveLast (kernel (lent s) (vmIn (s .args .list .now))) (s .args .root .0) (s .args .addr .0) (lent-kernel (lent s) (s .args .list .now) (s .args .root .0) g) (c .if2 .taken))
+    (vfree-null (s .args .frames .levels - 1) (kernel (lent s) (vmIn (s .args .list .now))) (s .args .root .0) (s .args .addr .0) (lent-kernel (lent s) (s .args .list .now) (s .args .root .0) g) (c .if2 .taken))
 
 free-requires : tie.Need-free-requires
 free-requires c κs = good (c .before .before .before .before .before)
@@ -72,7 +72,7 @@ returns-3 c =
     let s = c .before .before .before .before .before .before .before .before .before .before .before .before .before .before .before .before .before in
     let g = good (c .before .before .before .before .before .before .before .before .before .before) in
     told-on asAnswer (called s) (lent s) (s .args .list .now) (lent-fit (lent s) (s .args .list .now) (s .args .root .0) g)
-    (vfree-is aboveLast (kernel (lent s) (vmIn (s .args .list .now))) (s .args .root .0) (s .args .addr .0) (lent-kernel (lent s) (s .args .list .now) (s .args .root .0) g) (e .if2 .left)) (l .free .ensures)
+    (vfree-is (s .args .frames .levels - 1) (kernel (lent s) (vmIn (s .args .list .now))) (s .args .root .0) (s .args .addr .0) (lent-kernel (lent s) (s .args .list .now) (s .args .root .0) g) (e .if2 .left)) (l .free .ensures)
 
 pub vfree-spec : {M : Type 1} → statement M
 vfree-spec =

@@ -1,17 +1,17 @@
 -- `vmalloc`: 10, 1, 3, or the first free region large enough.
+use Prim.Native.Nat.{_-_}
 use mathlib.Core.Path.{_≡_, sym, _∙_, ap}
 use mathlib.Core.Bool.{true}
 use Rattle.allocator.specs.Round.{rounded}
 use Rattle.answer.specs.Numbers.{sizeZero}
 use Rattle.answer.specs.declared.Outcome.{Outcome}
 use Rattle.frame.proofs.Laws.{passed, failed}
-use Rattle.paging.specs.Levels.{aboveLast}
 use Rattle.paging.specs.Map.{Memory}
 use Rattle.address.specs.Address.{asVirt}
 use Rattle.paging.specs.Kept.{lentMemory}
 use Rattle.regions.specs.Regions.{fits}
 use Rattle.vm_list.specs.Packed.{vmIn}
-use Rattle.vmalloc.specs.Calls.{Kernel, kernel, KernelDid, kernelSized, vmalloc}
+use Rattle.vmalloc.specs.Calls.{Kernel, kernel, KernelDid, kernelSized, vmallocOf}
 use Rattle.vmalloc.specs.Packed.{soundLent}
 use Rattle.vmalloc.proofs.Calls.{vmalloc-broken, vmalloc-empty, vmalloc-sized}
 use Rattle.vmalloc.proofs.Told.{told-on, told-refused, told-broken}
@@ -24,7 +24,7 @@ abbrev lent : tie.Start → Memory
 lent s = lentMemory (s .args .words .now) (s .args .bitmap .now) (s .args .frames)
 
 abbrev called : tie.Start → Kernel → KernelDid
-called s k = vmalloc aboveLast k (s .args .root .0) (s .args .size)
+called s k = vmallocOf k (s .args .root .0) (s .args .size)
 
 -- nothing is broken
 good : (e : tie.Else1) → let s = e .before .before .before .before .before .before .before in soundLent (lent s) (s .args .list .now) (s .args .root .0) ≡ true
@@ -32,10 +32,10 @@ good e = passed (e .before .is-whole .ensures) (e .if1 .left)
 
 -- what the rounded size leads to
 rounds : (s : tie.Start) {a : Outcome} → soundLent (lent s) (s .args .list .now) (s .args .root .0) ≡ true → (s .args .size ≡ 0 → ⊥) → rounded (s .args .size) ≡ a
-    → called s (kernel (lent s) (vmIn (s .args .list .now))) ≡ kernelSized aboveLast (kernel (lent s) (vmIn (s .args .list .now))) (s .args .root .0) a
+    → called s (kernel (lent s) (vmIn (s .args .list .now))) ≡ kernelSized (s .args .frames .levels - 1) (kernel (lent s) (vmIn (s .args .list .now))) (s .args .root .0) a
 rounds s h z e =
     let k = kernel (lent s) (vmIn (s .args .list .now)) in
-    vmalloc-sized aboveLast k (s .args .root .0) (s .args .size) (lent-kernel (lent s) (s .args .list .now) (s .args .root .0) h) z ∙ ap (kernelSized aboveLast k (s .args .root .0)) e
+    vmalloc-sized (s .args .frames .levels - 1) k (s .args .root .0) (s .args .size) (lent-kernel (lent s) (s .args .list .now) (s .args .root .0) h) z ∙ ap (kernelSized (s .args .frames .levels - 1) k (s .args .root .0)) e
 
 is-whole-requires : tie.Need-is-whole-requires
 is-whole-requires c κs = search needs
@@ -50,7 +50,7 @@ returns : tie.Need-returns
 returns c =
     let s = c .before .before .before .before .before .before .before in
     told-broken asVirt (called s) (lent s) (s .args .list .now) (s .args .root .0) (failed (c .before .is-whole .ensures) (c .if1 .taken)) (λ k. c .before .before .before .before .before .slice-known2 .given k .fits)
-    (vmalloc-broken aboveLast (kernel (lent s) (vmIn (s .args .list .now))) (s .args .root .0) (s .args .size))
+    (vmalloc-broken (s .args .frames .levels - 1) (kernel (lent s) (vmIn (s .args .list .now))) (s .args .root .0) (s .args .size))
 
 same-length-3 : tie.Need-same-length-3
 same-length-3 c = search needs
@@ -63,7 +63,7 @@ returns-2 c =
     let s = c .before .before .before .before .before .before .before .before in
     let g = good (c .before) in
     told-refused asVirt (called s) (lent s) (s .args .list .now) (lent-fit (lent s) (s .args .list .now) (s .args .root .0) g) (λ k. c .before .before .before .before .before .before .slice-known2 .given k .fits) sizeZero
-    (vmalloc-empty aboveLast (kernel (lent s) (vmIn (s .args .list .now))) (s .args .root .0) (s .args .size) (lent-kernel (lent s) (s .args .list .now) (s .args .root .0) g) (c .if2 .taken))
+    (vmalloc-empty (s .args .frames .levels - 1) (kernel (lent s) (vmIn (s .args .list .now))) (s .args .root .0) (s .args .size) (lent-kernel (lent s) (s .args .list .now) (s .args .root .0) g) (c .if2 .taken))
 
 page-align-up-requires : tie.Need-page-align-up-requires
 page-align-up-requires c κs = search needs

@@ -1,8 +1,7 @@
 -- A frame record that does not fit, or the call on it unpacked; words, bitmap and marked pages are changed where they stand.
 use borrow.Author.Needs.{needs}
 use borrow.Author.Tests.{eq-eqb, ne-eqb}
-use Rattle.paging.specs.Levels.{aboveLast}
-use Rattle.fault.specs.Faults.{Faulting, FaultDid, handleFault}
+use Rattle.fault.specs.Faults.{Faulting, FaultDid, handleFaultOf}
 use Rattle.layout.specs.Parts.{fieldsSize}
 use Rattle.layout.specs.Left.{faultLeftovers}
 use Rattle.layout.proofs.Left.{contract-broken, contract-met}
@@ -11,7 +10,7 @@ use Rattle.desk_faults.proofs.faults.gadulnos_handle_page_fault.Stateme
 use Rattle.desk_faults.proofs.faults.gadulnos_handle_page_fault.Tie as tie
 
 abbrev call : tie.Start → Faulting → FaultDid
-call s f = handleFault aboveLast f (s .args .root) (s .args .addr) (s .args .code)
+call s f = handleFaultOf f (s .args .root) (s .args .addr) (s .args .code)
 
 broken-requires : tie.Need-broken-requires
 broken-requires c κs = search needs

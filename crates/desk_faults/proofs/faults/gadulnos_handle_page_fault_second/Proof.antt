@@ -1,9 +1,8 @@
 -- A frame record that does not fit, or the call on it unpacked; words and bitmap are changed where they stand.
 use borrow.Author.Needs.{needs}
 use borrow.Author.Tests.{eq-eqb, ne-eqb}
-use Rattle.paging.specs.Levels.{aboveLast}
 use Rattle.paging.specs.Map.{Memory, Out}
-use Rattle.handler.specs.Handler.{handleFaultSecond}
+use Rattle.handler.specs.Handler.{handleFaultSecondOf}
 use Rattle.layout.specs.Parts.{fieldsSize}
 use Rattle.layout.specs.Left.{secondLeftovers}
 use Rattle.layout.proofs.Left.{memory-broken, memory-met, contract-broken, contract-met}
@@ -12,7 +11,7 @@ use Rattle.desk_faults.proofs.faults.gadulnos_handle_page_fault_second.
 use Rattle.desk_faults.proofs.faults.gadulnos_handle_page_fault_second.Tie as tie
 
 abbrev call : tie.Start → Memory → Out
-call s m = handleFaultSecond aboveLast m (s .args .root) (s .args .addr) (s .args .code)
+call s m = handleFaultSecondOf m (s .args .root) (s .args .addr) (s .args .code)
 
 broken-requires : tie.Need-broken-requires
 broken-requires c κs = search needs

@@ -7,16 +7,15 @@ use Rattle.layout.proofs.Left.{memory-broken, memory-met, contract-broken, cont
 use Rattle.layout.specs.Left.{tableLeftovers}
 use Rattle.layout.specs.Memory.{memoryParts, onMemory}
 use Rattle.paging.specs.declared.HugePageSize.{HugePageSize}
-use Rattle.paging.specs.Levels.{aboveLast}
 use Rattle.paging.specs.Map.{Memory, Out}
-use Rattle.paging.specs.Calls.{mapHuge}
+use Rattle.paging.specs.Calls.{mapHugeOf}
 use Rattle.desk_memory.specs.Memory.{hugeOf}
 use Rattle.desk_memory.proofs.LeftMemory.{huge-refused}
 use Rattle.desk_memory.proofs.tables.gadulnos_map_huge_page.Statement.{statement}
 use Rattle.desk_memory.proofs.tables.gadulnos_map_huge_page.Tie as tie
 
 abbrev call : tie.Start → HugePageSize → Memory → Out
-call s z m = mapHuge aboveLast m (s .args .root) (s .args .virt) (s .args .phys) z (s .args .writable) (s .args .user)
+call s z m = mapHugeOf m (s .args .root) (s .args .virt) (s .args .phys) z (s .args .writable) (s .args .user)
 
 broken-requires : tie.Need-broken-requires
 broken-requires c κs = search needs

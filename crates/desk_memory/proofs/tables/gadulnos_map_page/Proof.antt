@@ -4,15 +4,14 @@ use borrow.Author.Tests.{eq-eqb, ne-eqb}
 use Rattle.layout.specs.Parts.{fieldsSize}
 use Rattle.layout.proofs.Left.{memory-broken, memory-met, contract-broken, contract-met}
 use Rattle.layout.specs.Left.{tableLeftovers}
-use Rattle.paging.specs.Levels.{aboveLast}
 use Rattle.paging.specs.Map.{Memory, Out}
-use Rattle.paging.specs.Calls.{mapPage}
+use Rattle.paging.specs.Calls.{mapPageOf}
 use Rattle.desk_memory.proofs.LeftMemory.{map-refused}
 use Rattle.desk_memory.proofs.tables.gadulnos_map_page.Statement.{statement}
 use Rattle.desk_memory.proofs.tables.gadulnos_map_page.Tie as tie
 
 abbrev call : tie.Start → Memory → Out
-call s m = mapPage aboveLast m (s .args .root) (s .args .virt) (s .args .phys) (s .args .writable) (s .args .user)
+call s m = mapPageOf m (s .args .root) (s .args .virt) (s .args .phys) (s .args .writable) (s .args .user)
 
 broken-requires : tie.Need-broken-requires
 broken-requires c κs = search needs

@@ -18,8 +18,8 @@ returns : tie.Need-returns
 returns c =
     let did = c .before .before .before in
     let a = did .before .before .before .args in
-    contract-met noLeftovers (unmap-left (a .words .now) (a .start) (a .total) (a .root) (a .virt) (did .unmap-page .ensures) (c .frame-line .ensures))
-    (unmap-refused (a .words .now) (a .start) (a .total) (a .root) (a .virt))
+    contract-met noLeftovers (unmap-left (a .words .now) (a .start) (a .total) (a .levels) (a .root) (a .virt) (did .unmap-page .ensures) (c .frame-line .ensures))
+    (unmap-refused (a .words .now) (a .start) (a .total) (a .levels) (a .root) (a .virt))
 
 pub gadulnos-unmap-page-spec : {M : Type 1} → statement M
 gadulnos-unmap-page-spec =

@@ -4,8 +4,7 @@ use borrow.Author.Needs.{needs}
 use borrow.Author.Tests.{eq-eqb, ne-eqb}
 use Rattle.answer.specs.Numbers.{answerLine}
 use Rattle.answer.specs.Outcomes.{asAnswer}
-use Rattle.paging.specs.Levels.{aboveLast}
-use Rattle.vmalloc.specs.Calls.{Kernel, KernelDid, vfree}
+use Rattle.vmalloc.specs.Calls.{Kernel, KernelDid, vfreeOf}
 use Rattle.layout.specs.Parts.{fieldsSize}
 use Rattle.layout.specs.Left.{noLeftovers}
 use Rattle.layout.proofs.Left.{contract-broken, contract-met}
@@ -14,7 +13,7 @@ use Rattle.desk_regions.proofs.kernel.gadulnos_vfree.Statement.{stateme
 use Rattle.desk_regions.proofs.kernel.gadulnos_vfree.Tie as tie
 
 abbrev call : tie.Start → Kernel → KernelDid
-call s k = vfree aboveLast k (s .args .root) (s .args .addr)
+call s k = vfreeOf k (s .args .root) (s .args .addr)
 
 broken-requires : tie.Need-broken-requires
 broken-requires c κs = search needs

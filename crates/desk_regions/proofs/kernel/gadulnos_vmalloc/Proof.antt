@@ -3,8 +3,7 @@ use mathlib.Core.Path.{refl}
 use borrow.Author.Needs.{needs}
 use borrow.Author.Tests.{eq-eqb, ne-eqb}
 use Rattle.address.specs.Address.{virtLine, asVirt}
-use Rattle.paging.specs.Levels.{aboveLast}
-use Rattle.vmalloc.specs.Calls.{Kernel, KernelDid, vmalloc}
+use Rattle.vmalloc.specs.Calls.{Kernel, KernelDid, vmallocOf}
 use Rattle.layout.specs.Parts.{fieldsSize}
 use Rattle.layout.specs.Left.{regionLeftovers}
 use Rattle.layout.proofs.Left.{contract-broken, contract-met}
@@ -13,7 +12,7 @@ use Rattle.desk_regions.proofs.kernel.gadulnos_vmalloc.Statement.{state
 use Rattle.desk_regions.proofs.kernel.gadulnos_vmalloc.Tie as tie
 
 abbrev call : tie.Start → Kernel → KernelDid
-call s k = vmalloc aboveLast k (s .args .root) (s .args .size)
+call s k = vmallocOf k (s .args .root) (s .args .size)
 
 broken-requires : tie.Need-broken-requires
 broken-requires c κs = search needs

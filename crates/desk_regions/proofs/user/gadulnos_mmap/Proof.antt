@@ -3,8 +3,7 @@ use mathlib.Core.Path.{refl, _∙_, ap}
 use borrow.Author.Needs.{needs}
 use borrow.Author.Tests.{eq-eqb, ne-eqb}
 use Rattle.address.specs.Address.{virtLine, asVirt}
-use Rattle.paging.specs.Levels.{aboveLast}
-use Rattle.mmap.specs.Calls.{User, UserDid, mmap}
+use Rattle.mmap.specs.Calls.{User, UserDid, mmapOf}
 use Rattle.mmap.specs.Packed.{optAddr}
 use Rattle.mmap.specs.declared.OptAddr.{OptAddr}
 use Rattle.layout.specs.Memory.{listParts}
@@ -21,7 +20,7 @@ use Rattle.desk_regions.proofs.user.gadulnos_mmap.Statement.{statement}
 use Rattle.desk_regions.proofs.user.gadulnos_mmap.Tie as tie
 
 abbrev call : tie.Start → OptAddr × (ℤ × ℤ) → User → UserDid
-call s v u = mmap aboveLast u (s .args .root) (v .0) (s .args .size) (v .1 .0) (v .1 .1)
+call s v u = mmapOf u (s .args .root) (v .0) (s .args .size) (v .1 .0) (v .1 .1)
 
 broken-requires : tie.Need-broken-requires
 broken-requires c κs = search needs
@@ -70,7 +69,7 @@ returns-2 c =
     contract-met regionLeftovers
     (user-met asVirt virtLine (call s (opt .opt-addr .result, (toZ w32 (ofZ w32 (a .prot)), toZ w32 (ofZ w32 (a .flags))))) (a .words .now) (a .fields .now) (a .bits .now) (a .list .now) refl (did .mmap .last .1 .0)
     (eq-eqb _ fieldsSize (e .if1 .left)) (λ i. k .before .slice-known2 .given i .fits) (got .get-fields .ensures) (did .mmap .ensures .0) (c .virt-line .ensures) (put .put-fields .ensures)
-    ∙ ap (λ (v : OptAddr × (ℤ × ℤ)). onUser addressLine (call s v) (listParts (a .words .now) (a .fields .now) (a .bits .now) (a .list .now)))
+    ∙ ap (λ (v : OptAddr × (ℤ × ℤ)). let p = listParts (a .words .now) (a .fields .now) (a .bits .now) (a .list .now) in onUser addressLine (call s v) p)
     (all-three (opt .opt-addr .ensures) (toZ-ofZ (s .fits .prot)) (toZ-ofZ (s .fits .flags))))
     (mmap-refused (a .words .now) (a .fields .now) (a .bits .now) (a .list .now) (λ i. k .before .slice-known2 .given i .fits) (λ i. k .slice-known3 .given i .fits) (a .root) (optAddr (a .given) (a .addr)) (a .size) (a .prot) (a .flags))
 

@@ -4,8 +4,7 @@ use borrow.Author.Needs.{needs}
 use borrow.Author.Tests.{eq-eqb, ne-eqb}
 use Rattle.answer.specs.Numbers.{answerLine}
 use Rattle.answer.specs.Outcomes.{asAnswer}
-use Rattle.paging.specs.Levels.{aboveLast}
-use Rattle.mmap.specs.Calls.{User, UserDid, munmap}
+use Rattle.mmap.specs.Calls.{User, UserDid, munmapOf}
 use Rattle.layout.specs.Parts.{fieldsSize}
 use Rattle.layout.specs.Left.{noLeftovers}
 use Rattle.layout.proofs.Left.{contract-broken, contract-met}
@@ -14,7 +13,7 @@ use Rattle.desk_regions.proofs.user.gadulnos_munmap.Statement.{statemen
 use Rattle.desk_regions.proofs.user.gadulnos_munmap.Tie as tie
 
 abbrev call : tie.Start → User → UserDid
-call s u = munmap aboveLast u (s .args .root) (s .args .addr) (s .args .size)
+call s u = munmapOf u (s .args .root) (s .args .addr) (s .args .size)
 
 broken-requires : tie.Need-broken-requires
 broken-requires c κs = search needs

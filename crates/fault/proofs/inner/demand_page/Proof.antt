@@ -3,7 +3,6 @@ use mathlib.Core.Path.{_≡_, sym, _∙_}
 use mathlib.Core.Bool.{true}
 use Rattle.frame.proofs.Laws.{passed, failed}
 use Rattle.tables.proofs.Laws.{stepped}
-use Rattle.paging.specs.Levels.{aboveLast}
 use Rattle.fault.specs.Faults.{valid}
 use Rattle.copying.proofs.Copying.{taken-roomy, taken-lent, frame-low}
 use Rattle.fault.proofs.Faults.{demand-invalid, demand-fetch, demand-none, demand-map}
@@ -15,7 +14,7 @@ is-valid-requires : tie.Need-is-valid-requires
 is-valid-requires c κs = search needs
 
 returns : tie.Need-returns
-returns c = sym (demand-invalid aboveLast _ _ _ _ (failed (c .before .is-valid .ensures) (c .if1 .taken)))
+returns c = sym (demand-invalid (c .before .before .before .args .up) _ _ _ _ (failed (c .before .is-valid .ensures) (c .if1 .taken)))
 
 is-heap-fetch-requires : tie.Need-is-heap-fetch-requires
 is-heap-fetch-requires c κs = search needs
@@ -25,7 +24,7 @@ fits : (c : tie.Else1) → valid (c .before .before .before .args .page .0) ≡ 
 fits c = passed (c .before .is-valid .ensures) (c .if1 .left)
 
 returns-2 : tie.Need-returns-2
-returns-2 c = sym (demand-fetch aboveLast _ _ _ _ (fits (c .before .before)) (sym (c .before .is-heap-fetch .ensures) ∙ c .if2 .taken))
+returns-2 c = sym (demand-fetch (c .before .before .before .before .before .args .up) _ _ _ _ (fits (c .before .before)) (sym (c .before .is-heap-fetch .ensures) ∙ c .if2 .taken))
 
 raw-frame-requires : tie.Need-raw-frame-requires
 raw-frame-requires c κs = search needs
@@ -47,14 +46,14 @@ map-frame-requires c κs =
     let r = c .before .before .before .before .before .before .before .before in
     let s = r .before .before .before .before .before .before .before in
     let e = r .raw-frame .ensures (s .args .words .now) in
-    let room = taken-roomy _ e aboveLast (s .pre) in
-    (room, frame-low _ room (taken-lent _ e _ (c .before .before .before .before .before .walked2 .given .1)))
+    let room = taken-roomy _ e 4 (s .pre .0) in
+    (room, (frame-low _ room (taken-lent _ e _ (c .before .before .before .before .before .walked2 .given .1)), s .pre .1))
 
 returns-3 : tie.Need-returns-3
 returns-3 c =
     let r = c .before .before .before .before in
     let f = r .before .before in
-    sym (demand-none aboveLast _ _ _ _ (fits (f .before .before)) (sym (f .before .is-heap-fetch .ensures) ∙ f .if2 .left) _ _
+    sym (demand-none (f .before .before .before .before .before .args .up) _ _ _ _ (fits (f .before .before)) (sym (f .before .is-heap-fetch .ensures) ∙ f .if2 .left) _ _
     (stepped (r .raw-frame .ensures _) (c .before .walked .given .1)))
 
 same-length : tie.Need-same-length
@@ -68,7 +67,7 @@ returns-4 c =
     let r = f .before .before .before in
     let t = r .before .before in
     m .map-frame .ensures
-    ∙ sym (demand-map aboveLast _ _ (t .before .before .before .before .before .args .page .0) _ (fits (t .before .before))
+    ∙ sym (demand-map (t .before .before .before .before .before .args .up) _ _ (t .before .before .before .before .before .args .page .0) _ (fits (t .before .before))
     (sym (t .before .is-heap-fetch .ensures) ∙ t .if2 .left) _ _ (stepped (r .raw-frame .ensures _) (f .walked2 .given .1))
     (w .is-write .ensures) (m .before .before .before .is-user .ensures))
 

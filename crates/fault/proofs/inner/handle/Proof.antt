@@ -2,7 +2,6 @@
 use mathlib.Core.Path.{_≡_, refl, sym, _∙_}
 use mathlib.Core.Bool.{true, false}
 use Rattle.bits.proofs.Choice.{both-true}
-use Rattle.paging.specs.Levels.{aboveLast}
 use Rattle.paging.specs.Map.{Memory}
 use Rattle.paging.specs.Kept.{lentMemory}
 use Rattle.cow.specs.Packed.{markedIn, markedFit}
@@ -21,10 +20,10 @@ abbrev lent : tie.Start → Faulting
 lent s = faulting (mem s) (markedIn (s .args .marked .now))
 
 abbrev path : tie.Start → Faulting → FaultDid
-path s x = handled aboveLast x (s .args .root .0) (s .args .page .0) (s .args .code)
+path s x = handled (s .args .up) x (s .args .root .0) (s .args .page .0) (s .args .code)
 
 fits : (s : tie.Start) → markedFit (s .args .marked .now) ≡ true
-fits s = both-true _ _ (s .pre .1) .0
+fits s = both-true _ _ (s .pre .1 .0) .0
 
 plain : (c : tie.Else1) → isReserved (c .before .before .before .before .args .code) ≡ false
 plain c = sym (c .before .is-reserved .ensures) ∙ c .if1 .left
@@ -35,7 +34,7 @@ is-reserved-requires c κs = search needs
 returns : tie.Need-returns
 returns c =
     let s = c .before .before .before .before in
-    let e = handled-reserved aboveLast (lent s) (s .args .root .0) (s .args .page .0) (s .args .code) (sym (c .before .is-reserved .ensures) ∙ c .if1 .taken) in
+    let e = handled-reserved (s .args .up) (lent s) (s .args .root .0) (s .args .page .0) (s .args .code) (sym (c .before .is-reserved .ensures) ∙ c .if1 .taken) in
     says-same (path s) (mem s) (s .args .marked .now) (fits s) refl e (λ k. c .before .before .slice-known2 .given k .fits)
 
 is-present-requires : tie.Need-is-present-requires
@@ -56,8 +55,8 @@ returns-2 c =
     let t = p .before .before .before .before in
     let e = t .before .before in
     let s = e .before .before .before .before in
-    says-on (path s) (λ x. protected aboveLast x (s .args .root .0) (s .args .page .0) (s .args .code)) (mem s) (s .args .marked .now)
-    (handled-present aboveLast (lent s) (s .args .root .0) (s .args .page .0) (s .args .code) (plain e) (sym (t .before .is-present .ensures) ∙ t .if2 .taken)) (p .protected .ensures)
+    says-on (path s) (λ x. protected (s .args .up) x (s .args .root .0) (s .args .page .0) (s .args .code)) (mem s) (s .args .marked .now)
+    (handled-present (s .args .up) (lent s) (s .args .root .0) (s .args .page .0) (s .args .code) (plain e) (sym (t .before .is-present .ensures) ∙ t .if2 .taken)) (p .protected .ensures)
 
 demand-page-requires : tie.Need-demand-page-requires
 demand-page-requires c κs = search needs
@@ -74,7 +73,7 @@ returns-3 c =
     let t = r .before .before .before in
     let e = t .before .before in
     let s = e .before .before .before .before in
-    let d = handled-absent aboveLast (lent s) (s .args .root .0) (s .args .page .0) (s .args .code) (plain e) (sym (t .before .is-present .ensures) ∙ t .if2 .left) (r .demand-page .ensures) in
+    let d = handled-absent (s .args .up) (lent s) (s .args .root .0) (s .args .page .0) (s .args .code) (plain e) (sym (t .before .is-present .ensures) ∙ t .if2 .left) (r .demand-page .ensures) in
     says-same (path s) (mem s) (s .args .marked .now) (fits s) (c .as-answer .ensures) d (λ k. e .before .before .slice-known2 .given k .fits)
 
 pub handle-spec : {M : Type 1} → statement M

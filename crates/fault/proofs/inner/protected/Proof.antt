@@ -3,7 +3,6 @@ use mathlib.Core.Path.{_≡_, refl}
 use mathlib.Core.Bool.{true}
 use Rattle.bits.proofs.Choice.{both-true}
 use Rattle.frame.proofs.Laws.{passed, failed}
-use Rattle.paging.specs.Levels.{aboveLast}
 use Rattle.paging.specs.Map.{Memory}
 use Rattle.paging.specs.Kept.{lentMemory}
 use Rattle.tables.proofs.Laws.{stepped}
@@ -26,10 +25,10 @@ abbrev lent : tie.Start → Faulting
 lent s = faulting (mem s) (markedIn (s .args .marked .now))
 
 abbrev path : tie.Start → Faulting → FaultDid
-path s x = protected aboveLast x (s .args .root .0) (s .args .page .0) (s .args .code)
+path s x = protected (s .args .up) x (s .args .root .0) (s .args .page .0) (s .args .code)
 
 fits : (s : tie.Start) → markedFit (s .args .marked .now) ≡ true
-fits s = both-true _ _ (s .pre .1) .0
+fits s = both-true _ _ (s .pre .1 .0) .0
 
 -- a write, and to a marked page
 writes : (c : tie.Else1) → isWrite (c .before .before .before .before .args .code) ≡ true
@@ -48,7 +47,7 @@ denied-requires c κs = search needs
 returns : tie.Need-returns
 returns c =
     let s = c .before .before .before .before .before in
-    let e = protected-read aboveLast (lent s) (s .args .root .0) (s .args .page .0) (s .args .code) (failed (c .before .before .is-write .ensures) (c .before .if1 .taken)) (c .denied .ensures) in
+    let e = protected-read (s .args .up) (lent s) (s .args .root .0) (s .args .page .0) (s .args .code) (failed (c .before .before .is-write .ensures) (c .before .if1 .taken)) (c .denied .ensures) in
     says-same (path s) (mem s) (s .args .marked .now) (fits s) refl e (λ k. c .before .before .before .slice-known2 .given k .fits)
 
 is-listed-requires : tie.Need-is-listed-requires
@@ -61,7 +60,7 @@ returns-2 : tie.Need-returns-2
 returns-2 c =
     let e = c .before .before .before in
     let s = e .before .before .before .before in
-    let d = protected-plain aboveLast (lent s) (s .args .root .0) (s .args .page .0) (s .args .code) (writes e) (failed (c .before .is-listed .ensures) (c .if2 .taken)) in
+    let d = protected-plain (s .args .up) (lent s) (s .args .root .0) (s .args .page .0) (s .args .code) (writes e) (failed (c .before .is-listed .ensures) (c .if2 .taken)) in
     says-same (path s) (mem s) (s .args .marked .now) (fits s) refl d (λ k. e .before .before .slice-known2 .given k .fits)
 
 is-user-requires : tie.Need-is-user-requires
@@ -91,7 +90,7 @@ returns-3 c =
     let e = r .before .before .before .before in
     let w = e .before .before .before in
     let s = w .before .before .before .before in
-    let d = protected-stop aboveLast (lent s) (s .args .root .0) (s .args .page .0) (s .args .code) (writes w) (marked e) (r .before .is-user .ensures) _ _
+    let d = protected-stop (s .args .up) (lent s) (s .args .root .0) (s .args .page .0) (s .args .code) (writes w) (marked e) (r .before .is-user .ensures) _ _
     (stepped (r .copy-on-write .ensures) (c .before .walked .given .1)) in
     says-same (path s) (mem s) (s .args .marked .now) (fits s) refl d (λ k. w .before .before .slice-known2 .given k .fits)
 
@@ -108,7 +107,7 @@ returns-4 c =
     let e = r .before .before .before .before in
     let w = e .before .before .before in
     let s = w .before .before .before .before in
-    let d = protected-met aboveLast (lent s) (s .args .root .0) (s .args .page .0) (s .args .code) (writes w) (marked e) (r .before .is-user .ensures) _ _
+    let d = protected-met (s .args .up) (lent s) (s .args .root .0) (s .args .page .0) (s .args .code) (writes w) (marked e) (r .before .is-user .ensures) _ _
     (stepped (r .copy-on-write .ensures) (u .before .before .enum-told .given .1)) in
     says (path s) (mem s) (s .args .marked .now) (fits s) refl d (u .unmark .last .0) (u .unmark .ensures .1) (λ k. c .slice-known4 .given k .fits) (u .unmark .ensures .0)
 

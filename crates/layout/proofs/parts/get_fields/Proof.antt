@@ -1,4 +1,4 @@
--- `get_fields`: three numbers.
+-- `get_fields`: four numbers.
 use mathlib.Core.Path.{_∙_}
 use Rattle.packed.proofs.Words.{word-of}
 use borrow.Author.Needs.{needs}
@@ -17,11 +17,14 @@ word-at-requires-2 c κs = search needs
 word-at-requires-3 : tie.Need-word-at-requires-3
 word-at-requires-3 c κs = search needs
 
+word-at-requires-4 : tie.Need-word-at-requires-4
+word-at-requires-4 c κs = search needs
+
 returns : tie.Need-returns
 returns c =
-    let bs = c .before .before .before .before .args .fields .now in
-    λ j. record { start = (c .before .before .word-at .ensures ∙ word-of 0 3 bs (search needs)) j; total = (c .before .word-at2 .ensures ∙ word-of 1 3 bs (search needs)) j; allocated = (c .word-at3 .ensures ∙ word-of 2 3 bs (search needs)) j }
+    let bs = c .before .before .before .before .before .args .fields .now in
+    λ j. record { start = (c .before .before .before .word-at .ensures ∙ word-of 0 4 bs (search needs)) j; total = (c .before .before .word-at2 .ensures ∙ word-of 1 4 bs (search needs)) j; allocated = (c .before .word-at3 .ensures ∙ word-of 2 4 bs (search needs)) j; levels = (c .word-at4 .ensures ∙ word-of 3 4 bs (search needs)) j }
 
 pub get-fields-spec : {M : Type 1} → statement M
 get-fields-spec =
-    tie.close (tie.spec word-at-requires word-at-requires-2 word-at-requires-3 returns)
+    tie.close (tie.spec word-at-requires word-at-requires-2 word-at-requires-3 word-at-requires-4 returns)

@@ -1,4 +1,4 @@
--- `put_fields`: the three numbers, packed.
+-- `put_fields`: the four numbers, packed.
 use borrow.Author.Needs.{needs}
 use Rattle.layout.proofs.parts.put_fields.Statement.{statement}
 use Rattle.layout.proofs.parts.put_fields.Tie as tie

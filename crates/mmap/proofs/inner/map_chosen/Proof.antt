@@ -1,5 +1,5 @@
 -- `map_chosen`: the address, then a slot for it, then the region.
-use Prim.Native.Nat.{ℕ}
+use Prim.Native.Nat.{_-_, ℕ}
 use mathlib.Core.Path.{_≡_, refl, sym, _∙_, ap, subst}
 use mathlib.Core.Bool.{true, false}
 use mir.Syntax.{w32}
@@ -8,7 +8,6 @@ use mir.Facts.{toZ-ofZ}
 use borrow.Author.Needs.{needs}
 use Rattle.address.specs.declared.VirtAnswer.{VirtAnswer}
 use Rattle.answer.specs.declared.Outcome.the-variants.{Value}
-use Rattle.paging.specs.Levels.{aboveLast}
 use Rattle.address.specs.Address.{asVirt}
 use Rattle.paging.specs.Kept.{Kept}
 use Rattle.mappings.specs.Packed.{soundList}
@@ -62,7 +61,7 @@ returns c =
     let k = h .before .before in
     let s = k .before .before in
     no-mapping-left _ (λ i. k .slice-known2 .given i .fits) (s .pre .0)
-    (placed-full aboveLast (lent s) (s .args .root .0) (s .args .hint) (s .args .n) (s .args .prot) (s .args .flags) _ (came h ∙ a .a .given .1)
+    (placed-full (s .args .frames .levels - 1) (lent s) (s .args .root .0) (s .args .hint) (s .args .n) (s .args .prot) (s .args .flags) _ (came h ∙ a .a .given .1)
     (sym (f .is-full .ensures (lent s .mem)) ∙ c .before .if1 .taken)) (c .no-mapping2 .ensures)
 
 map-region-requires : tie.Need-map-region-requires
@@ -86,7 +85,7 @@ returns-2 c =
     let k = h .before .before in
     let s = k .before .before in
     no-mapping-left _ (λ i. k .slice-known2 .given i .fits) (s .pre .0)
-    (placed-stop aboveLast (lent s) (s .args .root .0) (s .args .hint) (s .args .n) (s .args .prot) (s .args .flags) _ (came h ∙ e .e .given .1)) (c .no-mapping .ensures)
+    (placed-stop (s .args .frames .levels - 1) (lent s) (s .args .root .0) (s .args .hint) (s .args .n) (s .args .prot) (s .args .flags) _ (came h ∙ e .e .given .1)) (c .no-mapping .ensures)
 
 same-length-3 : tie.Need-same-length-3
 same-length-3 c = search needs
@@ -96,12 +95,12 @@ same-length-4 c = search needs
 
 -- what the region leaves, over the arguments alone; a signed number that is passed on is what its bits read back
 placed : (s : tie.Start) (a : ℕ) {k : Kept VirtAnswer} → chosen (lent s) (s .args .hint) (s .args .n) (s .args .flags) ≡ Value a → full (lent s) a ≡ false
-    → UserLeaves asVirt k (mapRegion aboveLast (lent s) (s .args .root .0) a (s .args .n) (toZ w32 (ofZ w32 (s .args .prot))) (toZ w32 (ofZ w32 (s .args .flags))))
-    → UserLeaves asVirt k (chosenRegion aboveLast (lent s) (s .args .root .0) (s .args .hint) (s .args .n) (s .args .prot) (s .args .flags))
+    → UserLeaves asVirt k (mapRegion (s .args .frames .levels - 1) (lent s) (s .args .root .0) a (s .args .n) (toZ w32 (ofZ w32 (s .args .prot))) (toZ w32 (ofZ w32 (s .args .flags))))
+    → UserLeaves asVirt k (chosenRegion (s .args .frames .levels - 1) (lent s) (s .args .root .0) (s .args .hint) (s .args .n) (s .args .prot) (s .args .flags))
 placed s a {k = k} h f t =
     subst (UserLeaves asVirt k)
-    (sym (placed-room aboveLast (lent s) (s .args .root .0) (s .args .hint) (s .args .n) (s .args .prot) (s .args .flags) a h f
-    ∙ region-same aboveLast (lent s) (s .args .root .0) a (s .args .n) (sym (toZ-ofZ (s .fits .prot))) (sym (toZ-ofZ (s .fits .flags))))) t
+    (sym (placed-room (s .args .frames .levels - 1) (lent s) (s .args .root .0) (s .args .hint) (s .args .n) (s .args .prot) (s .args .flags) a h f
+    ∙ region-same (s .args .frames .levels - 1) (lent s) (s .args .root .0) a (s .args .n) (sym (toZ-ofZ (s .fits .prot))) (sym (toZ-ofZ (s .fits .flags))))) t
 
 returns-3 : tie.Need-returns-3
 returns-3 c =

@@ -1,5 +1,5 @@
 -- `unmap_region`: the region by its place and size, then its pages, then its slot.
-use Prim.Native.Nat.{ℕ, _/_, _<_}
+use Prim.Native.Nat.{_-_, ℕ, _/_, _<_}
 use mathlib.Core.Path.{_≡_, refl, sym, _∙_, ap}
 use mathlib.Core.Bool.{true}
 use mathlib.Core.List.{List}
@@ -8,12 +8,11 @@ use borrow.Author.Needs.{needs}
 use Rattle.frame.proofs.Laws.{passed, failed}
 use Rattle.packed.proofs.RoundTrip.{Bytes}
 use Rattle.answer.specs.declared.Outcome.the-variants.{Value}
-use Rattle.paging.specs.Levels.{aboveLast}
 use Rattle.paging.specs.Map.{Memory}
 use Rattle.answer.specs.Outcomes.{asAnswer}
 use Rattle.paging.specs.Kept.{kept}
 use Rattle.paging.specs.Pages.{freePages}
-use Rattle.paging.proofs.Calls.{whole-roomy}
+use Rattle.paging.proofs.Calls.{whole-up, whole-above, whole-roomy}
 use Rattle.slots.specs.Slots.{listed, store}
 use Rattle.slots.specs.Shifts.{takenOut}
 use Rattle.slots.specs.Sorted.{placeOf}
@@ -55,18 +54,23 @@ returns c =
     let k = h .before .before .before .before in
     let s = k .before .before in
     not-unmapped-left _ (λ i. k .slice-known2 .given i .fits) (s .pre .0)
-    (unmap-none aboveLast (lent s) (s .args .root .0) (s .args .addr .0) (s .args .n) (failed (h .holds-at .ensures) (c .before .if1 .taken))) (c .not-unmapped .ensures)
+    (unmap-none (s .args .frames .levels - 1) (lent s) (s .args .root .0) (s .args .addr .0) (s .args .n) (failed (h .holds-at .ensures) (c .before .if1 .taken))) (c .not-unmapped .ensures)
 
 -- the region is held
 held : (c : tie.Else1) → let s = c .before .before .before .before .before .before .before in holds (s .args .addr .0) (s .args .n) (listed (mmapIn (s .args .list .now))) ≡ true
 held c = passed (c .before .holds-at .ensures) (c .if1 .left)
 
+sub-up : tie.Need-sub-up
+sub-up c = let s = c .before .before .before .before .before .before .before .before in whole-up (lent s .mem) (s .args .root .0) (user-whole (lent s) (s .args .root .0) (s .pre .1))
+
 free-pages-requires : tie.Need-free-pages-requires
 free-pages-requires c κs =
-    let e = c .before .before in
+    let e = c .before .before .before in
     let s = e .before .before .before .before .before .before .before in
-    let p = holds-placed (s .args .addr .0) (s .args .n) 0 (listed (mmapIn (s .args .list .now))) (sound-rising (s .args .list .now) (listed-sound s)) (held e) in
-    (whole-roomy (lent s .mem) (s .args .root .0) (user-whole (lent s) (s .args .root .0) (s .pre .1)) 0 (omega arith), omega (arith, p .end, p .whole))
+    let p = holds-placed (s .args .addr .0) (s .args .n) 0 (listed (mmapIn (s .args .list .now))) (sound-rising (s .args .list .now) (listed-sound s)) (held e) in (
+      whole-roomy (lent s .mem) (s .args .root .0) (user-whole (lent s) (s .args .root .0) (s .pre .1)) 0 (omega arith),
+      (omega (arith, p .end, p .whole), whole-above (lent s .mem) (s .args .root .0) (user-whole (lent s) (s .args .root .0) (s .pre .1))),
+    )
 
 -- its place is that of a region, and the list without it is the list without that slot
 module _ (s : tie.Start) (h : holds (s .args .addr .0) (s .args .n) (listed (mmapIn (s .args .list .now))) ≡ true) (k : ℕ)
@@ -82,7 +86,7 @@ module _ (s : tie.Start) (h : holds (s .args .addr .0) (s .args .n) (listed (mma
 
 remove-at-requires : tie.Need-remove-at-requires
 remove-at-requires c κs =
-    let e = c .before .before .before .before .before .before in
+    let e = c .before .before .before .before .before .before .before in
     let p = e .before .before .before in
     let s = p .before .before .before .before in
     (s .pre .0, (below s (held e) (p .place-of .result) (p .place-of .ensures), sound-few (s .args .list .now) (listed-sound s)))
@@ -96,20 +100,20 @@ same-length-3 c = search needs
 -- the answer, the memory and the list that are left, over the arguments alone
 unmapped : (s : tie.Start) {m : Memory} {left : List ℕ} {k : ℕ} → holds (s .args .addr .0) (s .args .n) (listed (mmapIn (s .args .list .now))) ≡ true
     → k ≡ placeOf startKey (s .args .addr .0) (listed (mmapIn (s .args .list .now)))
-    → m ≡ freePages aboveLast (lent s .mem) (s .args .root .0) (s .args .addr .0) (s .args .n / 4096)
+    → m ≡ freePages (s .args .frames .levels - 1) (lent s .mem) (s .args .root .0) (s .args .addr .0) (s .args .n / 4096)
     → Bytes left → MmapStands left (store noMappedRegion (takenOut k (listed (mmapIn (s .args .list .now)))) (mmapIn (s .args .list .now))) (nextIn (s .args .list .now))
-    → UserLeaves asAnswer (kept (asAnswer (Value 0)) m left) (unmapRegion aboveLast (lent s) (s .args .root .0) (s .args .addr .0) (s .args .n))
+    → UserLeaves asAnswer (kept (asAnswer (Value 0)) m left) (unmapRegion (s .args .frames .levels - 1) (lent s) (s .args .root .0) (s .args .addr .0) (s .args .n))
 unmapped s {k = k} h e f b g =
     let l = mmapIn (s .args .list .now) in
     leaves asAnswer b (g .0, g .1 ∙ ap (λ (x : List MappedRegion). store noMappedRegion x l) (taken s h k e), g .2)
-    (unmap-met aboveLast (lent s) (s .args .root .0) (s .args .addr .0) (s .args .n) h
+    (unmap-met (s .args .frames .levels - 1) (lent s) (s .args .root .0) (s .args .addr .0) (s .args .n) h
     ∙ ap (λ (x : Memory). userDid (Value 0) (user x (store noMappedRegion (remove (s .args .addr .0) (listed l)) l) (nextIn (s .args .list .now)))) (sym f))
 
 returns-2 : tie.Need-returns-2
 returns-2 c =
     let r = c .before .before in
     let f = r .before .before .before .before in
-    let e = f .before .before .before in
+    let e = f .before .before .before .before in
     let p = e .before .before .before in
     unmapped (p .before .before .before .before) (held e) (p .place-of .ensures) (f .free-pages .ensures) (λ i. c .slice-known4 .given i .fits) (r .remove-at .ensures)
 
@@ -122,6 +126,7 @@ unmap-region-spec =
     not-unmapped-requires
     same-length
     returns
+    sub-up
     free-pages-requires
     remove-at-requires
     same-length-2

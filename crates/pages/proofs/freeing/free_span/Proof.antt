@@ -1,8 +1,5 @@
 -- `free_span`: the pages of a gap, or the leaves of a table.
-use Prim.Native.Nat.{ℕ}
-use mathlib.Core.Path.{refl, ap}
-use mathlib.Core.List.{List}
-use lib.ListN.{getD}
+use mathlib.Core.Path.{refl}
 use borrow.Author.Needs.{needs}
 use Rattle.paging.specs.Kept.{lentMemory}
 use Rattle.pages.proofs.Steps.{is-gap, is-leaves, gap-step, leaves-fit, leaves-step}
@@ -21,14 +18,11 @@ at-most-requires c κs = search needs
 enum-known-t : tie.Need-enum-known-t
 enum-known-t c = c .match .keys2
 
-page-indices-requires : tie.Need-page-indices-requires
-page-indices-requires c κs = search needs
+page-index-requires : tie.Need-page-index-requires
+page-index-requires c κs = search needs
 
 at-most-requires-2 : tie.Need-at-most-requires-2
 at-most-requires-2 c κs = search needs
-
-array-read-free-table : tie.Need-array-read-free-table
-array-read-free-table c = search needs
 
 free-table-requires : tie.Need-free-table-requires
 free-table-requires c κs =
@@ -36,14 +30,14 @@ free-table-requires c κs =
     let f = q .before .before .before .before .before in
     let s = f .before .before .before in
     let a = s .args in
-    let g = is-leaves (a .words .now) (a .frames .start) (a .frames .total) (a .root .0) (a .virt .0) (f .find-span .ensures) (q .before .before .before .t .given .1) in (
+    let g = is-leaves (a .words .now) (a .frames .start) (a .frames .total) (a .up) (a .root .0) (a .virt .0) (f .find-span .ensures) (q .before .before .before .t .given .1) in (
       s .pre .0,
       (
         s .pre .1 .0,
         (
           g .lent,
-          leaves-fit (a .words .now) (a .frames .start) (a .frames .total) (a .root .0) (a .virt .0) _ _ (a .n) g
-              (q .at-most2 .ensures) (q .before .page-indices .ensures .0),
+          leaves-fit (a .words .now) (a .frames .start) (a .frames .total) (a .up) (a .root .0) (a .virt .0) _ _ (a .n) g
+              (q .at-most2 .ensures) (q .before .page-index .ensures .0),
         ),
       ),
     )
@@ -57,9 +51,9 @@ returns c =
     let s = f .before .before .before in
     let a = s .args in (
       s .pre .1 .0,
-      gap-step (lentMemory (a .words .now) (a .bitmap .now) (a .frames)) (a .root .0) (a .virt .0) _ (a .n)
-          (is-gap (a .words .now) (a .frames .start) (a .frames .total) (a .root .0) (a .virt .0) (f .find-span .ensures) (c .before .before .k .given .1))
-          (s .pre .1 .1) (c .at-most .ensures),
+      gap-step (a .up) (lentMemory (a .words .now) (a .bitmap .now) (a .frames)) (a .root .0) (a .virt .0) _ (a .n)
+          (is-gap (a .words .now) (a .frames .start) (a .frames .total) (a .up) (a .root .0) (a .virt .0) (f .find-span .ensures) (c .before .before .k .given .1))
+          (s .pre .1 .1 .0) (c .at-most .ensures),
     )
 
 same-length-2 : tie.Need-same-length-2
@@ -72,10 +66,10 @@ returns-2 c =
     let f = q .before .before .before .before .before in
     let a = f .before .before .before .args in (
       r .free-table .ensures .1,
-      leaves-step (lentMemory (a .words .now) (a .bitmap .now) (a .frames)) (a .root .0) (a .virt .0) _ _ (a .n) (getD (q .before .page-indices .result) 3 0)
-          (is-leaves (a .words .now) (a .frames .start) (a .frames .total) (a .root .0) (a .virt .0) (f .find-span .ensures) (q .before .before .before .t .given .1))
-          (f .before .before .before .pre .1 .1) (q .at-most2 .ensures)
-          (ap (λ (is : List ℕ). getD is 3 0) (q .before .page-indices .ensures .0)) (r .free-table .ensures .0),
+      leaves-step (a .up) (lentMemory (a .words .now) (a .bitmap .now) (a .frames)) (a .root .0) (a .virt .0) _ _ (a .n) (q .before .page-index .result)
+          (is-leaves (a .words .now) (a .frames .start) (a .frames .total) (a .up) (a .root .0) (a .virt .0) (f .find-span .ensures) (q .before .before .before .t .given .1))
+          (f .before .before .before .pre .1 .1 .0) (q .at-most2 .ensures)
+          (q .before .page-index .ensures .0) (r .free-table .ensures .0),
     )
 
 pub free-span-spec : {M : Type 1} → statement M
@@ -86,9 +80,8 @@ free-span-spec =
     enum-known-k
     at-most-requires
     enum-known-t
-    page-indices-requires
+    page-index-requires
     at-most-requires-2
-    array-read-free-table
     free-table-requires
     same-length
     returns

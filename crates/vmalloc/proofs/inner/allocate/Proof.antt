@@ -1,5 +1,5 @@
 -- `allocate`: 15, or the pages of the first region large enough mapped, then the region cut.
-use Prim.Native.Nat.{ℕ, _<_, _≤_}
+use Prim.Native.Nat.{_-_, ℕ, _<_, _≤_}
 use mathlib.Core.Path.{_≡_, refl, ap}
 use mathlib.Core.Bool.{true}
 use native.Mathlib.Omega.{arith}
@@ -8,11 +8,10 @@ use mir.Val.{Fits}
 use mir.Syntax.{w64}
 use Rattle.answer.specs.Numbers.{noRegion}
 use Rattle.answer.specs.declared.Outcome.the-variants.{Value, Stop}
-use Rattle.paging.specs.Levels.{aboveLast}
 use Rattle.paging.specs.Map.{Memory}
 use Rattle.address.specs.Address.{asVirt}
 use Rattle.paging.specs.Kept.{lentMemory}
-use Rattle.paging.proofs.Calls.{whole-roomy}
+use Rattle.paging.proofs.Calls.{whole-up, whole-above, whole-roomy}
 use Rattle.slots.specs.Slots.{listed, firstAt}
 use Rattle.regions.specs.declared.VMRegion.{VMRegion}
 use Rattle.regions.specs.Regions.{noVmRegion, soundRegions, fits, firstFit}
@@ -77,7 +76,7 @@ returns c =
     let k = f .before .before in
     let s = c .before .before .before .before .before .before .before in
     let none = none-fits (lent s) (s .args .list .now) (s .args .root .0) (s .pre) (k .count .result) (k .count .ensures) (f .first-fit .result) (s .args .size) (f .first-fit .ensures) (c .if1 .taken) in
-    left asVirt (Stop noRegion) (lent s) (ap (kernelPlaced aboveLast (kernel (lent s) (vmIn (s .args .list .now))) (s .args .root .0) (s .args .size)) none)
+    left asVirt (Stop noRegion) (lent s) (ap (kernelPlaced (s .args .frames .levels - 1) (kernel (lent s) (vmIn (s .args .list .now))) (s .args .root .0) (s .args .size)) none)
     (s .args .list .now) (fit s) (λ j. c .before .before .before .before .before .slice-known2 .given j .fits) refl
 
 slot-requires : tie.Need-slot-requires
@@ -87,15 +86,21 @@ slot-requires c κs =
     let s = c .before .before .before .before .before .before .before .before in
     (long s, omega (arith, small e, few s (k .count .result) (k .count .ensures)))
 
+sub-up : tie.Need-sub-up
+sub-up c = let s = c .before .before .before .before .before .before .before .before .before .before in whole-up (lent s) (s .args .root .0) (lent-whole (lent s) (s .args .list .now) (s .args .root .0) (s .pre))
+
 map-pages-requires : tie.Need-map-pages-requires
 map-pages-requires c κs =
-    let v = c .before .before in
-    let e = c .before .before .before .before in
-    let s = c .before .before .before .before .before .before .before .before .before .before .before in
+    let v = c .before .before .before in
+    let e = c .before .before .before .before .before in
+    let s = c .before .before .before .before .before .before .before .before .before .before .before .before in
     let w : Fits w64 (s .args .size) = search needs in
     let p = lies-well e (v .slot .result) (v .slot .ensures) in (
       whole-roomy (lent s) (s .args .root .0) (lent-whole (lent s) (s .args .list .now) (s .args .root .0) (s .pre)) _ (search needs),
-      omega (arith, fits-there e (v .slot .result) (v .slot .ensures) .1, p .some, p .whole, p .end),
+      (
+        omega (arith, fits-there e (v .slot .result) (v .slot .ensures) .1, p .some, p .whole, p .end),
+        whole-above (lent s) (s .args .root .0) (lent-whole (lent s) (s .args .list .now) (s .args .root .0) (s .pre)),
+      ),
     )
 
 enum-known-walked : tie.Need-enum-known-walked
@@ -113,13 +118,13 @@ asked e =
     ((fit s, lent-sound (lent s) (s .args .list .now) (s .args .root .0) (s .pre), k .count .ensures), (first, small e))
 
 take-region-requires : tie.Need-take-region-requires
-take-region-requires c κs = asked (c .before .before .before .before .before .before .before .before .before .before .before .before)
+take-region-requires c κs = asked (c .before .before .before .before .before .before .before .before .before .before .before .before .before)
 
 enum-told : tie.Need-enum-told
 enum-told c = search needs
 
 take-region-requires-2 : tie.Need-take-region-requires-2
-take-region-requires-2 c κs = asked (c .before .before .before .before .before .before .before .before .before .before .before)
+take-region-requires-2 c κs = asked (c .before .before .before .before .before .before .before .before .before .before .before .before)
 
 same-length-2 : tie.Need-same-length-2
 same-length-2 c = search needs
@@ -132,11 +137,11 @@ returns-2 c =
     let t = c .before .before in
     let w = t .before .before .before in
     let m = w .before .before .before .before .before in
-    let v = m .before .before .before in
+    let v = m .before .before .before .before in
     let e = v .before .before in
     let s = e .before .before .before .before .before .before .before in
     left asVirt (Stop (w .walked .given .0 .0)) (lentMemory (m .map-pages .last .0) (m .map-pages .last .1 .0) (m .map-pages .result .frames))
-    (placed-stop aboveLast (kernel (lent s) (vmIn (s .args .list .now))) (s .args .root .0) (s .args .size) (v .slot .result .start)
+    (placed-stop (s .args .frames .levels - 1) (kernel (lent s) (vmIn (s .args .list .now))) (s .args .root .0) (s .args .size) (v .slot .result .start)
     (fits-there e (v .slot .result) (v .slot .ensures) .0) (m .map-pages .ensures) _ (w .walked .given .1))
     (t .take-region .last .0) (t .take-region .ensures .1) (λ j. c .slice-known4 .given j .fits) (t .take-region .ensures .0)
 
@@ -151,11 +156,11 @@ returns-3 c =
     let t = c .before .before in
     let g = t .before .before in
     let m = g .before .before .before .before .before in
-    let v = m .before .before .before in
+    let v = m .before .before .before .before in
     let e = v .before .before in
     let s = e .before .before .before .before .before .before .before in
     left asVirt (Value (v .slot .result .start)) (lentMemory (m .map-pages .last .0) (m .map-pages .last .1 .0) (m .map-pages .result .frames))
-    (placed-met aboveLast (kernel (lent s) (vmIn (s .args .list .now))) (s .args .root .0) (s .args .size) (v .slot .result .start)
+    (placed-met (s .args .frames .levels - 1) (kernel (lent s) (vmIn (s .args .list .now))) (s .args .root .0) (s .args .size) (v .slot .result .start)
     (fits-there e (v .slot .result) (v .slot .ensures) .0) (m .map-pages .ensures) _ (g .enum-told .given .1))
     (t .take-region2 .last .0) (t .take-region2 .ensures .1) (λ j. c .slice-known5 .given j .fits) (t .take-region2 .ensures .0)
 
@@ -168,6 +173,7 @@ allocate-spec =
     same-length
     returns
     slot-requires
+    sub-up
     map-pages-requires
     enum-known-walked
     take-region-requires

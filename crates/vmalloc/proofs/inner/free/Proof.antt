@@ -1,5 +1,5 @@
 -- `free`: 16, or the pages of the used region freed, then the region.
-use Prim.Native.Nat.{ℕ, _<_, _≤_}
+use Prim.Native.Nat.{_-_, ℕ, _<_, _≤_}
 use mathlib.Core.Path.{_≡_, refl, ap}
 use mathlib.Core.Bool.{true}
 use native.Mathlib.Omega.{arith}
@@ -7,10 +7,9 @@ use lib.ListN.{length, getD}
 use Rattle.answer.specs.Numbers.{regionNotFound}
 use Rattle.answer.specs.Outcomes.{asAnswer}
 use Rattle.answer.specs.declared.Outcome.the-variants.{Value, Stop}
-use Rattle.paging.specs.Levels.{aboveLast}
 use Rattle.paging.specs.Map.{Memory}
 use Rattle.paging.specs.Kept.{lentMemory}
-use Rattle.paging.proofs.Calls.{whole-roomy}
+use Rattle.paging.proofs.Calls.{whole-up, whole-above, whole-roomy}
 use Rattle.slots.specs.Slots.{listed}
 use Rattle.regions.specs.declared.VMRegion.{VMRegion}
 use Rattle.regions.specs.Regions.{noVmRegion, fits, usedSize, freeFirst}
@@ -84,7 +83,7 @@ returns c =
     let k = f .before .before in
     let s = c .before .before .before .before .before .before .before in
     let none = none-used (lent s) (s .args .list .now) (s .args .root .0) (s .pre) (k .count .result) (k .count .ensures) (f .find-used .result) (s .args .addr .0) (f .find-used .ensures) (c .if1 .taken) in
-    left asAnswer (Stop regionNotFound) (lent s) (ap (released aboveLast (kernel (lent s) (vmIn (s .args .list .now))) (s .args .root .0) (s .args .addr .0)) none)
+    left asAnswer (Stop regionNotFound) (lent s) (ap (released (s .args .frames .levels - 1) (kernel (lent s) (vmIn (s .args .list .now))) (s .args .root .0) (s .args .addr .0)) none)
     (s .args .list .now) (fit s) (λ j. c .before .before .before .before .before .slice-known2 .given j .fits) refl
 
 slot-requires : tie.Need-slot-requires
@@ -94,20 +93,26 @@ slot-requires c κs =
     let s = c .before .before .before .before .before .before .before .before in
     (long s, omega (arith, small e, few s (k .count .result) (k .count .ensures)))
 
+sub-up : tie.Need-sub-up
+sub-up c = let s = c .before .before .before .before .before .before .before .before .before .before in whole-up (lent s) (s .args .root .0) (lent-whole (lent s) (s .args .list .now) (s .args .root .0) (s .pre))
+
 free-pages-requires : tie.Need-free-pages-requires
 free-pages-requires c κs =
-    let v = c .before .before .before in
-    let e = c .before .before .before .before .before in
-    let s = c .before .before .before .before .before .before .before .before .before .before .before .before in
+    let v = c .before .before .before .before in
+    let e = c .before .before .before .before .before .before in
+    let s = c .before .before .before .before .before .before .before .before .before .before .before .before .before in
     let p = lies-well e (v .slot .result) (v .slot .ensures) in (
       whole-roomy (lent s) (s .args .root .0) (lent-whole (lent s) (s .args .list .now) (s .args .root .0) (s .pre)) 0 (search needs),
-      omega (arith, used-there e (v .slot .result) (v .slot .ensures) .1, p .whole, p .end),
+      (
+        omega (arith, used-there e (v .slot .result) (v .slot .ensures) .1, p .whole, p .end),
+        whole-above (lent s) (s .args .root .0) (lent-whole (lent s) (s .args .list .now) (s .args .root .0) (s .pre)),
+      ),
     )
 
 free-region-requires : tie.Need-free-region-requires
 free-region-requires c κs =
-    let e = c .before .before .before .before .before .before .before .before .before in
-    let s = c .before .before .before .before .before .before .before .before .before .before .before .before .before .before .before .before in
+    let e = c .before .before .before .before .before .before .before .before .before .before in
+    let s = c .before .before .before .before .before .before .before .before .before .before .before .before .before .before .before .before .before in
     ((fit s, lent-sound (lent s) (s .args .list .now) (s .args .root .0) (s .pre), e .before .before .before .count .ensures), small e)
 
 same-length-2 : tie.Need-same-length-2
@@ -120,11 +125,11 @@ returns-2 : tie.Need-returns-2
 returns-2 c =
     let t = c .before .before in
     let m = t .before .before .before .before in
-    let v = m .before .before .before .before in
+    let v = m .before .before .before .before .before in
     let e = v .before .before in
     let s = e .before .before .before .before .before .before .before in
     left asAnswer (Value 0) (lentMemory (m .free-pages .last .0) (m .free-pages .last .1 .0) (m .free-pages .result))
-    (released-met aboveLast (kernel (lent s) (vmIn (s .args .list .now))) (s .args .root .0) (s .args .addr .0) (v .slot .result .size)
+    (released-met (s .args .frames .levels - 1) (kernel (lent s) (vmIn (s .args .list .now))) (s .args .root .0) (s .args .addr .0) (v .slot .result .size)
     (used-there e (v .slot .result) (v .slot .ensures) .0) (m .free-pages .ensures) (freed-there e (v .slot .result) (v .slot .ensures)))
     (t .free-region .last .0) (t .free-region .ensures .1) (λ j. c .slice-known4 .given j .fits) (t .free-region .ensures .0)
 
@@ -137,6 +142,7 @@ free-spec =
     same-length
     returns
     slot-requires
+    sub-up
     free-pages-requires
     free-region-requires
     same-length-2

@@ -5,8 +5,8 @@ use Rattle.layout.specs.Parts.{fieldsSize}
 use Rattle.layout.specs.Left.{noLeftovers}
 use Rattle.layout.proofs.Left.{contract-broken, contract-met}
 use Rattle.desk_faults.proofs.LeftBoard.{start-broken, start-did, start-refused}
-use Rattle.desk_faults.proofs.start.gadulnos_start.Statement.{statement}
-use Rattle.desk_faults.proofs.start.gadulnos_start.Tie as tie
+use Rattle.desk_faults.proofs.start.gadulnos_start_levels.Statement.{statement}
+use Rattle.desk_faults.proofs.start.gadulnos_start_levels.Tie as tie
 
 broken-requires : tie.Need-broken-requires
 broken-requires c κs = search needs
@@ -15,7 +15,7 @@ returns : tie.Need-returns
 returns c =
     let a = c .before .before .before .before .before .before .before .args in
     contract-broken noLeftovers
-    (start-broken (a .words .now) (a .fields .now) (a .bits .now) (a .root .now) (a .kernel .now) (a .user .now) (a .marked .now) (a .from) (a .to)
+    (start-broken (a .words .now) (a .fields .now) (a .bits .now) (a .root .now) (a .kernel .now) (a .user .now) (a .marked .now) (a .from) (a .to) (a .levels)
     (ne-eqb _ fieldsSize (c .before .if1 .taken)) (c .broken .ensures))
 
 new-requires : tie.Need-new-requires
@@ -52,12 +52,12 @@ returns-2 c =
     let e = did .before .before .before .before .before .before .before in
     let a = e .before .before .before .before .before .before .args in
     contract-met noLeftovers
-    (start-did (a .words .now) (a .fields .now) (a .bits .now) (a .root .now) (a .kernel .now) (a .user .now) (a .marked .now) (a .from) (a .to) _
+    (start-did (a .words .now) (a .fields .now) (a .bits .now) (a .root .now) (a .kernel .now) (a .user .now) (a .marked .now) (a .from) (a .to) (a .levels) _
     (did .start .last .1 .0) (eq-eqb _ fieldsSize (e .if1 .left)) (did .start .ensures .0) (c .answer-line .ensures) (put .put-records .ensures))
-    (start-refused (a .words .now) (a .fields .now) (a .bits .now) (a .root .now) (a .kernel .now) (a .user .now) (a .marked .now) (a .from) (a .to))
+    (start-refused (a .words .now) (a .fields .now) (a .bits .now) (a .root .now) (a .kernel .now) (a .user .now) (a .marked .now) (a .from) (a .to) (a .levels))
 
-pub gadulnos-start-spec : {M : Type 1} → statement M
-gadulnos-start-spec =
+pub gadulnos-start-levels-spec : {M : Type 1} → statement M
+gadulnos-start-levels-spec =
     tie.close
     (tie.spec
     broken-requires
