@@ -13,7 +13,7 @@
  *
  *   words    the lent frames: frame number n is the 512 words from (n - start_frame) * 512 on. The length
  *            counts words. Words past the frames are not touched.
- *   fields   24 bytes: start_frame, total, allocated
+ *   fields   32 bytes: start_frame, total, allocated, levels. The levels of page tables are 4 or 5.
  *   bits     1024 bytes, 128 words: frame start_frame + i is marked if bit i % 64 of word i / 64 is 1.
  *            Lent without a length.
  *   root     the root's frame number
@@ -22,8 +22,8 @@
  *            prot (signed, 32 bits), flags (signed, 32 bits)
  *   marked   2056 bytes, the copy-on-write pages: count, then 256 page addresses
  *
- * A length other than its part's, a `used` other than 0 and 1, or a record that document 01 calls broken is
- * answered with 10, before every other check, and nothing is changed.
+ * A length other than its part's, a `used` other than 0 and 1, levels other than 4 and 5, or a record that
+ * document 01 calls broken is answered with 10, before every other check, and nothing is changed.
  */
 #ifndef GADULNOS_H
 #define GADULNOS_H
@@ -37,13 +37,16 @@ extern "C" {
 #endif
 
 enum {
-    GADULNOS_FIELDS_BYTES = 24,
+    GADULNOS_FIELDS_BYTES = 32,
     GADULNOS_BITS_BYTES = 1024,
     GADULNOS_KERNEL_BYTES = 6152,
     GADULNOS_USER_BYTES = 6160,
     GADULNOS_MARKED_BYTES = 2056,
     GADULNOS_SLOTS = 256,
-    GADULNOS_FRAME_WORDS = 512
+    GADULNOS_FRAME_WORDS = 512,
+    /* The levels of a board if none are named, and the most that there may be. */
+    GADULNOS_LEVELS = 4,
+    GADULNOS_MOST_LEVELS = 5
 };
 
 /* A call's answer: document 01's number, 0 if the call was met, and its value, 0 if it has none. */
@@ -94,8 +97,8 @@ bool gadulnos_handler_present(uint64_t word);
 uint64_t gadulnos_handler_addr(uint64_t word);
 uint64_t gadulnos_handler_flags(uint64_t word);
 
-/* The entry at an index of a table of 512 words; 14 from 512 on. The four indices of a page address, which
- * are written to out[0] to out[3]. */
+/* The entry at an index of a table of 512 words; 14 from 512 on. The indices of a page address on four
+ * levels, the top one first, which are written to out[0] to out[3]. */
 struct gadulnos_line gadulnos_get_entry(const uint64_t *table, size_t index);
 void gadulnos_page_indices(uint64_t virt, size_t *out);
 
@@ -107,7 +110,8 @@ struct gadulnos_line gadulnos_mprotect(uint64_t addr, uint64_t size, int32_t pro
 
 /* ---- The frame record and its bitmap */
 
-/* A record for the frames of memory `from` to `to`, all free; 10 if `from` is above `to` or `to` above 2^52. */
+/* A record for the frames of memory `from` to `to`, all free, of four levels; 10 if `from` is above `to` or
+ * `to` above 2^52. */
 struct gadulnos_line gadulnos_init(uint8_t *fields, size_t fields_len, uint8_t bits[GADULNOS_BITS_BYTES],
                                    uint64_t from, uint64_t to);
 /* 1 if a frame is marked or not on the board, else 0. */
@@ -127,14 +131,18 @@ struct gadulnos_line gadulnos_allocated_frames(const uint8_t *fields, size_t fie
 struct gadulnos_line gadulnos_total_frames(const uint8_t *fields, size_t fields_len,
                                            const uint8_t bits[GADULNOS_BITS_BYTES]);
 
-/* ---- The page tables. The walks are lent start_frame and total as numbers. */
+/* ---- The page tables. The walks are lent start_frame, total and levels as numbers.
+ * Levels count from the bottom, 1 the last. The index at level n is bits 11 + 9 * n to 3 + 9 * n of an
+ * address: bits 47 to 39 at the top of four levels, 56 to 48 of five. The bits above are ignored. HUGE is
+ * looked at on the last level but one alone. */
 
 /* The physical address of `virt`: 14 if it is not mapped, 19 if a table is outside the lent frames. */
 struct gadulnos_line gadulnos_translate(const uint64_t *words, size_t words_len, uint64_t start,
-                                        uint64_t total, uint64_t root, uint64_t virt);
+                                        uint64_t total, uint64_t levels, uint64_t root, uint64_t virt);
 /* 1 if user code may read `virt`, or write it if `write`, else 0. */
 struct gadulnos_line gadulnos_user_may(const uint64_t *words, size_t words_len, uint64_t start,
-                                       uint64_t total, uint64_t root, uint64_t virt, bool write);
+                                       uint64_t total, uint64_t levels, uint64_t root, uint64_t virt,
+                                       bool write);
 /* 11, 12 if mapped already, 19. */
 struct gadulnos_line gadulnos_map_page(uint64_t *words, size_t words_len, uint8_t *fields,
                                        size_t fields_len, uint8_t bits[GADULNOS_BITS_BYTES], uint64_t root,
@@ -146,7 +154,7 @@ struct gadulnos_line gadulnos_map_huge_page(uint64_t *words, size_t words_len, u
                                             bool writable, bool user);
 /* The number of the frame that `virt` was mapped to, which is not freed; 14, 19. */
 struct gadulnos_line gadulnos_unmap_page(uint64_t *words, size_t words_len, uint64_t start, uint64_t total,
-                                         uint64_t root, uint64_t virt);
+                                         uint64_t levels, uint64_t root, uint64_t virt);
 
 /* ---- vmalloc and mmap */
 
@@ -191,13 +199,19 @@ struct gadulnos_line gadulnos_handle_page_fault_second(uint64_t *words, size_t w
 
 /* ---- The start */
 
-/* A fresh board on memory `from` to `to`, whatever its parts held before; writes the root's frame number to
- * *root. 10 as for init or if there are fewer than total * 512 words, 11 if total is 0; a refused start
- * changes nothing. */
+/* A fresh board of four levels on memory `from` to `to`, whatever its parts held before; writes the root's
+ * frame number to *root. 10 as for init or if there are fewer than total * 512 words, 11 if total is 0; a
+ * refused start changes nothing. */
 struct gadulnos_line gadulnos_start(uint64_t *words, size_t words_len, uint8_t *fields, size_t fields_len,
                                     uint8_t bits[GADULNOS_BITS_BYTES], uint64_t *root, uint8_t *kernel,
                                     size_t kernel_len, uint8_t *user, size_t user_len, uint8_t *marked,
                                     size_t marked_len, uint64_t from, uint64_t to);
+/* .. of `levels` levels; 10 also for another number than 4 and 5. */
+struct gadulnos_line gadulnos_start_levels(uint64_t *words, size_t words_len, uint8_t *fields,
+                                           size_t fields_len, uint8_t bits[GADULNOS_BITS_BYTES],
+                                           uint64_t *root, uint8_t *kernel, size_t kernel_len,
+                                           uint8_t *user, size_t user_len, uint8_t *marked,
+                                           size_t marked_len, uint64_t from, uint64_t to, uint64_t levels);
 
 #ifdef __cplusplus
 }

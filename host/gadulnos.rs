@@ -117,7 +117,7 @@ functions! {
     fn handler_flags = gadulnos_handler_flags(word: u64) -> u64;
     /// The entry at an index of a table; 14 from 512 on.
     fn get_entry = gadulnos_get_entry(table: &[u64; 512], index: usize) -> Line;
-    /// The four indices of a page address.
+    /// The indices of a page address on four levels, the top one first.
     fn page_indices = gadulnos_page_indices(virt: u64, out: &mut [usize; 4]) -> ();
     /// Whether an address lies in the kernel (vmalloc) window.
     fn is_vmalloc_addr = gadulnos_is_vmalloc_addr(addr: u64) -> bool;
@@ -127,7 +127,7 @@ functions! {
 
 // The frame record and its bitmap.
 functions! {
-    /// A record for the frames of memory `from` to `to`, all free.
+    /// A record for the frames of memory `from` to `to`, all free, of four levels.
     fn init = gadulnos_init(fields: &mut [u8], bits: &mut Marks, from: u64, to: u64) -> Line;
     fn is_allocated = gadulnos_is_allocated(fields: &[u8], bits: &Marks, frame: u64) -> Line;
     fn mark_allocated = gadulnos_mark_allocated(fields: &mut [u8], bits: &mut Marks, frame: u64) -> Line;
@@ -139,13 +139,16 @@ functions! {
     fn total_frames = gadulnos_total_frames(fields: &[u8], bits: &Marks) -> Line;
 }
 
-// The page tables, in the lent frames' words.
+// The page tables, in the lent frames' words. Levels count from the bottom, 1 the last. The top index is
+// bits 47 to 39 of an address on four levels and bits 56 to 48 on five; the bits above are ignored.
 functions! {
     /// The physical address of `virt`.
-    fn translate = gadulnos_translate(words: &[u64], start: u64, total: u64, root: u64, virt: u64) -> Line;
+    fn translate = gadulnos_translate(
+        words: &[u64], start: u64, total: u64, levels: u64, root: u64, virt: u64
+    ) -> Line;
     /// Whether user code may read `virt`, or write it: 1 or 0.
     fn user_may = gadulnos_user_may(
-        words: &[u64], start: u64, total: u64, root: u64, virt: u64, write: bool
+        words: &[u64], start: u64, total: u64, levels: u64, root: u64, virt: u64, write: bool
     ) -> Line;
     fn map_page = gadulnos_map_page(
         words: &mut [u64], fields: &mut [u8], bits: &mut Marks, root: u64,
@@ -157,7 +160,9 @@ functions! {
         virt: u64, phys: u64, gigabyte: bool, writable: bool, user: bool
     ) -> Line;
     /// The number of the frame that `virt` was mapped to.
-    fn unmap_page = gadulnos_unmap_page(words: &mut [u64], start: u64, total: u64, root: u64, virt: u64) -> Line;
+    fn unmap_page = gadulnos_unmap_page(
+        words: &mut [u64], start: u64, total: u64, levels: u64, root: u64, virt: u64
+    ) -> Line;
 }
 
 // Regions, faults, and the start.
@@ -192,12 +197,21 @@ functions! {
     fn handle_page_fault_second = gadulnos_handle_page_fault_second(
         words: &mut [u64], fields: &mut [u8], bits: &mut Marks, root: u64, addr: u64, code: u64
     ) -> Line;
-    /// A fresh board on memory `from` to `to`, whatever its parts held before.
+    /// A fresh board of four levels on memory `from` to `to`, whatever its parts held before.
     fn start = gadulnos_start(
         words: &mut [u64], fields: &mut [u8], bits: &mut Marks, root: &mut u64,
         kernel: &mut [u8], user: &mut [u8], marked: &mut [u8], from: u64, to: u64
     ) -> Line;
+    /// .. of so many levels of page tables, 4 or 5.
+    fn start_levels = gadulnos_start_levels(
+        words: &mut [u64], fields: &mut [u8], bits: &mut Marks, root: &mut u64,
+        kernel: &mut [u8], user: &mut [u8], marked: &mut [u8], from: u64, to: u64, levels: u64
+    ) -> Line;
 }
+
+/// The levels of page tables of a board if none are named, and the most that there may be.
+pub const LEVELS: u64 = 4;
+pub const MOST_LEVELS: u64 = 5;
 
 /// The number of slots of each list.
 pub const SLOTS: usize = 256;
@@ -216,6 +230,8 @@ pub struct Frames {
     pub start_frame: u64,
     pub total: u64,
     pub allocated: u64,
+    /// The board's levels of page tables, 4 or 5.
+    pub levels: u64,
 }
 
 /// A region of the vmalloc list.
@@ -272,10 +288,10 @@ fn pack_words(words: impl IntoIterator<Item = u64>) -> Vec<u8> {
 
 /// The packed layout. `unpack` has nothing for bytes that stand for no record of its kind.
 impl Frames {
-    pub const BYTES: usize = 24;
+    pub const BYTES: usize = 32;
 
     pub fn pack(&self) -> Vec<u8> {
-        pack_words([self.start_frame, self.total, self.allocated])
+        pack_words([self.start_frame, self.total, self.allocated, self.levels])
     }
 
     pub fn unpack(bytes: &[u8]) -> Option<Frames> {
@@ -284,6 +300,7 @@ impl Frames {
             start_frame: word(bytes, 0),
             total: word(bytes, 8),
             allocated: word(bytes, 16),
+            levels: word(bytes, 24),
         })
     }
 }
@@ -397,6 +414,11 @@ where
         start(words, fields, bits, root, kernel, user, marked, from, to)
     }
 
+    pub fn start_levels(&mut self, from: u64, to: u64, levels: u64) -> Line {
+        let Board { words, fields, bits, root, kernel, user, marked } = self;
+        start_levels(words, fields, bits, root, kernel, user, marked, from, to, levels)
+    }
+
     pub fn init(&mut self, from: u64, to: u64) -> Line {
         init(&mut self.fields, &mut self.bits, from, to)
     }
@@ -431,18 +453,18 @@ where
 
     /// The frame record; a part of another length counts as zeros.
     pub fn frames(&self) -> Frames {
-        let none = Frames { start_frame: 0, total: 0, allocated: 0 };
+        let none = Frames { start_frame: 0, total: 0, allocated: 0, levels: 0 };
         Frames::unpack(&self.fields).unwrap_or(none)
     }
 
     pub fn translate(&self, virt: u64) -> Line {
-        let Frames { start_frame, total, .. } = self.frames();
-        translate(&self.words, start_frame, total, self.root, virt)
+        let Frames { start_frame, total, levels, .. } = self.frames();
+        translate(&self.words, start_frame, total, levels, self.root, virt)
     }
 
     pub fn user_may(&self, virt: u64, write: bool) -> Line {
-        let Frames { start_frame, total, .. } = self.frames();
-        user_may(&self.words, start_frame, total, self.root, virt, write)
+        let Frames { start_frame, total, levels, .. } = self.frames();
+        user_may(&self.words, start_frame, total, levels, self.root, virt, write)
     }
 
     pub fn map_page(&mut self, virt: u64, phys: u64, writable: bool, user: bool) -> Line {
@@ -463,8 +485,8 @@ where
     }
 
     pub fn unmap_page(&mut self, virt: u64) -> Line {
-        let Frames { start_frame, total, .. } = self.frames();
-        unmap_page(&mut self.words, start_frame, total, self.root, virt)
+        let Frames { start_frame, total, levels, .. } = self.frames();
+        unmap_page(&mut self.words, start_frame, total, levels, self.root, virt)
     }
 
     pub fn vmalloc(&mut self, size: u64) -> Line {

@@ -1,9 +1,10 @@
-//! `same` beside the port: random calls on boards that calls led to, on boards near them, and on damaged
-//! parts. Answers and all parts must be equal, so that what the rows compare does the same work.
+//! `same` beside the port: random calls on boards of four and of five levels that calls led to, on boards
+//! near them, and on damaged parts. Answers and all parts must be equal, so that what the rows compare does
+//! the same work.
 
 use crate::same;
 use crate::trio::{alike, state};
-use gadulnos::{Board, Frames, Kernel, Line, Marked, Region, Slot, User};
+use gadulnos::{Board, Frames, Kernel, Line, Marked, Region, Slot, User, LEVELS, MOST_LEVELS};
 use paper::call::{user, writable, Call};
 use paper::generate::{Generator, Parts, Profile, Random};
 use paper::{KERNEL_WINDOW, PAGE, USER_WINDOW};
@@ -14,7 +15,7 @@ const SEQUENCES: u64 = 1500;
 macro_rules! player {
     ($name:ident, $calls:ident) => {
         pub fn $name(board: &mut Board, call: &Call) -> [Line; 3] {
-            let Frames { start_frame: first, total, .. } = board.frames();
+            let Frames { start_frame: first, total, levels, .. } = board.frames();
             let Board { words, fields, bits, root, kernel, user: list, marked } = board;
             let root = *root;
             let one = match *call {
@@ -34,16 +35,18 @@ macro_rules! player {
                 }
                 Call::Translate { addr } => {
                     return [
-                        $calls::translate(words, first, total, root, addr),
-                        $calls::user_may(words, first, total, root, addr, false),
-                        $calls::user_may(words, first, total, root, addr, true),
+                        $calls::translate(words, first, total, levels, root, addr),
+                        $calls::user_may(words, first, total, levels, root, addr, false),
+                        $calls::user_may(words, first, total, levels, root, addr, true),
                     ]
                 }
                 Call::MapPage { virt, phys, flags } => {
                     let (w, u) = (writable(flags), user(flags));
                     $calls::map_page(words, fields, bits, root, virt, phys, w, u)
                 }
-                Call::UnmapPage { virt } => $calls::unmap_page(words, first, total, root, virt),
+                Call::UnmapPage { virt } => {
+                    $calls::unmap_page(words, first, total, levels, root, virt)
+                }
                 Call::MapHugePage { virt, phys, gigabyte, flags } => {
                     let (w, u) = (writable(flags), user(flags));
                     $calls::map_huge_page(words, fields, bits, root, virt, phys, gigabyte, w, u)
@@ -106,12 +109,25 @@ fn both(port: &mut Board, same: &mut Board, call: &Call) -> Result<(), String> {
     alike(port, same).map_err(|part| format!("{call}: {part}"))
 }
 
-/// A start on both, whatever the parts hold.
-fn start(port: &mut Board, same: &mut Board, from: u64, to: u64) -> Result<(), String> {
+/// A start on both, of so many levels if they are named, whatever the parts hold.
+fn start(
+    port: &mut Board,
+    same: &mut Board,
+    (from, to): (u64, u64),
+    levels: Option<u64>,
+) -> Result<(), String> {
     let Board { words, fields, bits, root, kernel, user, marked } = same;
-    let other = same::start(words, fields, bits, root, kernel, user, marked, from, to);
-    let one = port.start(from, to);
-    let told = || format!("start {from:x} {to:x}");
+    let (one, other) = match levels {
+        None => (
+            port.start(from, to),
+            same::start(words, fields, bits, root, kernel, user, marked, from, to),
+        ),
+        Some(levels) => (
+            port.start_levels(from, to, levels),
+            same::start_levels(words, fields, bits, root, kernel, user, marked, from, to, levels),
+        ),
+    };
+    let told = || format!("start {from:x} {to:x} {levels:x?}");
     if one != other {
         return Err(format!("{}: {one:?} and {other:?}", told()));
     }
@@ -142,7 +158,8 @@ fn sequence(
     let mut port = Board::lend(((to - from) / PAGE) as usize);
     generator.fill(&mut port.words);
     let mut same = copy(&port);
-    start(&mut port, &mut same, from, to)?;
+    let levels = random.one_of(&[None, Some(LEVELS), Some(MOST_LEVELS), Some(MOST_LEVELS)]);
+    start(&mut port, &mut same, (from, to), levels)?;
     for _ in 0..generator.length() {
         let stands = state(&port).ok_or("parts that stand for no state")?;
         let call = generator.next(&stands);
@@ -180,7 +197,8 @@ fn on_changed(
     both(&mut port, &mut same, &call)?;
     search(random, &port, &same)?;
     let end = random.one_of(&[to, from, from.wrapping_sub(1), (1 << 52) + 1]);
-    start(&mut port, &mut same, from, end)
+    let levels = random.one_of(&[None, Some(LEVELS), Some(MOST_LEVELS), Some(3), Some(6)]);
+    start(&mut port, &mut same, (from, end), levels)
 }
 
 /// Other lists: at times full ones, or nearly so, and regions of any size over the pages that stand.
@@ -230,18 +248,23 @@ fn set(board: &mut Board, parts: &Parts) {
     board.marked = marked.pack();
 }
 
-/// Another root or other frames, a root that leads to itself, or a byte or a length that is another
+/// Another root, other frames or levels, a root that leads to itself, or a byte or a length that is another
 /// than it was, whatever that makes of the part. The bitmap has its length by its type.
 fn damage(random: &mut Random, board: &mut Board) {
-    let Frames { start_frame, total, allocated } = board.frames();
+    let record = board.frames();
+    let Frames { start_frame, .. } = record;
     let Board { words, fields, bits, root, kernel, user, marked } = board;
-    let part = match random.below(10) {
+    let part = match random.below(11) {
         0 => return words.truncate(words.len().saturating_sub(random.below(2) as usize)),
         1 => return *root = root.wrapping_add(random.one_of(&[u64::MAX, 1, 600])),
         2 => {
             let start_frame = start_frame.wrapping_add(1 << random.one_of(&[12, 39, 40, 63]));
-            *fields = Frames { start_frame, total, allocated }.pack();
+            *fields = Frames { start_frame, ..record }.pack();
             return *root = start_frame;
+        }
+        10 => {
+            let levels = random.one_of(&[LEVELS, MOST_LEVELS, 0, 3, 6, u64::MAX]);
+            return *fields = Frames { levels, ..record }.pack();
         }
         3 => {
             let first = root.wrapping_sub(start_frame).min(8192) as usize * 512;

@@ -34,6 +34,7 @@ pub fn row(table: &mut Table) {
     agreed(&name, "before it", fs::write(TAPE, &bytes).map_err(|why| format!("{TAPE}: {why}")));
     let mut trio = Trio::start(SMALL);
     let Trio { rust, same, .. } = &mut trio;
+    let rust = rust.as_mut().expect("a board of four levels");
     let (_, key) = of_rust(rust, &calls);
     // The time of a call, from a side whose key is the Rust's.
     let time_of = |side: &str, (time, got): (f64, String)| {
@@ -50,8 +51,8 @@ pub fn row(table: &mut Table) {
         &mut || time_of("same", of_same(same, &bytes)),
     ];
     table.time(row, sides.map(Some));
-    let difference = match state(&trio.same.board) {
-        Some(state) => trio.rust.board.state().difference(&state),
+    let difference = match state(&same.board) {
+        Some(state) => rust.board.state().difference(&state),
         None => Some("parts that stand for no state".to_string()),
     };
     agreed(&name, "after its rounds", difference.map_or(Ok(()), Err));
@@ -147,7 +148,7 @@ fn of_same(same: &mut Same, tape: &[u8]) -> (f64, String) {
 fn turn(board: &mut Board, tape: &[u8]) -> Option<(Line, usize)> {
     let word = |at: usize| Some(u64::from_le_bytes(tape.get(at..at + 8)?.try_into().ok()?));
     let half = |at: usize| Some(i32::from_le_bytes(tape.get(at..at + 4)?.try_into().ok()?));
-    let Frames { start_frame, total, .. } = board.frames();
+    let Frames { start_frame, total, levels, .. } = board.frames();
     let Board { words, fields, bits, root, kernel, user, marked } = board;
     let root = *root;
     Some(match tape.first()? {
@@ -161,7 +162,7 @@ fn turn(board: &mut Board, tape: &[u8]) -> Option<(Line, usize)> {
         }
         4 => (same::munmap(words, fields, bits, root, user, word(1)?, word(9)?), 17),
         5 => (same::handle_page_fault(words, fields, bits, root, marked, word(1)?, word(9)?), 17),
-        6 => (same::translate(words, start_frame, total, root, word(1)?), 9),
+        6 => (same::translate(words, start_frame, total, levels, root, word(1)?), 9),
         _ => return None,
     })
 }

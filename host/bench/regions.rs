@@ -4,6 +4,7 @@ use crate::sides::Side;
 use crate::table::{timed, Row, Table, Work};
 use crate::trio::{each, state, Trio};
 use crate::{LARGE, SMALL};
+use gadulnos::{LEVELS, MOST_LEVELS};
 use paper::{PAGE, USER_WINDOW};
 use std::hint::black_box;
 
@@ -45,11 +46,12 @@ pub fn rows(table: &mut Table) {
     for (frames, pages, regions, main) in SIZES {
         let (on, goal) = (on(frames, pages, regions), Some(1.5));
         let row = Row { what: "mmap, munmap", on, goal, main };
-        table.row(row, || {
-            let trio = user_board(frames, regions);
-            let next_addr = state(&trio.port.board).map_or(0, |state| state.next_addr);
-            (trio, Mmap { pages, next_addr })
-        });
+        table.row(row, || Mmap::set_up(user_board(frames, regions), pages));
+    }
+    for pages in [1, 16] {
+        let on = format!("five levels, {}", on(LARGE, pages, 2));
+        let row = Row { what: "mmap, munmap", on, goal: None, main: true };
+        table.row(row, || Mmap::set_up(user_board_of(LARGE, MOST_LEVELS, 2), pages));
     }
     for (regions, from_first, main) in [(2, false, true), (200, false, false), (200, true, true)] {
         let from = if from_first { ", from the first on" } else { "" };
@@ -82,7 +84,11 @@ fn kernel_board(frames: u64, regions: u64) -> Trio {
 
 /// A board on which one mmap more makes so many regions.
 fn user_board(frames: u64, regions: u64) -> Trio {
-    let mut trio = Trio::start(frames);
+    user_board_of(frames, LEVELS, regions)
+}
+
+fn user_board_of(frames: u64, levels: u64, regions: u64) -> Trio {
+    let mut trio = Trio::start_levels(frames, levels);
     each!(trio, side => for _ in 1..regions {
         assert!(side.mmap(PAGE).is_some());
     });
@@ -106,6 +112,13 @@ impl Work for Vmalloc {
 struct Mmap {
     pages: u64,
     next_addr: u64,
+}
+
+impl Mmap {
+    fn set_up(trio: Trio, pages: u64) -> (Trio, Mmap) {
+        let next_addr = state(&trio.port.board).map_or(0, |state| state.next_addr);
+        (trio, Mmap { pages, next_addr })
+    }
 }
 
 impl Work for Mmap {

@@ -1,8 +1,8 @@
 //! The three sides of a row: the port's C functions, the original Rust, and `same`. A row's calls are
-//! written once, over `Side`.
+//! written once, over `Side`. The Rust has boards of four levels alone.
 
 use crate::same;
-use gadulnos::{Board, Frames, Line, Marked};
+use gadulnos::{Board, Frames, Line, Marked, LEVELS};
 use paper::state::Region;
 use rinux::paging::{HugePageSize, PageMapper, PhysAddr, VirtAddr};
 use rinux::{frame, mmap, oracle, page_fault, page_handler, vmalloc};
@@ -57,21 +57,29 @@ macro_rules! packed_side {
     ($name:ident, $calls:ident) => {
         pub struct $name {
             pub board: Board,
-            /// The lent frames, as a host knows them.
+            /// The lent frames and the levels, as a host knows them.
             start: u64,
             total: u64,
+            levels: u64,
         }
 
         impl $name {
-            pub fn lend(start: u64, total: u64) -> $name {
-                $name { board: Board::lend(total as usize), start, total }
+            pub fn lend(start: u64, total: u64, levels: u64) -> $name {
+                $name { board: Board::lend(total as usize), start, total, levels }
             }
         }
 
         impl Side for $name {
             fn start(&mut self, from: u64, to: u64) -> Option<u64> {
                 let Board { words, fields, bits, root, kernel, user, marked } = &mut self.board;
-                met($calls::start(words, fields, bits, root, kernel, user, marked, from, to))
+                met(match self.levels {
+                    LEVELS => {
+                        $calls::start(words, fields, bits, root, kernel, user, marked, from, to)
+                    }
+                    levels => $calls::start_levels(
+                        words, fields, bits, root, kernel, user, marked, from, to, levels,
+                    ),
+                })
             }
 
             fn allocate_frame(&mut self) -> Option<u64> {
@@ -92,12 +100,12 @@ macro_rules! packed_side {
 
             fn translate(&self, virt: u64) -> Option<u64> {
                 let Board { words, root, .. } = &self.board;
-                met($calls::translate(words, self.start, self.total, *root, virt))
+                met($calls::translate(words, self.start, self.total, self.levels, *root, virt))
             }
 
             fn user_may(&self, virt: u64, write: bool) -> Option<u64> {
-                let Board { words, root, .. } = &self.board;
-                met($calls::user_may(words, self.start, self.total, *root, virt, write))
+                let $name { board: Board { words, root, .. }, start, total, levels } = self;
+                met($calls::user_may(words, *start, *total, *levels, *root, virt, write))
             }
 
             fn map_page(&mut self, virt: u64, phys: u64) -> Option<u64> {
@@ -114,7 +122,7 @@ macro_rules! packed_side {
 
             fn unmap_page(&mut self, virt: u64) -> Option<u64> {
                 let Board { words, root, .. } = &mut self.board;
-                met($calls::unmap_page(words, self.start, self.total, *root, virt))
+                met($calls::unmap_page(words, self.start, self.total, self.levels, *root, virt))
             }
 
             fn vmalloc(&mut self, size: u64) -> Option<u64> {

@@ -133,8 +133,12 @@ impl Table {
         let (mut trio, work) = set_up();
         agreed(&name, "before its rounds", trio.check());
         let Trio { port, rust, same } = &mut trio;
-        let mut in_rust = || work.round(rust);
-        let rust: Round = if W::IN_RUST { Some(&mut in_rust) } else { None };
+        let rust = rust.as_mut().filter(|_| W::IN_RUST);
+        let mut in_rust = rust.map(|rust| || work.round(rust));
+        let rust: Round = match &mut in_rust {
+            Some(round) => Some(round),
+            None => None,
+        };
         self.time(row, [Some(&mut || work.round(port)), rust, Some(&mut || work.round(same))]);
         agreed(&name, "after its rounds", trio.check());
     }

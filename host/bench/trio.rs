@@ -1,7 +1,7 @@
-//! A board of each side, kept in the same state.
+//! A board of each side, kept in the same state. On five levels there is none of the Rust's.
 
 use crate::sides::{Port, Rust, Same, Side};
-use gadulnos::{Board, Frames, Kernel, Marked, User};
+use gadulnos::{Board, Frames, Kernel, Marked, User, LEVELS};
 use paper::state::{Region, Slot, State, SLOTS};
 use paper::PAGE;
 
@@ -11,7 +11,7 @@ pub const FIRST: u64 = START / PAGE;
 
 pub struct Trio {
     pub port: Port,
-    pub rust: Rust,
+    pub rust: Option<Rust>,
     pub same: Same,
 }
 
@@ -23,8 +23,7 @@ macro_rules! each {
             let $side = port;
             $does;
         }
-        {
-            let $side = rust;
+        if let Some($side) = rust {
             $does;
         }
         {
@@ -36,26 +35,31 @@ macro_rules! each {
 pub(crate) use each;
 
 impl Trio {
-    /// Fresh boards of so many frames.
+    /// Fresh boards of so many frames and four levels.
     pub fn start(frames: u64) -> Trio {
+        Trio::start_levels(frames, LEVELS)
+    }
+
+    /// .. of so many levels.
+    pub fn start_levels(frames: u64, levels: u64) -> Trio {
         let end = START + frames * PAGE;
-        let board = rinux::oracle::Board::start(START, end).expect("memory for a board");
+        let board = || rinux::oracle::Board::start(START, end).expect("memory for a board");
         let mut trio = Trio {
-            port: Port::lend(FIRST, frames),
-            rust: Rust { board },
-            same: Same::lend(FIRST, frames),
+            port: Port::lend(FIRST, frames, levels),
+            rust: (levels == LEVELS).then(|| Rust { board: board() }),
+            same: Same::lend(FIRST, frames, levels),
         };
         each!(trio, side => assert_eq!(side.start(START, end), Some(0)));
         trio
     }
 
-    /// That all three stand in the same state: every word, part and record.
+    /// That all stand in the same state: every word, part and record.
     pub fn check(&self) -> Result<(), String> {
         alike(&self.port.board, &self.same.board)
             .map_err(|part| format!("port and same: {part}"))?;
         let state = state(&self.port.board).ok_or("the port's parts stand for no state")?;
-        let difference = self.rust.board.state().difference(&state);
-        difference.map_or(Ok(()), |part| Err(format!("Rust and port: {part}")))
+        let difference = self.rust.as_ref().map(|rust| rust.board.state().difference(&state));
+        difference.flatten().map_or(Ok(()), |part| Err(format!("Rust and port: {part}")))
     }
 }
 
@@ -90,6 +94,7 @@ pub fn state(board: &Board) -> Option<State<'_>> {
         start_frame: frames.start_frame,
         total: frames.total,
         allocated: frames.allocated,
+        levels: frames.levels,
         bitmap: gadulnos::unpack_bitmap(&board.bits),
         root: board.root,
         vmalloc_count: (kernel.count as usize).min(SLOTS),

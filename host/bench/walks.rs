@@ -1,9 +1,11 @@
-//! The walks and the mapper's calls, with their tables there, and the user question.
+//! The walks and the mapper's calls, with their tables there, and the user question; two of them on five
+//! levels too, without the Rust.
 
 use crate::sides::Side;
 use crate::table::{mean_of, timed, Row, Table, Work};
 use crate::trio::{each, Trio, FIRST};
 use crate::{LARGE, SMALL};
+use gadulnos::{LEVELS, MOST_LEVELS};
 use paper::PAGE;
 use std::hint::black_box;
 
@@ -18,11 +20,17 @@ pub fn rows(table: &mut Table) {
         let on = format!("{total} frames, tables there");
         let row = |what, goal| Row { what, on: on.clone(), goal, main };
         let map_goal = if total == SMALL { 3.0 } else { 5.0 };
-        table.row(row("translate", Some(1.3)), || (mapped(total), Translate));
-        table.row(row("the user question", None), || (mapped(total), Question));
-        table.row(row("map_page", Some(map_goal)), || (mapped(total), Map { is_timed: true }));
-        table.row(row("unmap_page", Some(1.3)), || (mapped(total), Map { is_timed: false }));
+        let board = || mapped(total, LEVELS);
+        table.row(row("translate", Some(1.3)), || (board(), Translate));
+        table.row(row("the user question", None), || (board(), Question));
+        table.row(row("map_page", Some(map_goal)), || (board(), Map { is_timed: true }));
+        table.row(row("unmap_page", Some(1.3)), || (board(), Map { is_timed: false }));
     }
+    let on = format!("{LARGE} frames, five levels, tables there");
+    let row = |what| Row { what, on: on.clone(), goal: None, main: true };
+    let board = || mapped(LARGE, MOST_LEVELS);
+    table.row(row("translate"), || (board(), Translate));
+    table.row(row("map_page"), || (board(), Map { is_timed: true }));
     for (total, pages, goal) in [(LARGE, 64, 5.0), (SMALL, 8, 3.0)] {
         for (size, gigabyte) in [("2 MiB", false), ("1 GiB", true)] {
             let on = format!("{size}, {total} frames, tables there");
@@ -41,8 +49,8 @@ fn target(i: u64) -> u64 {
 }
 
 /// A board with all the pages mapped.
-fn mapped(total: u64) -> Trio {
-    let mut trio = Trio::start(total);
+fn mapped(total: u64, levels: u64) -> Trio {
+    let mut trio = Trio::start_levels(total, levels);
     each!(trio, side => for i in 0..PAGES {
         assert_eq!(side.map_page(page(i), target(i)), Some(0));
     });

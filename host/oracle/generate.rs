@@ -256,7 +256,8 @@ fn draw_mmap(p: &mut Picker, size: u64) -> Call {
         _ => p.address() & !(PAGE - 1),
     };
     if given && p.random.chance(1, 4) {
-        addr = p.random.below(1 << 47) & !(PAGE - 1);
+        let lower_half = 1 << (p.state.width() - 1);
+        addr = p.random.below(lower_half) & !(PAGE - 1);
     }
     let flags = match p.random.below(4) {
         0 => p.signed(),

@@ -106,6 +106,7 @@ impl Board {
             start_frame: record.start_frame,
             total: record.total,
             allocated: record.allocated,
+            levels: paper::LEVELS,
             bitmap: record.bitmap,
             root: stand_in::cr3() / 4096,
             vmalloc_count: vmalloc::access::count(),

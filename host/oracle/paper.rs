@@ -16,6 +16,11 @@ pub const PAGE: u64 = 4096;
 /// The highest page address, and the largest size that can be rounded up to a page.
 pub const LAST: u64 = u64::MAX - 4095;
 
+/// The levels of page tables of the Rust, and the most that a board may have. They count
+/// from the bottom, 1 the last.
+pub const LEVELS: u64 = 4;
+pub const MOST_LEVELS: u64 = 5;
+
 /// The page through which the first fault path copies.
 pub const TEMPORARY: u64 = 0xFFFF_FFFF_FFFF_0000;
 

@@ -1,6 +1,6 @@
 //! The state of a board as it stands between two calls.
 
-use crate::PAGE;
+use crate::{MOST_LEVELS, PAGE};
 
 /// The number of words in the frame bitmap.
 pub const BITMAP_WORDS: usize = 128;
@@ -31,6 +31,8 @@ pub struct State<'a> {
     pub start_frame: u64,
     pub total: u64,
     pub allocated: u64,
+    /// The levels of page tables.
+    pub levels: u64,
     pub bitmap: [u64; BITMAP_WORDS],
     /// The root's frame number.
     pub root: u64,
@@ -50,6 +52,11 @@ impl State<'_> {
     /// The vmalloc regions that count, in list order.
     pub fn vmalloc(&self) -> &[Slot] {
         &self.slots[..self.vmalloc_count.min(SLOTS)]
+    }
+
+    /// How many bits of an address lead to its page and place: those above are ignored.
+    pub fn width(&self) -> u32 {
+        12 + 9 * self.levels.min(MOST_LEVELS) as u32
     }
 
     /// The index of a frame on this board.
@@ -91,6 +98,7 @@ impl State<'_> {
             "start_frame": self.start_frame, other.start_frame;
             "total": self.total, other.total;
             "allocated": self.allocated, other.allocated;
+            "levels": self.levels, other.levels;
             "root": self.root, other.root;
             "bitmap": self.bitmap, other.bitmap;
             "vmalloc": self.vmalloc(), other.vmalloc();
@@ -110,8 +118,8 @@ impl State<'_> {
     /// The records, and every word that is not zero as index:value.
     pub fn print(&self) -> String {
         let mut text = format!(
-            "  start_frame {:#x} total {} allocated {} root {:#x}\n",
-            self.start_frame, self.total, self.allocated, self.root
+            "  start_frame {:#x} total {} allocated {} levels {} root {:#x}\n",
+            self.start_frame, self.total, self.allocated, self.levels, self.root
         );
         text += &list("bitmap", nonzero(&self.bitmap));
         let slots = self.vmalloc().iter().map(|slot| {

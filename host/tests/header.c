@@ -18,7 +18,9 @@ static uint64_t root;
 /* The parts as arguments. */
 #define MEMORY words, WORDS
 #define RECORD fields, sizeof fields, bits
-#define WALK words, WORDS, 0x100, FRAMES, root
+#define LISTS kernel, sizeof kernel, user, sizeof user, marked, sizeof marked
+#define WALK words, WORDS, 0x100, FRAMES, GADULNOS_LEVELS, root
+#define WALK_FIVE words, WORDS, 0x100, FRAMES, GADULNOS_MOST_LEVELS, root
 
 static int passed, failed;
 
@@ -36,9 +38,13 @@ static bool is(struct gadulnos_line line, uint64_t number, uint64_t value)
 static bool start(void)
 {
     memset(words, 0xFF, sizeof words);
-    return is(gadulnos_start(MEMORY, RECORD, &root, kernel, sizeof kernel, user, sizeof user, marked,
-                             sizeof marked, 0x100000, 0x110000),
-              0, 0) && root == 0x100;
+    return is(gadulnos_start(MEMORY, RECORD, &root, LISTS, 0x100000, 0x110000), 0, 0) && root == 0x100;
+}
+
+static bool start_levels(uint64_t levels, uint64_t number)
+{
+    memset(words, 0xFF, sizeof words);
+    return is(gadulnos_start_levels(MEMORY, RECORD, &root, LISTS, 0x100000, 0x110000, levels), number, 0);
 }
 
 static void numbers(void)
@@ -96,9 +102,30 @@ static void tables(void)
                      && is(gadulnos_user_may(WALK, 0x1000, false), 0, 1)
                      && is(gadulnos_user_may(WALK, 0x1000, true), 0, 0));
     check("unmap", is(gadulnos_unmap_page(WALK, 0x1000), 0, 0x10F) && is(gadulnos_unmap_page(WALK, 0x1000), 14, 0));
+    check("other levels", is(gadulnos_translate(words, WORDS, 0x100, FRAMES, 3, root, 0x1000), 10, 0)
+                              && is(gadulnos_user_may(words, WORDS, 0x100, FRAMES, 6, root, 0x1000, true), 10, 0)
+                              && is(gadulnos_unmap_page(words, WORDS, 0x100, FRAMES, 0, root, 0x1000), 10, 0));
     check("map huge", is(gadulnos_map_huge_page(MEMORY, RECORD, root, 0x1000, 0, true, true, true), 4, 0)
                           && is(gadulnos_map_huge_page(MEMORY, RECORD, root, 0x40000000, 0x40000000, true, true, true), 0, 0)
                           && is(gadulnos_translate(WALK, 0x40012345), 0, 0x40012345));
+}
+
+/* The top index of five levels is bits 56 to 48; the bits above are ignored. */
+static void five_levels(void)
+{
+    const uint64_t page = UINT64_C(1) << 48;
+    const uint64_t above = UINT64_C(1) << 57;
+
+    check("start of five levels", start_levels(6, 10) && start_levels(3, 10) && words[0] == UINT64_MAX
+                                      && start_levels(5, 0) && root == 0x100 && fields[24] == 5);
+    check("map on five levels",
+          is(gadulnos_map_page(MEMORY, RECORD, root, page, 0x10F000, true, true), 0, 0)
+              && is(gadulnos_allocated_frames(RECORD), 0, 5)
+              && is(gadulnos_translate(WALK_FIVE, page + above + 0x10), 0, 0x10F010)
+              && is(gadulnos_translate(WALK_FIVE, 0), 14, 0)
+              && is(gadulnos_user_may(WALK_FIVE, page, true), 0, 1)
+              && is(gadulnos_unmap_page(WALK_FIVE, page), 0, 0x10F));
+    check("init after five levels", is(gadulnos_init(RECORD, 0x100000, 0x110000), 0, 0) && fields[24] == 4);
 }
 
 /* Document 01's worked example. */
@@ -142,6 +169,7 @@ int main(void)
     numbers();
     frames();
     tables();
+    five_levels();
     regions();
     faults();
     printf("%d passed, %d failed\n", passed, failed);

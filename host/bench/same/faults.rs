@@ -110,7 +110,7 @@ fn first_path(mut memory: Memory, marked: &mut [u8], n: usize, page: u64, code: 
             return Err(7);
         }
         let frame = memory.frames.take()?;
-        return memory.map(page, 3, user, entry(frame * PAGE, write, user)).map_err(|_| 18);
+        return memory.map(page, 1, user, entry(frame * PAGE, write, user)).map_err(|_| 18);
     }
     if !write {
         return Err(if fetch { 7 } else { 8 });
@@ -128,7 +128,7 @@ fn copy(memory: &mut Memory, page: u64, user: bool) -> Answer {
     // Where a translation would find nothing there is nothing to unmap either.
     let _ = memory.unmap(TEMPORARY);
     let temporary = entry(frame * PAGE, true, false);
-    memory.map(TEMPORARY, 3, false, temporary).map_err(|_| 18u64)?;
+    memory.map(TEMPORARY, 1, false, temporary).map_err(|_| 18u64)?;
     let phys = memory.tables.translate(memory.words, page).ok();
     let source = phys.and_then(|phys| memory.tables.place(phys / PAGE));
     if let (Some(source), Some(target)) = (source, memory.tables.place(frame)) {
@@ -139,7 +139,7 @@ fn copy(memory: &mut Memory, page: u64, user: bool) -> Answer {
     if let Ok(old) = memory.unmap(page) {
         memory.frames.free(old);
     }
-    memory.map(page, 3, user, entry(frame * PAGE, true, user)).map_err(|_| 18)
+    memory.map(page, 1, user, entry(frame * PAGE, true, user)).map_err(|_| 18)
 }
 
 #[inline(never)]
@@ -167,7 +167,7 @@ fn second_path(mut memory: Memory, page: u64, code: u64) -> Answer {
         (false, false) => (),
     }
     let frame = memory.frames.take()?;
-    let at = memory.enter(page, 3, user)?;
+    let at = memory.enter(page, 1, user)?;
     memory.words[at] = entry(frame * PAGE, write, user);
     memory.zero(frame);
     Ok(0)

@@ -1,7 +1,7 @@
 //! The frame record and its bitmap.
 
 use super::packed::{are_zero, put, word};
-use super::{line, Answer, BROKEN};
+use super::{is_levels, line, Answer, BROKEN};
 use gadulnos::{Line, Marks};
 
 /// A record that was tested.
@@ -10,20 +10,21 @@ struct Record {
     start: u64,
     total: u64,
     allocated: u64,
+    levels: u64,
 }
 
 impl Record {
     #[inline(always)]
     fn read(fields: &[u8], bits: &Marks) -> Option<Record> {
-        if fields.len() != 24 {
+        if fields.len() != 32 {
             return None;
         }
-        let record =
-            Record { start: word(fields, 0), total: word(fields, 1), allocated: word(fields, 2) };
-        let sound = record.total <= 8192
-            && record.start <= (1 << 40) - record.total
-            && record.allocated == count(bits, record.total);
-        sound.then_some(record)
+        let [start, total, allocated, levels] = [0, 1, 2, 3].map(|k| word(fields, k));
+        let sound = total <= 8192
+            && start <= (1 << 40) - total
+            && is_levels(levels)
+            && allocated == count(bits, total);
+        sound.then_some(Record { start, total, allocated, levels })
     }
 
     /// The place of a lent frame's bit.
@@ -77,6 +78,11 @@ impl<'a> Frames<'a> {
     }
 
     #[inline]
+    pub fn levels(&self) -> u64 {
+        self.record.levels
+    }
+
+    #[inline]
     fn set_allocated(&mut self, allocated: u64) {
         self.record.allocated = allocated;
         put(self.fields, 2, allocated);
@@ -85,7 +91,7 @@ impl<'a> Frames<'a> {
     /// Marks the lowest free frame.
     #[inline]
     pub fn take(&mut self) -> Answer {
-        let Record { start, total, allocated } = self.record;
+        let Record { start, total, allocated, .. } = self.record;
         for k in 0..(total as usize + 63) / 64 {
             let marks = word(self.bits, k);
             if marks != u64::MAX {

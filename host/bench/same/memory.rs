@@ -1,12 +1,9 @@
 //! Words, frames and root of a call that takes or frees frames, and runs of pages on them.
 
 use super::frames::Frames;
-use super::tables::{entry, frame_of, index, Tables, PRESENT};
+use super::tables::{down, entry, frame_of, index, Tables, PRESENT};
 use super::{Answer, PAGE};
 use gadulnos::Marks;
-
-/// All the pages that there are: bits 63 to 48 of an address are ignored.
-const ALL_PAGES: u64 = 1 << 36;
 
 pub struct Memory<'a> {
     pub words: &'a mut [u64],
@@ -32,7 +29,8 @@ impl<'a> Memory<'a> {
         root: u64,
     ) -> Option<Memory<'a>> {
         let frames = Frames::sound(fields, bits)?;
-        let tables = Tables { start: frames.start(), total: frames.total(), root };
+        let (start, total, levels) = (frames.start(), frames.total(), frames.levels());
+        let tables = Tables { start, total, levels, root };
         (!tables.are_broken(words)).then_some(Memory { words, frames, tables })
     }
 
@@ -51,11 +49,11 @@ impl<'a> Memory<'a> {
         Ok(frame)
     }
 
-    /// The word of an entry below `depth` tables. Those that are absent are made.
+    /// The word of an entry at a level. Tables above it that are absent are made.
     #[inline(always)]
-    pub fn enter(&mut self, virt: u64, depth: u32, user: bool) -> Result<usize, u64> {
+    pub fn enter(&mut self, virt: u64, to: u64, user: bool) -> Result<usize, u64> {
         let mut table = self.tables.root;
-        for level in 0..depth {
+        for level in down(self.tables.levels, to + 1) {
             let at = self.tables.place(table).ok_or(19u64)? + index(virt, level);
             if self.words[at] & PRESENT == 0 {
                 let frame = self.fresh()?;
@@ -63,12 +61,12 @@ impl<'a> Memory<'a> {
             }
             table = frame_of(self.words[at]);
         }
-        Ok(self.tables.place(table).ok_or(19u64)? + index(virt, depth))
+        Ok(self.tables.place(table).ok_or(19u64)? + index(virt, to))
     }
 
     #[inline(always)]
-    pub fn map(&mut self, virt: u64, depth: u32, user: bool, entry: u64) -> Answer {
-        let at = self.enter(virt, depth, user)?;
+    pub fn map(&mut self, virt: u64, level: u64, user: bool, entry: u64) -> Answer {
+        let at = self.enter(virt, level, user)?;
         if self.words[at] & PRESENT != 0 {
             return Err(12);
         }
@@ -93,15 +91,18 @@ impl<'a> Memory<'a> {
         for i in 0..pages {
             let frame = self.fresh().map_err(|number| (number, i))?;
             let leaf = entry(frame * PAGE, writable, user);
-            self.map(virt + i * PAGE, 3, user, leaf).map_err(|_| (13, i))?;
+            self.map(virt + i * PAGE, 1, user, leaf).map_err(|_| (13, i))?;
         }
         Ok(())
     }
 
-    /// Unmaps pages and frees their frames, passing over those that are not mapped.
+    /// Unmaps pages and frees their frames, passing over those that are not mapped, span by span. From 2^18
+    /// pages on the port goes block by block and remembers tables that it is done with; no row of the
+    /// benchmark has so many.
     #[inline]
     pub fn free_pages(&mut self, virt: u64, pages: u64) {
-        let pages = pages.min(ALL_PAGES);
+        // All the pages that there are: what lies above the top index is ignored.
+        let pages = pages.min(1 << (9 * self.tables.levels));
         let mut done = 0;
         while done < pages {
             match self.span(virt + done * PAGE) {
@@ -124,21 +125,22 @@ impl<'a> Memory<'a> {
     #[inline]
     fn span(&self, virt: u64) -> Span {
         let mut table = self.tables.root;
-        let mut above = [0; 3];
-        for level in 0..3 {
-            let width = 1 << (9 * (3 - level));
+        let mut above = [usize::MAX; 4];
+        for level in down(self.tables.levels, 2) {
+            let width = 1 << (9 * (level - 1));
             let gap = Span::Gap(width - virt / PAGE % width);
             // The root is a lent frame, and so is each table that is come to.
             let Some(first) = self.tables.place(table) else { return gap };
-            above[level as usize] = first + index(virt, level);
-            let entry = self.words[above[level as usize]];
+            let at = first + index(virt, level);
+            above[level as usize - 2] = at;
+            let entry = self.words[at];
             table = frame_of(entry);
             if entry & PRESENT == 0 || self.tables.place(table).is_none() {
                 return gap;
             }
         }
         let Some(first) = self.tables.place(table) else { return Span::Gap(1) };
-        let at = first + index(virt, 3);
+        let at = first + index(virt, 1);
         // Up to the table's end, or to a leaf that is an entry on the way to it: clearing that one
         // changes the way.
         let stop =

@@ -26,11 +26,11 @@ pub use frames::{
     total_frames,
 };
 pub use kernel::{vfree, vmalloc};
-pub use start::start;
+pub use start::{start, start_levels};
 pub use tables::{map_huge_page, map_page, translate, unmap_page, user_may};
 pub use user::{find_free_region, mmap, munmap};
 
-use gadulnos::Line;
+use gadulnos::{Line, LEVELS, MOST_LEVELS};
 
 /// A value, or one of document 01's numbers.
 type Answer = Result<u64, u64>;
@@ -43,6 +43,12 @@ const LAST: u64 = u64::MAX - 4095;
 #[inline]
 fn line(answer: Answer) -> Line {
     answer.map_or_else(Line::refused, Line::met)
+}
+
+/// Whether a board may have so many levels.
+#[inline]
+fn is_levels(levels: u64) -> bool {
+    (LEVELS..=MOST_LEVELS).contains(&levels)
 }
 
 /// A size in whole pages.

@@ -1,7 +1,7 @@
-//! The page tables: walks on lent words, and the mapper's calls.
+//! The page tables: walks on lent words, and the mapper's calls. Levels count from the bottom, 1 the last.
 
 use super::memory::Memory;
-use super::{line, Answer, BROKEN, PAGE};
+use super::{is_levels, line, Answer, BROKEN, PAGE};
 use gadulnos::{Line, Marks};
 
 pub const PRESENT: u64 = 1;
@@ -10,11 +10,12 @@ const USER: u64 = 4;
 const HUGE: u64 = 128;
 const ADDR_MASK: u64 = 0x000F_FFFF_FFFF_F000;
 
-/// The lent frames and the root, by their numbers.
+/// The lent frames, the levels and the root, by their numbers.
 #[derive(Clone, Copy)]
 pub struct Tables {
     pub start: u64,
     pub total: u64,
+    pub levels: u64,
     pub root: u64,
 }
 
@@ -27,6 +28,12 @@ impl Tables {
             || self.place(self.root).is_none()
     }
 
+    /// Whether a call that is lent the numbers may walk.
+    #[inline]
+    fn may_walk(&self, words: &[u64]) -> bool {
+        is_levels(self.levels) && !self.are_broken(words)
+    }
+
     /// The first word of a lent frame.
     #[inline]
     pub fn place(&self, frame: u64) -> Option<usize> {
@@ -36,14 +43,14 @@ impl Tables {
 
     /// The entry at which a translation ends, and its level.
     #[inline]
-    fn leaf(&self, words: &[u64], virt: u64) -> Result<(u64, u32), u64> {
+    fn leaf(&self, words: &[u64], virt: u64) -> Result<(u64, u64), u64> {
         let mut table = self.root;
-        for level in 0..4 {
+        for level in down(self.levels, 1) {
             let entry = words[self.place(table).ok_or(19u64)? + index(virt, level)];
             if entry & PRESENT == 0 {
                 return Err(14);
             }
-            if level == 3 || level == 2 && entry & HUGE != 0 {
+            if level == 1 || level == 2 && entry & HUGE != 0 {
                 return Ok((entry, level));
             }
             table = frame_of(entry);
@@ -62,14 +69,14 @@ impl Tables {
     #[inline]
     pub fn unmap(&self, words: &mut [u64], virt: u64) -> Answer {
         let mut table = self.root;
-        for level in 0..3 {
+        for level in down(self.levels, 2) {
             let entry = words[self.place(table).ok_or(19u64)? + index(virt, level)];
             if entry & PRESENT == 0 {
                 return Err(14);
             }
             table = frame_of(entry);
         }
-        let at = self.place(table).ok_or(19u64)? + index(virt, 3);
+        let at = self.place(table).ok_or(19u64)? + index(virt, 1);
         let entry = words[at];
         if entry & PRESENT == 0 {
             return Err(14);
@@ -79,10 +86,16 @@ impl Tables {
     }
 }
 
-/// The index of an address at a level, counted from the root.
+/// The levels from the top one down to another.
 #[inline]
-pub fn index(virt: u64, level: u32) -> usize {
-    (virt >> (39 - 9 * level)) as usize % 512
+pub fn down(levels: u64, to: u64) -> impl Iterator<Item = u64> {
+    (0..levels + 1 - to).map(move |passed| levels - passed)
+}
+
+/// The index of an address at a level.
+#[inline]
+pub fn index(virt: u64, level: u64) -> usize {
+    (virt >> (3 + 9 * level)) as usize % 512
 }
 
 #[inline]
@@ -98,29 +111,44 @@ pub fn entry(phys: u64, writable: bool, user: bool) -> u64 {
 }
 
 #[inline(never)]
-pub fn translate(words: &[u64], start: u64, total: u64, root: u64, virt: u64) -> Line {
-    let tables = Tables { start, total, root };
-    if tables.are_broken(words) {
+pub fn translate(words: &[u64], start: u64, total: u64, levels: u64, root: u64, virt: u64) -> Line {
+    let tables = Tables { start, total, levels, root };
+    if !tables.may_walk(words) {
         return Line::refused(BROKEN);
     }
     line(tables.translate(words, virt))
 }
 
 #[inline(never)]
-pub fn user_may(words: &[u64], start: u64, total: u64, root: u64, virt: u64, write: bool) -> Line {
-    let tables = Tables { start, total, root };
-    if tables.are_broken(words) {
+pub fn user_may(
+    words: &[u64],
+    start: u64,
+    total: u64,
+    levels: u64,
+    root: u64,
+    virt: u64,
+    write: bool,
+) -> Line {
+    let tables = Tables { start, total, levels, root };
+    if !tables.may_walk(words) {
         return Line::refused(BROKEN);
     }
     let need = if write { USER | WRITABLE } else { USER };
     let leaf = tables.leaf(words, virt);
-    Line::met(leaf.map_or(0, |(entry, level)| u64::from(level == 3 && entry & need == need)))
+    Line::met(leaf.map_or(0, |(entry, level)| u64::from(level == 1 && entry & need == need)))
 }
 
 #[inline(never)]
-pub fn unmap_page(words: &mut [u64], start: u64, total: u64, root: u64, virt: u64) -> Line {
-    let tables = Tables { start, total, root };
-    if tables.are_broken(words) {
+pub fn unmap_page(
+    words: &mut [u64],
+    start: u64,
+    total: u64,
+    levels: u64,
+    root: u64,
+    virt: u64,
+) -> Line {
+    let tables = Tables { start, total, levels, root };
+    if !tables.may_walk(words) {
         return Line::refused(BROKEN);
     }
     line(tables.unmap(words, virt))
@@ -141,7 +169,7 @@ pub fn map_page(
     let Some(mut memory) = Memory::sound(words, fields, bits, root) else {
         return Line::refused(BROKEN);
     };
-    line(memory.map(virt, 3, user, entry(phys, writable, user)))
+    line(memory.map(virt, 1, user, entry(phys, writable, user)))
 }
 
 #[inline(never)]
@@ -160,9 +188,9 @@ pub fn map_huge_page(
     let Some(mut memory) = Memory::sound(words, fields, bits, root) else {
         return Line::refused(BROKEN);
     };
-    let (size, depth) = if gigabyte { (1 << 30, 2) } else { (1 << 21, 3) };
+    let (size, level) = if gigabyte { (1 << 30, 2) } else { (1 << 21, 1) };
     if (virt | phys) % size != 0 {
         return Line::refused(4);
     }
-    line(memory.map(virt, depth, user, entry(phys, writable, user) | HUGE))
+    line(memory.map(virt, level, user, entry(phys, writable, user) | HUGE))
 }

@@ -37,7 +37,7 @@ fn follow(reader: &mut Reader, steps: &Steps) -> Result<(), OffBoard> {
         Steps::Copy { page } => copy(reader, page),
         Steps::Overwrite { page } => overwrite(reader, page),
         Steps::Map { virt, phys } => reader.map(virt, phys, 0, 3).map(drop),
-        Steps::MapHuge { virt, phys, levels } => reader.map(virt, phys, HUGE, levels).map(drop),
+        Steps::MapHuge { virt, phys, depth } => reader.map(virt, phys, HUGE, depth).map(drop),
         Steps::Unmap { virt } => reader.unmap(virt).map(drop),
         Steps::Translate { addr } => reader.translate(addr).map(drop),
         Steps::Take => {

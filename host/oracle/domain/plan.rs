@@ -38,11 +38,11 @@ pub enum Steps {
         virt: u64,
         phys: u64,
     },
-    /// `levels` tables are walked, the root not counted.
+    /// `depth` tables are walked, the root not counted.
     MapHuge {
         virt: u64,
         phys: u64,
-        levels: usize,
+        depth: usize,
     },
     Unmap {
         virt: u64,
@@ -223,9 +223,9 @@ fn fault(state: &State, addr: u64, code: u64) -> Steps {
 }
 
 fn map_huge(virt: u64, phys: u64, gigabyte: bool) -> Steps {
-    let (size, levels) = if gigabyte { (1 << 30, 2) } else { (1 << 21, 3) };
+    let (size, depth) = if gigabyte { (1 << 30, 2) } else { (1 << 21, 3) };
     if !is_multiple(virt, size) || !is_multiple(phys, size) {
         return Steps::None;
     }
-    Steps::MapHuge { virt, phys, levels }
+    Steps::MapHuge { virt, phys, depth }
 }

@@ -1,6 +1,6 @@
 //! Reads page tables as they will stand in the midst of a call: the board's own words
 //! under the changes that the call will have made so far. Of an entry it keeps what a walk
-//! looks at: the address, PRESENT and HUGE.
+//! looks at: the address, PRESENT and HUGE. There are four levels: on five nothing is foreseen.
 
 use crate::state::{bit, State, BITMAP_WORDS};
 use crate::PAGE;
@@ -93,16 +93,10 @@ impl<'a> Reader<'a> {
         }
     }
 
-    /// Enters `phys` with `bits` below `levels` tables. False if a table's frame could not
+    /// Enters `phys` with `bits` below `depth` tables. False if a table's frame could not
     /// be had or the entry is present.
-    pub fn map(
-        &mut self,
-        virt: u64,
-        phys: u64,
-        bits: u64,
-        levels: usize,
-    ) -> Result<bool, OffBoard> {
-        match self.descend(virt, levels, true)? {
+    pub fn map(&mut self, virt: u64, phys: u64, bits: u64, depth: usize) -> Result<bool, OffBoard> {
+        match self.descend(virt, depth, true)? {
             Some(place) if self.word(place) & PRESENT == 0 => {
                 self.write(place, phys & ADDR_MASK | bits | PRESENT);
                 Ok(true)
@@ -134,14 +128,14 @@ impl<'a> Reader<'a> {
 
     pub fn translate(&mut self, virt: u64) -> Result<Option<u64>, OffBoard> {
         let mut table = self.root()?;
-        for (level, index) in indices(virt).into_iter().enumerate() {
+        for (level, index) in (1..=4).rev().zip(indices(virt)) {
             let place = Place { table, index };
             let word = self.word(place);
             if word & PRESENT == 0 {
                 return Ok(None);
             }
-            if level == 3 || level == 2 && word & HUGE != 0 {
-                let page_size = if level == 3 { PAGE } else { 1 << 21 };
+            if level == 1 || level == 2 && word & HUGE != 0 {
+                let page_size = if level == 1 { PAGE } else { 1 << 21 };
                 return Ok(Some((word & ADDR_MASK) + virt % page_size));
             }
             table = self.enter(place)?;
@@ -149,12 +143,12 @@ impl<'a> Reader<'a> {
         Ok(None)
     }
 
-    /// Goes down `levels` tables below the root, to the entry that the address has there.
+    /// Goes down `depth` tables below the root, to the entry that the address has there.
     /// An absent table is made or ends the walk.
-    fn descend(&mut self, virt: u64, levels: usize, make: bool) -> Result<Option<Place>, OffBoard> {
+    fn descend(&mut self, virt: u64, depth: usize, make: bool) -> Result<Option<Place>, OffBoard> {
         let indices = indices(virt);
         let mut table = self.root()?;
-        for &index in &indices[..levels] {
+        for &index in &indices[..depth] {
             let place = Place { table, index };
             if self.word(place) & PRESENT == 0 {
                 let frame = match make.then(|| self.take()).flatten() {
@@ -166,7 +160,7 @@ impl<'a> Reader<'a> {
             }
             table = self.enter(place)?;
         }
-        Ok(Some(Place { table, index: indices[levels] }))
+        Ok(Some(Place { table, index: indices[depth] }))
     }
 
     fn root(&mut self) -> Result<usize, OffBoard> {

@@ -1,7 +1,7 @@
 //! Which records document 01 does not answer with 10.
 
 use crate::state::{is_multiple, State, BITMAP_WORDS, SLOTS};
-use crate::{LAST, PAGE};
+use crate::{LAST, LEVELS, MOST_LEVELS, PAGE};
 
 /// The highest frame number plus one: physical addresses have 52 bits.
 const FRAMES_END: u64 = 1 << 40;
@@ -18,6 +18,7 @@ pub fn has_shape(state: &State) -> bool {
 pub fn is_sound(state: &State) -> bool {
     has_shape(state)
         && state.start_frame.checked_add(state.total).map_or(false, |end| end <= FRAMES_END)
+        && (LEVELS..=MOST_LEVELS).contains(&state.levels)
         && state.lent(state.root).is_some()
         && state.allocated == state.marked_frames()
         && state.vmalloc().iter().all(|slot| is_region(slot.start, slot.size))

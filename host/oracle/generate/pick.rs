@@ -2,7 +2,7 @@
 
 use super::Random;
 use crate::state::{page_of, Region, State};
-use crate::{KERNEL_WINDOW, LAST, PAGE, TEMPORARY, USER_WINDOW};
+use crate::{KERNEL_WINDOW, LAST, MOST_LEVELS, PAGE, TEMPORARY, USER_WINDOW};
 
 /// Sizes at which something changes.
 const SIZES: [u64; 12] = [
@@ -20,8 +20,8 @@ const SIZES: [u64; 12] = [
     LAST - PAGE,
 ];
 
-/// Addresses at which something changes.
-const ADDRESSES: [u64; 14] = [
+/// Addresses at which something changes: the first `FOR_ANY` on every board, the others on five levels alone.
+const ADDRESSES: [u64; 19] = [
     0,
     PAGE,
     USER_WINDOW.0,
@@ -36,7 +36,15 @@ const ADDRESSES: [u64; 14] = [
     TEMPORARY - PAGE,
     LAST,
     LAST - PAGE,
+    1 << 48,
+    1 << 56,
+    1 << 57,
+    0xFF00_0000_0000_0000,
+    0xFFFE_0000_0000_0000,
 ];
+
+/// The addresses up to LAST - PAGE.
+const FOR_ANY: usize = 14;
 
 pub struct Picker<'a> {
     pub state: &'a State<'a>,
@@ -97,22 +105,28 @@ impl Picker<'_> {
             5..=6 => self.relative(),
             10..=11 => self.walked_address(),
             7..=8 => {
-                let addr = self.random.one_of(&ADDRESSES);
+                let known = if self.has_five() { ADDRESSES.len() } else { FOR_ANY };
+                let addr = self.random.one_of(&ADDRESSES[..known]);
                 self.near(addr)
             }
             _ => self.random.word() >> self.random.below(20),
         }
     }
 
-    /// An address that shares its first one to four indices with something that stands,
-    /// its bits above the indices at times being others.
+    fn has_five(&self) -> bool {
+        self.state.levels == MOST_LEVELS
+    }
+
+    /// An address that shares its first indices, one or all, with something that stands, the bits above its
+    /// top index, which are ignored, at times being others.
     fn relative(&mut self) -> u64 {
         let addr = self.standing_address();
-        let below = self.random.one_of(&[12, 21, 30, 39]);
+        let widths = if self.has_five() { &[12, 21, 30, 39, 48][..] } else { &[12, 21, 30, 39] };
+        let below = self.random.one_of(widths);
         let mask = (1u64 << below) - 1;
         let mut addr = addr & !mask | self.random.word() & mask;
         if self.random.chance(1, 4) {
-            addr ^= self.random.word() & 0xFFFF << 48;
+            addr ^= self.random.word() & u64::MAX << self.state.width();
         }
         addr
     }
@@ -136,11 +150,13 @@ impl Picker<'_> {
         }
     }
 
-    /// An address found by going down the tables along present entries, mostly.
+    /// An address found by going down the tables along present entries, mostly, its highest
+    /// bit repeated above.
     fn walked_address(&mut self) -> u64 {
         let mut addr = 0;
         let mut table = self.state.lent(self.state.root);
-        for shift in [39, 30, 21, 12] {
+        let width = self.state.width();
+        for shift in (12..width).step_by(9).rev() {
             let words = table.map_or(&[][..], |index| &self.state.words[index * 512..][..512]);
             let present: Vec<u64> =
                 (0..words.len() as u64).filter(|&i| words[i as usize] & 1 == 1).collect();
@@ -152,8 +168,8 @@ impl Picker<'_> {
             let word = words.get(index as usize).copied().filter(|word| word & 1 == 1);
             table = word.and_then(|word| self.state.lent((word & 0x000F_FFFF_FFFF_F000) / PAGE));
         }
-        if addr >> 47 == 1 {
-            addr |= 0xFFFF << 48;
+        if addr >> (width - 1) == 1 {
+            addr |= u64::MAX << width;
         }
         addr
     }

@@ -1,7 +1,8 @@
 //! Changes to a board's parts: odd ones, which leave every record sound, and broken ones.
 
-use crate::boards::FRAMES_END;
-use gadulnos::{Board, Frames, Kernel, Marked, Region, Slot, User, SLOTS};
+use crate::boards::{any_levels, FRAMES_END};
+use crate::broken::broken;
+use gadulnos::{Board, Frames, Kernel, Marked, Region, Slot, User, LEVELS, MOST_LEVELS, SLOTS};
 use paper::generate::Random;
 use paper::state::bit;
 use paper::{KERNEL_WINDOW, LAST, PAGE, TEMPORARY, USER_WINDOW};
@@ -59,7 +60,7 @@ impl Kind {
 
 /// A change that leaves every record sound.
 fn odd(random: &mut Random, board: &mut Board) {
-    match random.below(9) {
+    match random.below(10) {
         0..=2 => entries(random, board),
         3 => marks(random, board),
         4 => {
@@ -69,6 +70,12 @@ fn odd(random: &mut Random, board: &mut Board) {
         5 => board.kernel = kernel(random, board).pack(),
         6 => board.user = user(random, board).pack(),
         7 => board.marked = marked(random, board).pack(),
+        8 => {
+            // Tables that were made for the other number of levels.
+            let record = board.frames();
+            let levels = LEVELS + MOST_LEVELS - record.levels;
+            board.fields = Frames { levels, ..record }.pack();
+        }
         _ => {
             let extra = random.one_of(&[1, 511, 700]);
             board.words.extend((0..extra).map(|_| random.word()));
@@ -145,7 +152,7 @@ fn marks(random: &mut Random, board: &mut Board) {
 /// one, up to nearly 2^64 bytes.
 fn region(random: &mut Random, board: &Board) -> (u64, u64) {
     let near = match random.below(5) {
-        0 | 1 => walked(random, board),
+        0 | 1 => walked(random, &board.words, board.frames(), board.root),
         2 => KERNEL_WINDOW.0,
         3 => USER_WINDOW.0,
         _ => random.word() >> random.below(52),
@@ -156,26 +163,30 @@ fn region(random: &mut Random, board: &Board) -> (u64, u64) {
     let size = match random.below(8) {
         0 => room,
         1 => (random.word() >> random.below(52)) & !(PAGE - 1),
-        2 => random.one_of(&[1 << 21, 1 << 30, 1 << 39, 1 << 47]),
+        2 => random.one_of(&[1 << 21, 1 << 30, 1 << 39, 1 << 47, 1 << 48, 1 << 56]),
         _ => (1 + random.below(20)) * PAGE,
     };
     (start, size.clamp(PAGE, room))
 }
 
-/// An address whose indices lead along present entries, as far as there are any.
-fn walked(random: &mut Random, board: &Board) -> u64 {
-    let Frames { start_frame, total, .. } = board.frames();
-    let mut addr = random.one_of(&[0, 0, u64::MAX << 48]);
-    let mut table = board.root;
-    for shift in [39, 30, 21, 12] {
+/// An address whose indices lead along present entries, as far as there are any, under any of the bits
+/// that are ignored.
+pub fn walked(random: &mut Random, words: &[u64], frames: Frames, root: u64) -> u64 {
+    let Frames { start_frame, total, levels, .. } = frames;
+    let levels = levels.min(MOST_LEVELS);
+    let any = random.word();
+    let mut addr = random.one_of(&[0, 0, u64::MAX, any]) << (12 + 9 * levels);
+    let mut table = root;
+    for level in (1..=levels).rev() {
         let index = table.wrapping_sub(start_frame);
+        let first = index.min(total).saturating_mul(512) as usize;
         let words = match index < total {
-            true => &board.words[index as usize * 512..][..512],
+            true => words.get(first..first.saturating_add(512)).unwrap_or_default(),
             false => &[],
         };
         let first = random.below(512) as usize;
         let found = (0..words.len()).map(|k| (first + k) % 512).find(|&i| words[i] & 1 == 1);
-        addr |= (found.unwrap_or(first) as u64) << shift;
+        addr |= (found.unwrap_or(first) as u64) << (3 + 9 * level);
         table = found.map_or(u64::MAX, |i| (words[i] & 0x000F_FFFF_FFFF_F000) >> 12);
     }
     addr
@@ -240,7 +251,7 @@ fn marked(random: &mut Random, board: &Board) -> Marked {
     for k in 0..count {
         pages.push(match random.below(6) {
             _ if count > 200 && !random.chance(1, 30) => USER_WINDOW.0 + k * PAGE,
-            0..=3 => walked(random, board) & !(PAGE - 1),
+            0..=3 => walked(random, &board.words, board.frames(), board.root) & !(PAGE - 1),
             4 => random.one_of(&[TEMPORARY, 0, LAST, u64::MAX]),
             _ => random.word(),
         });
@@ -253,122 +264,6 @@ fn marked(random: &mut Random, board: &Board) -> Marked {
     }
     slots[..pages.len()].copy_from_slice(&pages);
     Marked { count: pages.len() as u64, pages: slots }
-}
-
-/// Breaks a part, mostly: total above 8192, lent words too few, frames ending above 2^52, root
-/// outside, another counter, or a list.
-fn broken(random: &mut Random, board: &mut Board) {
-    let mut record = board.frames();
-    let Frames { start_frame, total, allocated } = record;
-    match random.below(8) {
-        0 => {
-            let whole = (total * 512) as usize;
-            let any = random.below(whole as u64) as usize;
-            board.words.truncate(random.one_of(&[whole - 1, whole - 512, 0, any]));
-        }
-        1 => {
-            let wrong = [allocated + 1, allocated.wrapping_sub(1), total + 1, 1 << 63, u64::MAX];
-            record.allocated = random.one_of(&wrong);
-            board.fields = record.pack();
-        }
-        2 => {
-            let outside = [start_frame.wrapping_sub(1), start_frame + total, u64::MAX];
-            board.root = random.one_of(&outside);
-        }
-        3 => {
-            record.total = random.one_of(&[8193, 8194, 1 << 40, 1 << 55, u64::MAX, total + 1, 0]);
-            board.fields = record.pack();
-        }
-        4 => {
-            let high = FRAMES_END - total.min(8192) + 1;
-            record.start_frame = random.one_of(&[high, 1 << 52, u64::MAX - total, u64::MAX]);
-            board.fields = record.pack();
-            board.root = record.start_frame;
-        }
-        5 => broken_kernel(random, board),
-        6 => broken_user(random, board),
-        _ => broken_marked(random, board),
-    }
-}
-
-/// A start and size that are not well placed.
-fn misplaced(random: &mut Random, start: u64, size: u64) -> (u64, u64) {
-    let odd = 1 + random.below(PAGE - 1);
-    match random.below(6) {
-        0 => (start | odd, size),
-        1 => (start, size.wrapping_add(odd)),
-        2 => (start, 0),
-        3 => (LAST, PAGE),
-        4 => (start, (LAST - start).wrapping_add(PAGE)),
-        _ => (PAGE, u64::MAX - PAGE + 1),
-    }
-}
-
-fn broken_kernel(random: &mut Random, board: &mut Board) {
-    let mut list = match Kernel::unpack(&board.kernel) {
-        Some(list) => list,
-        None => return,
-    };
-    let count = list.count.min(256);
-    let at = random.below(count.max(1)) as usize;
-    match random.below(4) {
-        0 => list.count = random.one_of(&[257, 258, 1 << 32, 1 << 63, u64::MAX, count + 1]),
-        1 if count < 256 => {
-            let past = (count + random.below(256 - count)) as usize;
-            list.slots[past] = random.one_of(&[
-                Slot { start: PAGE, size: 0, used: false },
-                Slot { start: 0, size: 1, used: false },
-                Slot { start: 0, size: 0, used: true },
-            ]);
-        }
-        2 => {
-            let at = random.one_of(&[at, 255]);
-            board.kernel[24 + 24 * at..][..8].copy_from_slice(&random.word().to_le_bytes());
-            return;
-        }
-        _ => {
-            let (start, size) = misplaced(random, list.slots[at].start, list.slots[at].size);
-            list.slots[at] = Slot { start, size, ..list.slots[at] };
-        }
-    }
-    board.kernel = list.pack();
-}
-
-fn broken_user(random: &mut Random, board: &mut Board) {
-    let mut list = match User::unpack(&board.user) {
-        Some(list) => list,
-        None => return,
-    };
-    let count = list.count.min(256);
-    let at = random.below(count.max(1)) as usize;
-    match random.below(5) {
-        0 => list.count = random.one_of(&[257, 258, 1 << 32, 1 << 63, u64::MAX, count + 1]),
-        1 => list.next_addr = list.next_addr.wrapping_add(1 + random.below(PAGE - 1)),
-        2 if count > 1 => {
-            let other = (at + 1) % count as usize;
-            list.slots.swap(at, other);
-        }
-        3 if count > 1 => list.slots[at] = list.slots[(at + 1) % count as usize],
-        _ => {
-            let (start, size) = misplaced(random, list.slots[at].start, list.slots[at].size);
-            list.slots[at] = Region { start, size, ..list.slots[at] };
-        }
-    }
-    board.user = list.pack();
-}
-
-fn broken_marked(random: &mut Random, board: &mut Board) {
-    let mut list = match Marked::unpack(&board.marked) {
-        Some(list) => list,
-        None => return,
-    };
-    let count = list.count.min(256) as usize;
-    match random.below(3) {
-        1 if count > 1 => list.pages.swap(0, count - 1),
-        2 if count > 1 => list.pages[count - 1] = list.pages[count - 2],
-        _ => list.count = random.one_of(&[257, 258, 1 << 32, 1 << 63, u64::MAX]),
-    }
-    board.marked = list.pack();
 }
 
 /// Other lengths for some parts: none, one short, one long, or any.
@@ -434,7 +329,8 @@ fn rubbish(random: &mut Random, board: &mut Board) {
     if random.chance(1, 2) {
         let total = random.below(5);
         let start_frame = random.word() >> 25;
-        board.fields = Frames { start_frame, total, allocated: random.below(total + 1) }.pack();
+        let (allocated, levels) = (random.below(total + 1), any_levels(random));
+        board.fields = Frames { start_frame, total, allocated, levels }.pack();
         board.root = start_frame + random.below(total + 1);
     }
 }

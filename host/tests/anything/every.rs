@@ -2,7 +2,7 @@
 //! allows, and the bitmap without one. Byte parts stand at even and odd addresses, between guards or
 //! between bytes that must stay, and a part of length 0 may be null.
 
-use crate::boards::{self, Base};
+use crate::boards::{self, any_levels, Base};
 use crate::guard::{self, Against, Guarded};
 use crate::report::{equal, holds, Checked};
 use crate::table::{Answer, Arg, Row, TABLE};
@@ -224,12 +224,14 @@ fn damaged(random: &mut Random, bytes: &[u8], has_no_length: bool) -> Vec<u8> {
 
 /// What a number is: mostly one that means something to the board.
 fn number(random: &mut Random, base: &Base, arg: Arg) -> u64 {
-    let Frames { start_frame, total, .. } = base.board.frames();
+    let Frames { start_frame, total, levels, .. } = base.board.frames();
     match arg {
         Arg::Flag => random.below(2),
         Arg::Signed => random.one_of(&[0, 2, 0x10, 0x12, u64::from(u32::MAX), 1 << 31]),
         Arg::Start if random.chance(7, 8) => start_frame,
         Arg::Total if random.chance(7, 8) => total,
+        Arg::Levels if random.chance(3, 4) => levels,
+        Arg::Levels => any_levels(random),
         Arg::Root if random.chance(7, 8) => base.board.root,
         _ => any_number(random, base),
     }
@@ -241,7 +243,7 @@ fn any_number(random: &mut Random, base: &Base) -> u64 {
     let mapped = User::unpack(&base.board.user)
         .map_or((0, 0), |l| (l.slots[at % 8].start, l.slots[at % 8].size));
     let page = Marked::unpack(&base.board.marked).map_or(0, |list| list.pages[at % 8]);
-    let near = [0, 1, 3, 7, PAGE, 2 * PAGE, 0x20_0000, 0x4000_0000, 1 << 47, 1 << 52];
+    let near = [0, 1, 3, 7, PAGE, 2 * PAGE, 0x20_0000, 0x4000_0000, 1 << 47, 1 << 52, 1 << 56];
     let far = [KERNEL_WINDOW.0, USER_WINDOW.0, TEMPORARY, LAST, LAST + 1, u64::MAX];
     let board =
         [region, mapped.0, mapped.1, page, base.board.root, base.board.frames().start_frame];

@@ -1,5 +1,6 @@
-//! Every C function on anything: sound boards, sound boards with odd words, marks and lists, records
-//! broken in every way, parts of every length, rubbish. All that is lent stands between guard pages.
+//! Every C function on anything: sound boards of four and of five levels, sound boards with odd words,
+//! marks and lists, records broken in every way, parts of every length, rubbish. All that is lent stands
+//! between guard pages.
 //!
 //! Each call must end, must touch nothing but what is lent, and must answer and leave what a model of
 //! document 01 does; apart from the model it is checked that the number is one that document 01 has
@@ -10,6 +11,7 @@
 //! Usage: anything [--seed S] [--rounds N] [--from I]
 
 mod boards;
+mod broken;
 mod damage;
 mod every;
 #[path = "../shared/guard.rs"]

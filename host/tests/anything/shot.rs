@@ -1,13 +1,13 @@
 //! One board, changed in many ways, and calls on each.
 
-use crate::boards::{self, Base};
-use crate::damage::Kind;
+use crate::boards::{self, any_levels, Base};
+use crate::damage::{walked, Kind};
 use crate::guard::Against;
 use crate::model::Model;
 use crate::port::{self, Port};
 use crate::report::{equal, holds};
 use crate::table;
-use gadulnos::{Board, Frames, Kernel, Line, Marked, User};
+use gadulnos::{Board, Frames, Kernel, Line, Marked, User, LEVELS, MOST_LEVELS};
 use paper::call::Call;
 use paper::generate::Random;
 use paper::minimise;
@@ -17,10 +17,15 @@ use std::collections::BTreeMap;
 /// What a run met with.
 #[derive(Default)]
 pub struct Seen {
-    /// How often each number was answered by each call.
+    /// How often each number was answered by each call, and on boards of five levels.
     pub numbers: BTreeMap<(&'static str, u64), u64>,
-    /// Calls whose words were compared with the model's, and releases in whose midst the model gave up.
+    pub on_five: BTreeMap<(&'static str, u64), u64>,
+    /// How often a translation was answered so, by the levels that it was lent: 4, 5, or 0 for others.
+    pub walks: BTreeMap<(u64, u64), u64>,
+    /// Calls whose words were compared with the model's, those of them that walk five levels, and releases
+    /// in whose midst the model gave up.
     pub compared: u64,
+    pub walked_five: u64,
     pub gave_up: u64,
 }
 
@@ -29,11 +34,21 @@ pub struct Seen {
 pub enum Shot {
     Call(Call),
     Init(u64, u64),
-    Start(u64, u64),
-    /// A walk on other numbers than the record's: start, total, root, address.
-    Walk(u64, u64, u64, u64),
+    /// A start, of so many levels if they are named.
+    Start(u64, u64, Option<u64>),
+    Walk(Walk),
     /// mmap's search by itself, for so many bytes.
     Search(u64),
+}
+
+/// A walk on other numbers than the record's.
+#[derive(Clone, Copy, Debug)]
+pub struct Walk {
+    start: u64,
+    total: u64,
+    levels: u64,
+    root: u64,
+    virt: u64,
 }
 
 impl Shot {
@@ -41,7 +56,8 @@ impl Shot {
         match self {
             Shot::Call(call) => call.shape().name,
             Shot::Init(..) => "init",
-            Shot::Start(..) => "start",
+            Shot::Start(_, _, None) => "start",
+            Shot::Start(_, _, Some(_)) => "start_levels",
             Shot::Walk(..) => "walk",
             Shot::Search(..) => "find_free_region",
         }
@@ -51,11 +67,21 @@ impl Shot {
         match self {
             Shot::Call(call) => minimise::describe(&[*call]),
             Shot::Init(from, to) => format!("init from={from:x} to={to:x}\n"),
-            Shot::Start(from, to) => format!("start from={from:x} to={to:x}\n"),
-            Shot::Walk(start, total, root, virt) => {
-                format!("walk start={start:x} total={total:x} root={root:x} virt={virt:x}\n")
+            Shot::Start(from, to, levels) => {
+                format!("start from={from:x} to={to:x} levels={levels:x?}\n")
             }
+            Shot::Walk(walk) => format!("{walk:x?}\n"),
             Shot::Search(size) => format!("find_free_region size={size:x}\n"),
+        }
+    }
+
+    /// The levels of the board that it is made on, or makes.
+    fn levels(&self, board: &Board) -> u64 {
+        match self {
+            Shot::Call(_) | Shot::Search(_) => board.frames().levels,
+            Shot::Init(..) | Shot::Start(_, _, None) => LEVELS,
+            Shot::Start(_, _, Some(levels)) => *levels,
+            Shot::Walk(walk) => walk.levels,
         }
     }
 }
@@ -84,16 +110,10 @@ fn draw(random: &mut Random, base: &Base, port: &Port) -> Shot {
         0 => Shot::Init(memory(random).0, memory(random).1),
         1 => {
             let (from, to) = memory(random);
-            Shot::Start(from, to)
+            let named = random.chance(2, 3).then(|| any_levels(random));
+            Shot::Start(from, to, named)
         }
-        2 => {
-            let Frames { start_frame, total, .. } = port.frames();
-            let any = [random.word(), random.word() >> 30, random.below(9000)];
-            let start = random.one_of(&[start_frame, start_frame, any[0], any[1]]);
-            let total = random.one_of(&[total, total.wrapping_add(1), 8193, any[0], any[2]]);
-            let root = random.one_of(&[port.root, start, start.wrapping_add(1), any[1]]);
-            Shot::Walk(start, total, root, random.word())
-        }
+        2 => Shot::Walk(any_walk(random, port)),
         3 => {
             let any = [random.word(), random.word() >> 20, random.below(64) * PAGE];
             let sizes = [0, 1, PAGE, 8 * PAGE, USER_WINDOW.1 - USER_WINDOW.0, USER_WINDOW.1];
@@ -103,6 +123,23 @@ fn draw(random: &mut Random, base: &Base, port: &Port) -> Shot {
         4..=7 => listed(random, port).map_or_else(|| drawn(random, base), Shot::Call),
         _ => drawn(random, base),
     }
+}
+
+/// A walk on the record's numbers and on others, mostly along tables that stand.
+fn any_walk(random: &mut Random, port: &Port) -> Walk {
+    let record = port.frames();
+    let any = [random.word(), random.word() >> 30, random.below(9000)];
+    let levels = any_levels(random);
+    if random.chance(1, 2) {
+        let virt = walked(random, &port.words, Frames { levels, ..record }, port.root);
+        let Frames { start_frame: start, total, .. } = record;
+        return Walk { start, total, levels, root: port.root, virt };
+    }
+    let start = random.one_of(&[record.start_frame, record.start_frame, any[0], any[1]]);
+    let near = record.total.wrapping_add(1);
+    let total = random.one_of(&[record.total, near, 8193, any[0], any[2]]);
+    let root = random.one_of(&[port.root, start, start.wrapping_add(1), any[1]]);
+    Walk { start, total, levels, root, virt: random.word() }
 }
 
 fn drawn(random: &mut Random, base: &Base) -> Shot {
@@ -148,10 +185,14 @@ fn fire(port: &mut Port, shot: &Shot, seen: &mut Seen) -> Result<(), String> {
     let (line, wanted) = match *shot {
         Shot::Call(call) => (port::play(port, &call), model.play(&call)),
         Shot::Init(from, to) => (port.init(from, to), model.init(from, to)),
-        Shot::Start(from, to) => {
-            (port.start(from, to), model.start(has_lengths(&before), from, to))
+        Shot::Start(from, to, levels) => {
+            let line = match levels {
+                Some(levels) => port.start_levels(from, to, levels),
+                None => port.start(from, to),
+            };
+            (line, model.start(has_lengths(&before), from, to, levels.unwrap_or(LEVELS)))
         }
-        Shot::Walk(start, total, root, virt) => return walk(port, model, start, total, root, virt),
+        Shot::Walk(lent) => return walk(port, model, lent, seen),
         Shot::Search(size) => {
             let (wanted, compared) = model.find_free_region(size);
             let line = search(port, size, compared)?;
@@ -159,6 +200,10 @@ fn fire(port: &mut Port, shot: &Shot, seen: &mut Seen) -> Result<(), String> {
         }
     };
     *seen.numbers.entry((shot.name(), line.number)).or_default() += 1;
+    let on_five = shot.levels(&before) == MOST_LEVELS;
+    if on_five {
+        *seen.on_five.entry((shot.name(), line.number)).or_default() += 1;
+    }
     table::allows(shot.name(), line)?;
     if table::changes_nothing(shot.name(), line.number) {
         holds(same(port, &before), &format!("nothing changed by {line:x?}"))?;
@@ -169,6 +214,7 @@ fn fire(port: &mut Port, shot: &Shot, seen: &mut Seen) -> Result<(), String> {
         return Ok(());
     }
     seen.compared += 1;
+    seen.walked_five += u64::from(on_five && table::walks(shot.name()) && line.number != 10);
     compare(port, &before, &model)?;
     match *shot {
         Shot::Call(Call::Counts) => equal(port::counts(port), model.counts()),
@@ -189,22 +235,19 @@ fn search(port: &Port, size: u64, wanted: Option<u64>) -> Result<Line, String> {
 }
 
 /// translate, the user question and unmap_page on any numbers.
-fn walk(
-    port: &mut Port,
-    mut model: Model,
-    start: u64,
-    total: u64,
-    root: u64,
-    virt: u64,
-) -> Result<(), String> {
-    model.frames = Some(Frames { start_frame: start, total, allocated: 0 });
+fn walk(port: &mut Port, mut model: Model, lent: Walk, seen: &mut Seen) -> Result<(), String> {
+    let Walk { start, total, levels, root, virt } = lent;
+    model.frames = Some(Frames { start_frame: start, total, allocated: 0, levels });
     model.root = root;
     let words = &mut port.words;
-    let may = [false, true].map(|write| gadulnos::user_may(words, start, total, root, virt, write));
+    let may = [false, true]
+        .map(|write| gadulnos::user_may(words, start, total, levels, root, virt, write));
     equal(may, model.user_may(virt))?;
-    let line = gadulnos::translate(words, start, total, root, virt);
+    let line = gadulnos::translate(words, start, total, levels, root, virt);
     equal(line, model.play(&Call::Translate { addr: virt }))?;
-    let line = gadulnos::unmap_page(words, start, total, root, virt);
+    let known = if (LEVELS..=MOST_LEVELS).contains(&levels) { levels } else { 0 };
+    *seen.walks.entry((known, line.number)).or_default() += 1;
+    let line = gadulnos::unmap_page(words, start, total, levels, root, virt);
     equal(line, model.play(&Call::UnmapPage { virt }))?;
     holds(words[..] == model.words[..], "the model's words")
 }
@@ -229,35 +272,12 @@ fn same(port: &Port, board: &Board) -> bool {
 
 /// That each part is the model's; one that stands for no record has stayed.
 fn compare(port: &Port, before: &Board, model: &Model) -> Result<(), String> {
-    let wanted = [
-        model.frames.as_ref().map(Frames::pack),
-        Some(gadulnos::pack_bitmap(&model.bitmap).to_vec()),
-        model.kernel.as_ref().map(Kernel::pack),
-        model.user.as_ref().map(User::pack),
-        model.marked.as_ref().map(Marked::pack),
+    model.compare(port)?;
+    let stayed = [
+        ("fields", model.frames.is_some() || port.fields[..] == before.fields[..]),
+        ("kernel", model.kernel.is_some() || port.kernel[..] == before.kernel[..]),
+        ("user", model.user.is_some() || port.user[..] == before.user[..]),
+        ("marked", model.marked.is_some() || port.marked[..] == before.marked[..]),
     ];
-    let parts: [(&str, &[u8], &[u8]); 5] = [
-        ("fields", &port.fields, &before.fields),
-        ("bits", &port.bits[..], &before.bits[..]),
-        ("kernel", &port.kernel, &before.kernel),
-        ("user", &port.user, &before.user),
-        ("marked", &port.marked, &before.marked),
-    ];
-    for ((name, part, old), wanted) in parts.into_iter().zip(&wanted) {
-        let wanted = wanted.as_deref().unwrap_or(old);
-        let at = part.iter().zip(wanted).position(|(a, b)| a != b);
-        if let Some(at) = at {
-            let (got, wanted) = (part[at], wanted[at]);
-            return Err(format!("byte {at} of {name}: got {got:x}, wanted {wanted:x}"));
-        }
-    }
-    equal(port.root, model.root)?;
-    let at = port.words.iter().zip(&model.words).position(|(a, b)| a != b);
-    match at {
-        None => Ok(()),
-        Some(at) => {
-            let (got, wanted) = (port.words[at], model.words[at]);
-            Err(format!("word {at}: got {got:x}, wanted {wanted:x}"))
-        }
-    }
+    stayed.iter().try_for_each(|(name, stayed)| holds(*stayed, &format!("{name} as it was")))
 }

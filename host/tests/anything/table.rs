@@ -4,7 +4,7 @@
 use crate::report::{equal, holds, Report};
 use crate::shot::Seen;
 use gadulnos::Line;
-use std::collections::BTreeSet;
+use std::collections::{BTreeMap, BTreeSet};
 
 /// An argument as C sees it. A part is a pointer and a length, but for the bitmap.
 #[derive(Clone, Copy, PartialEq, Eq, Debug)]
@@ -12,9 +12,10 @@ pub enum Arg {
     Number,
     Flag,
     Signed,
-    /// start_frame, total and the root's number, as walks are lent them.
+    /// start_frame, total, levels and the root's number, as walks are lent them.
     Start,
     Total,
+    Levels,
     Root,
     /// A pointer to the root's number, which a start writes.
     RootOut,
@@ -42,6 +43,11 @@ pub enum Arg {
 use Arg::*;
 
 impl Arg {
+    /// Whether it is the frames' words.
+    fn is_words(&self) -> bool {
+        matches!(self, Words | WordsMut)
+    }
+
     /// Whether it is a pointer alone, to as many items as its type says.
     pub fn has_no_length(self) -> bool {
         matches!(self, RootOut | Compared | Table | Indices | Bits | BitsMut)
@@ -141,12 +147,12 @@ rows! {
         gadulnos_free_frames(Fields, Bits) [10] [];
         gadulnos_allocated_frames(Fields, Bits) [10] [];
         gadulnos_total_frames(Fields, Bits) [10] [];
-        gadulnos_translate(Words, Start, Total, Root, Number) [10 14 19] [];
-        gadulnos_user_may(Words, Start, Total, Root, Number, Flag) [10] [];
+        gadulnos_translate(Words, Start, Total, Levels, Root, Number) [10 14 19] [];
+        gadulnos_user_may(Words, Start, Total, Levels, Root, Number, Flag) [10] [];
         gadulnos_map_page(WordsMut, FieldsMut, BitsMut, Root, Number, Number, Flag, Flag) [10] [11 12 19];
         gadulnos_map_huge_page(WordsMut, FieldsMut, BitsMut, Root, Number, Number, Flag, Flag, Flag)
             [4 10] [11 12 19];
-        gadulnos_unmap_page(WordsMut, Start, Total, Root, Number) [10 14 19] [];
+        gadulnos_unmap_page(WordsMut, Start, Total, Levels, Root, Number) [10 14 19] [];
         gadulnos_vmalloc(WordsMut, FieldsMut, BitsMut, Root, KernelMut, Number) [1 3 10 15] [11 13];
         gadulnos_vfree(WordsMut, FieldsMut, BitsMut, Root, KernelMut, Number) [10 16] [];
         gadulnos_mmap(
@@ -164,11 +170,17 @@ rows! {
         gadulnos_start(
             WordsMut, FieldsMut, BitsMut, RootOut, KernelMut, UserMut, MarkedMut, Number, Number
         ) [10 11] [];
+        gadulnos_start_levels(
+            WordsMut, FieldsMut, BitsMut, RootOut, KernelMut, UserMut, MarkedMut, Number, Number, Levels
+        ) [10 11] [];
     }
 }
 
 /// At most one call in so many may be left uncompared because the model gave up.
 const MOST_GAVE_UP: u64 = 1000;
+
+/// At least one call in so many walks five levels and is compared whole.
+const LEAST_ON_FIVE: u64 = 8;
 
 /// The functions behind the calls whose names differ: a tape's faults, and the three counts.
 fn function_of(call: &str) -> String {
@@ -211,38 +223,69 @@ pub fn changes_nothing(call: &str, number: u64) -> bool {
     row(call).bare.contains(&number)
 }
 
-/// Prints how often each number came, and checks that each call had each of its numbers, unless the
-/// run was a short one.
+/// Whether a call walks: it is lent the frames' words, and is no start.
+pub fn walks(call: &str) -> bool {
+    row(call).args.iter().any(Arg::is_words) && !call.starts_with("start")
+}
+
+/// How often each number was answered by each call.
+type Numbers = BTreeMap<(&'static str, u64), u64>;
+
+/// Prints how often each number came, and checks that each call had each of its numbers, those that walk on
+/// five levels too, unless the run was a short one.
 pub fn check(report: &mut Report, seen: &Seen, rounds: u64) {
-    let calls: BTreeSet<&str> = seen.numbers.keys().map(|(call, _)| *call).collect();
-    for call in &calls {
-        let counts = seen.numbers.iter().filter(|((name, _), _)| name == call);
-        let counts: Vec<String> = counts.map(|((_, n), count)| format!("{n}: {count}")).collect();
-        println!("  {call} {}", counts.join(", "));
-    }
+    let calls = print(&seen.numbers, "");
+    print(&seen.on_five, " on five levels:");
+    println!("  walks, by levels and number: {:?}", seen.walks);
     report.check("anything: the table has the functions of the header", as_declared());
-    let Seen { compared, gave_up, .. } = seen;
+    let Seen { compared, walked_five, gave_up, .. } = seen;
     let few =
         holds(gave_up * MOST_GAVE_UP <= *compared, "few releases that are too long for the model");
     report.check(
         &format!("anything: {compared} calls compared whole, {gave_up} too long for the model"),
         few,
     );
+    let many = holds(walked_five * LEAST_ON_FIVE >= *compared, "many calls that walk five levels");
+    let told = many.and_then(|()| holds(*walked_five > 0, "a call that walks five levels"));
+    report.check(&format!("anything: {walked_five} of them walked five levels"), told);
     if rounds >= 2000 {
-        report.check("anything: every number of every call was met with", all(seen, &calls));
+        let count = holds(calls.len() == 24, "all 24 kinds of calls");
+        let every = count.and_then(|()| all(&seen.numbers, &calls));
+        report.check("anything: every number of every call was met with", every);
+        let on_five = calls.into_iter().filter(|call| walks(call)).chain(["start_levels"]);
+        let every = all(&seen.on_five, &on_five.collect()).and_then(|()| all_walks(seen));
+        report.check("anything: and of every call that walks, on five levels", every);
     }
 }
 
-fn all(seen: &Seen, calls: &BTreeSet<&'static str>) -> Result<(), String> {
-    holds(calls.len() == 23, "all 23 kinds of calls")?;
+/// Prints how often each number came; the calls.
+fn print(numbers: &Numbers, on: &str) -> BTreeSet<&'static str> {
+    let calls: BTreeSet<&str> = numbers.keys().map(|(call, _)| *call).collect();
+    for call in &calls {
+        let counts = numbers.iter().filter(|((name, _), _)| name == call);
+        let counts: Vec<String> = counts.map(|((_, n), count)| format!("{n}: {count}")).collect();
+        println!("  {call}{on} {}", counts.join(", "));
+    }
+    calls
+}
+
+/// That each of these calls had each of its numbers.
+fn all(numbers: &Numbers, calls: &BTreeSet<&'static str>) -> Result<(), String> {
     for call in calls {
         let Row { bare, leaving, .. } = row(call);
         let met = if *bare == [9] { &[][..] } else { &[0][..] };
         for number in met.iter().chain(*bare).chain(*leaving) {
-            holds(seen.numbers.contains_key(&(*call, *number)), &format!("{call} {number}"))?;
+            holds(numbers.contains_key(&(*call, *number)), &format!("{call} {number}"))?;
         }
     }
     Ok(())
+}
+
+/// That walks that were lent 4 and 5 levels had each number, and others 10 alone.
+fn all_walks(seen: &Seen) -> Result<(), String> {
+    let known = [4, 5].into_iter().flat_map(|levels| [0, 10, 14, 19].map(|n| (levels, n)));
+    let wanted: BTreeSet<(u64, u64)> = known.chain([(0, 10)]).collect();
+    equal(seen.walks.keys().copied().collect(), wanted)
 }
 
 /// That table and header name the same functions.

@@ -1,59 +1,82 @@
-//! Releases of the largest regions there can be, over tables that make them as long as they can be:
-//! they end, and in a time that does not follow the pages of the region.
+//! Releases of the largest regions there can be, over tables that make them as long as they can be, on four
+//! and on five levels: they end, and in a time that does not follow the pages of the region.
 
 use crate::guard::{self, Against};
 use crate::port;
 use crate::report::{equal, holds, Report};
-use gadulnos::{Board, Kernel, Line, Region, User};
+use gadulnos::{Board, Kernel, Line, Region, User, LEVELS, MOST_LEVELS};
 use paper::{LAST, PAGE};
 use std::time::Instant;
 
 /// The number of frames of a large board.
 const LARGE: u64 = 8192;
 
-/// A way to fill four tables: an entry of the root, of the second level, of the third, and a leaf.
-type Tables = fn(usize) -> [u64; 4];
+/// The longest that a release may take, in seconds.
+const PATIENCE: u32 = 60;
+
+/// A way to fill a table of each level: what stands at an index of each, the root first. The last has the
+/// leaves.
+type Tables = fn(levels: u64, index: usize) -> Vec<u64>;
 
 const FIRST: u64 = 0x100;
 
+/// An entry that leads to a frame of the board, and one that leads outside.
+fn to(frame: u64) -> u64 {
+    (FIRST + frame) << 12 | 7
+}
+
+const OUTSIDE: u64 = 0x9999_0007;
+
 pub fn check(report: &mut Report) {
-    let absent: Tables = |_| [0; 4];
-    let one: Tables = |i| if i == 0 { [1, 2, 3, 4].map(|k| (FIRST + k) << 12 | 7) } else { [0; 4] };
-    let outside: Tables = |_| [0x9999_0007; 4];
-    let looped: Tables = |_| [FIRST << 12 | 7; 4];
-    let wide: Tables = |i| {
-        let leaf = if i % 2 == 0 { 0 } else { 0x9999_0007 };
-        [(FIRST + 1) << 12 | 7, (FIRST + 2) << 12 | 7, (FIRST + 3) << 12 | 7, leaf]
+    let absent: Tables = |levels, _| vec![0; levels as usize];
+    let one: Tables = |levels, i| (1..=levels).map(|k| if i == 0 { to(k) } else { 0 }).collect();
+    let outside: Tables = |levels, _| vec![OUTSIDE; levels as usize];
+    let looped: Tables = |levels, _| vec![to(0); levels as usize];
+    let wide: Tables = |levels, i| {
+        let leaf = if i % 2 == 0 { 0 } else { OUTSIDE };
+        (1..levels).map(to).chain([leaf]).collect()
     };
     let boards = [
         ("no table", absent),
         ("one page", one),
         ("every table outside", outside),
         ("a root that leads to itself everywhere", looped),
-        ("three tables, each reached in 512 ways from the one above", wide),
+        ("a table of each level, reached in 512 ways from the one above", wide),
     ];
-    for (name, tables) in boards {
-        for start in [0, PAGE, 0xFFFF_FFC0_0000_0000] {
-            let begun = Instant::now();
-            let result = release(tables, start);
-            let took = begun.elapsed().as_secs_f64();
-            report
-                .check(&format!("worst: {name}, from {start:x} to the end ({took:.3} s)"), result);
+    for levels in [LEVELS, MOST_LEVELS] {
+        for (name, tables) in boards {
+            for start in [0, PAGE, 0xFFFF_FFC0_0000_0000] {
+                let name = format!("{name}, from {start:x} to the end");
+                timed(report, levels, &name, || release(levels, tables, start));
+            }
         }
+        let name = "8192 tables, each reached in many ways";
+        timed(report, levels, name, || release_all(levels));
     }
+}
+
+/// A check with the time that it took.
+fn timed(report: &mut Report, levels: u64, name: &str, check: impl FnOnce() -> Result<(), String>) {
+    guard::within(PATIENCE);
     let begun = Instant::now();
-    let result = release_all();
+    let result = check();
     let took = begun.elapsed().as_secs_f64();
-    report.check(&format!("worst: 8192 tables, each reached in many ways ({took:.3} s)"), result);
+    report.check(&format!("worst: {levels} levels, {name} ({took:.3} s)"), result);
+}
+
+/// A fresh board of so many frames and levels.
+fn fresh(frames: u64, levels: u64) -> Result<Board, String> {
+    let mut board = Board::lend(frames as usize);
+    let (from, to) = (FIRST * PAGE, (FIRST + frames) * PAGE);
+    equal(board.start_levels(from, to, levels), Line::met(0))?;
+    Ok(board)
 }
 
 /// vfree and munmap of a region from `start` up to the last page.
-fn release(tables: Tables, start: u64) -> Result<(), String> {
-    guard::within(600);
-    let mut board = Board::lend(8);
-    equal(board.start(FIRST * PAGE, (FIRST + 8) * PAGE), Line::met(0))?;
+fn release(levels: u64, tables: Tables, start: u64) -> Result<(), String> {
+    let mut board = fresh(8, levels)?;
     for i in 0..512 {
-        for (table, word) in tables(i).into_iter().enumerate() {
+        for (table, word) in tables(levels, i).into_iter().enumerate() {
             board.words[table * 512 + i] = word;
         }
     }
@@ -81,18 +104,16 @@ fn record(board: &mut Board, start: u64, size: u64) -> Result<(), String> {
     Ok(())
 }
 
-/// The largest board, every frame of it a table full of present entries: a root, then a third of the
-/// frames on each level.
-fn release_all() -> Result<(), String> {
-    guard::within(600);
-    let mut board = Board::lend(LARGE as usize);
-    equal(board.start(FIRST * PAGE, (FIRST + LARGE) * PAGE), Line::met(0))?;
-    let third = (LARGE - 1) / 3;
+/// The largest board, every frame of it a table full of present entries: a root, then as many frames on
+/// each level below it.
+fn release_all(levels: u64) -> Result<(), String> {
+    let mut board = fresh(LARGE, levels)?;
+    let share = (LARGE - 1) / (levels - 1);
     for frame in 0..LARGE {
-        let below = if frame == 0 { 1 } else { 1 + ((frame - 1) / third + 1) * third };
+        let depth = if frame == 0 { 0 } else { 1 + (frame - 1) / share };
         for i in 0..512 {
-            let next = FIRST + below + (frame * 512 + i) * 7919 % third;
-            let word = if below > 2 * third + 1 { 0x9999_0007 } else { next << 12 | 7 };
+            let next = 1 + depth * share + (frame * 512 + i) * 7919 % share;
+            let word = if depth < levels - 1 { to(next) } else { OUTSIDE };
             board.words[(frame * 512 + i) as usize] = word;
         }
     }
@@ -102,11 +123,14 @@ fn release_all() -> Result<(), String> {
     nothing_left(&port, PAGE)
 }
 
-/// No page of the region translates. One of 2^48 bytes or more has every page, since bits 63 to 48 are
-/// ignored.
+/// No page of the region translates. One that is larger than all that the indices tell apart has every
+/// page, since the bits above are ignored.
 fn nothing_left(port: &port::Port, start: u64) -> Result<(), String> {
-    let pages = [0, PAGE, 1 << 21, 1 << 30, 1 << 39, 0xFFFF_FFC0_0000_0000, LAST - PAGE];
-    for virt in pages.into_iter().filter(|&virt| virt >= start || LAST - start >= 1 << 48) {
+    let all = 1 << (12 + 9 * port.frames().levels);
+    let low = [0, PAGE, 1 << 21, 1 << 30, 1 << 39, 1 << 48, 1 << 56];
+    let high = [0xFF00_0000_0000_0000, 0xFFFF_FFC0_0000_0000, LAST - PAGE];
+    let pages = low.into_iter().chain(high);
+    for virt in pages.filter(|&virt| virt >= start || LAST - start >= all) {
         let line = port.translate(virt);
         holds(
             line.number == 14 || line.number == 19,

@@ -74,7 +74,7 @@ impl Churn {
 /// The frames that are reached from the root, and the pages that are mapped.
 fn reached(state: &State) -> (BTreeSet<u64>, Vec<u64>) {
     let (mut frames, mut pages) = (BTreeSet::from([state.root]), Vec::new());
-    let mut open = vec![(0, 0, state.root)];
+    let mut open = vec![(state.levels, 0, state.root)];
     while let Some((level, bits, table)) = open.pop() {
         let at = match state.lent(table) {
             Some(index) => index * 512,
@@ -84,10 +84,10 @@ fn reached(state: &State) -> (BTreeSet<u64>, Vec<u64>) {
             (0..).zip(&state.words[at..at + 512]).filter(|(_, word)| **word & 1 == 1)
         {
             let (bits, below) = (bits << 9 | index, (word & 0x000F_FFFF_FFFF_F000) / PAGE);
-            match level == 3 {
+            match level == 1 {
                 true => pages.push((bits << 12) | if bits >> 35 == 1 { 0xFFFF << 48 } else { 0 }),
                 false if frames.contains(&below) => {}
-                false => open.push((level + 1, bits, below)),
+                false => open.push((level - 1, bits, below)),
             }
             frames.insert(below);
         }

@@ -157,6 +157,6 @@ fn ask(state: &State, port: &Port, call: &Call, seen: &mut Seen) -> Result<(), S
 
 /// Whether user code may read an address, and write it: the last level's entry alone decides.
 fn user_may(leaf: Option<(u64, usize)>) -> [Line; 2] {
-    let word = leaf.filter(|(_, level)| *level == 3).map_or(0, |(word, _)| word);
+    let word = leaf.filter(|(_, level)| *level == 1).map_or(0, |(word, _)| word);
     [4, 6].map(|bits| Line::met((word & bits == bits).into()))
 }

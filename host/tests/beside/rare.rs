@@ -6,14 +6,14 @@ use paper::{PAGE, TEMPORARY};
 
 const HUGE: u64 = 128;
 
-/// The entry that a translation ends at, read directly, and its level from the root.
+/// The entry that a translation ends at on four levels, read directly, and its level from the bottom.
 pub fn leaf(state: &State, virt: u64) -> Option<(u64, usize)> {
     let mut table = state.root;
-    for (level, shift) in [39, 30, 21, 12].into_iter().enumerate() {
+    for (level, shift) in (1..=4).rev().zip([39, 30, 21, 12]) {
         let word = state.words[state.lent(table)? * 512 + (virt >> shift) as usize % 512];
         match word & 1 {
             0 => return None,
-            _ if level == 3 || level == 2 && word & HUGE != 0 => return Some((word, level)),
+            _ if level == 1 || level == 2 && word & HUGE != 0 => return Some((word, level)),
             _ => table = (word & 0x000F_FFFF_FFFF_F000) / PAGE,
         }
     }
@@ -33,7 +33,8 @@ pub fn names(state: &State, call: &Call) -> Vec<String> {
     }
     if let Some(addr) = walked(call) {
         if leaf(state, addr).map_or(false, |(word, level)| level == 2 && word & HUGE != 0) {
-            names.push(format!("{} over a third-level HUGE entry", call.shape().name));
+            names
+                .push(format!("{} over a HUGE entry of the last level but one", call.shape().name));
         }
     }
     names

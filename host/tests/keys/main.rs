@@ -22,7 +22,7 @@ mod process;
 #[path = "../shared/report.rs"]
 mod report;
 
-use gadulnos::{Board as Parts, Line};
+use gadulnos::{Board as Parts, Line, LEVELS};
 use model::Model;
 use options::Options;
 use paper::call::{Call, Shape};
@@ -89,7 +89,7 @@ fn printed(tape: &[u8], piece: usize) -> Result<String, String> {
 fn key(tape: &[u8]) -> Result<String, String> {
     let tape = tape::parse(tape, KINDS);
     let mut board = Model::of(&Parts::lend(16));
-    equal(board.start(true, MEMORY.0, MEMORY.1), Line::met(0))?;
+    equal(board.start(true, MEMORY.0, MEMORY.1, LEVELS), Line::met(0))?;
     let mut text = String::new();
     for call in &tape.calls {
         text += &line(call, board.play(call));

@@ -1,11 +1,12 @@
 //! The frame allocator, beside the original's own struct, on records of any number of frames anywhere
-//! below 2^52.
+//! below 2^52. The levels, which the original has not, stay but for `init`, and other numbers of them are
+//! refused.
 
 use crate::guard::Against;
 use crate::options::Options;
 use crate::port;
 use crate::report::{equal_at, Checked, Report};
-use gadulnos::{Bitmap, Board, Frames, Line};
+use gadulnos::{Bitmap, Board, Frames, Line, LEVELS, MOST_LEVELS};
 use paper::call::Call;
 use paper::generate::Random;
 use paper::minimise;
@@ -23,6 +24,7 @@ const SIZES: [u64; 14] = [0, 1, 2, 63, 64, 65, 127, 128, 1000, 8127, 8128, 8191,
 pub fn check(report: &mut Report, options: &Options) {
     report.tell("frames: calls after init", after_init(options));
     report.tell("frames: calls on any record that is not broken", after_set(options));
+    report.tell("frames: calls on records of other levels", other_levels(options));
 }
 
 /// What a sequence starts from: any record, and the ends of an init if there is one.
@@ -55,11 +57,40 @@ fn after_set(options: &Options) -> Checked {
         let size = SIZES[i as usize % SIZES.len()].min(8192);
         let first = first_frame(&mut random, size);
         let (bitmap, allocated) = any_bitmap(&mut random, size);
-        let frames = Frames { start_frame: first, total: size, allocated };
+        let levels = random.one_of(&[LEVELS, MOST_LEVELS]);
+        let frames = Frames { start_frame: first, total: size, allocated, levels };
         let start = Start { bitmap, frames, init: None };
         cases += sequence(&mut random, first, size, &start)?;
     }
     Ok(cases)
+}
+
+/// Every call answers 10 and changes nothing where the levels are neither 4 nor 5.
+fn other_levels(options: &Options) -> Checked {
+    let mut random = options.random(22);
+    let mut cases = 0;
+    let bits = (3..64).map(|bit| LEVELS | 1 << bit);
+    for levels in (0..LEVELS).chain(MOST_LEVELS + 1..20).chain(bits).chain([u64::MAX]) {
+        let size = random.one_of(&SIZES).min(8192);
+        let first = first_frame(&mut random, size);
+        let (bitmap, allocated) = any_bitmap(&mut random, size);
+        let frames = Frames { start_frame: first, total: size, allocated, levels };
+        let mut ours = lent(&frames, &bitmap, Against::Behind);
+        for call in draw_calls(&mut random, first, size) {
+            equal_at((levels, call), port::play(&mut ours, &call), Line::refused(10))?;
+            equal_at((levels, call), port::counts(&ours), [Line::refused(10); 3])?;
+            cases += 1;
+        }
+        equal_at(levels, ours.frames(), frames)?;
+        equal_at(levels, gadulnos::unpack_bitmap(&ours.bits), bitmap)?;
+    }
+    Ok(cases)
+}
+
+/// A record between guards.
+fn lent(frames: &Frames, bitmap: &Bitmap, against: Against) -> port::Port {
+    let (fields, bits) = (frames.pack(), Box::new(gadulnos::pack_bitmap(bitmap)));
+    port::guarded(&Board { fields, bits, ..Board::lend(0) }, against)
 }
 
 /// The number of a board's first frame: low, above 2^47 / 4096, or as high as it goes.
@@ -116,22 +147,22 @@ fn draw_frame(random: &mut Random, first: u64, size: u64) -> u64 {
 /// Plays calls on both, and compares answers, bitmap words and records after each.
 fn play(start: &Start, against: Against, calls: &[Call]) -> Result<(), String> {
     let Start { bitmap, frames, init } = *start;
-    let Frames { start_frame, total, allocated } = frames;
+    let Frames { start_frame, total, allocated, mut levels } = frames;
     let mut rust = access::of(&access::Record { start_frame, total, allocated, bitmap });
-    let (fields, bits) = (frames.pack(), Box::new(gadulnos::pack_bitmap(&bitmap)));
-    let mut ours = port::guarded(&Board { fields, bits, ..Board::lend(0) }, against);
+    let mut ours = lent(&frames, &bitmap, against);
     if let Some((from, to)) = init {
         rust.init(from, to);
         equal_at((from, to), ours.init(from, to), Line::met(0))?;
+        levels = LEVELS;
     }
-    compare(&ours, &rust)?;
+    compare(&ours, &rust, levels)?;
     for call in calls {
         equal_at(call, port::play(&mut ours, call), play_rust(&mut rust, call))?;
         if *call == Call::Counts {
             let counts = [rust.free_frames(), rust.allocated_frames(), rust.total_frames()];
             equal_at(call, port::counts(&ours), counts.map(Line::met))?;
         }
-        compare(&ours, &rust).map_err(|why| format!("after {call}: {why}"))?;
+        compare(&ours, &rust, levels).map_err(|why| format!("after {call}: {why}"))?;
     }
     Ok(())
 }
@@ -151,10 +182,10 @@ fn play_rust(rust: &mut FrameAllocator, call: &Call) -> Line {
     Line::met(0)
 }
 
-fn compare(ours: &port::Port, rust: &FrameAllocator) -> Result<(), String> {
+fn compare(ours: &port::Port, rust: &FrameAllocator, levels: u64) -> Result<(), String> {
     let record = access::read(rust);
     let (start_frame, total, allocated) = (record.start_frame, record.total, record.allocated);
-    let frames = Frames { start_frame, total, allocated };
+    let frames = Frames { start_frame, total, allocated, levels };
     equal_at("the record", ours.frames(), frames)?;
     equal_at("the bitmap", gadulnos::unpack_bitmap(&ours.bits), record.bitmap)
 }
@@ -180,5 +211,6 @@ fn any_record(random: &mut Random) -> (Bitmap, Frames) {
     let any = [random.word(), random.word() >> 20, random.below(8193)];
     let (start_frame, total) = (random.one_of(&any), random.one_of(&any));
     let allocated = random.one_of(&[set, any[0], any[2]]);
-    (bitmap, Frames { start_frame, total, allocated })
+    let levels = random.one_of(&[LEVELS, MOST_LEVELS, any[0], any[2]]);
+    (bitmap, Frames { start_frame, total, allocated, levels })
 }

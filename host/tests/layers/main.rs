@@ -1,5 +1,6 @@
 //! The compiled calls on numbers and on the frame record, and mmap's search, beside the original Rust, on
-//! limits and on random inputs, all that is lent to them between guard pages.
+//! limits and on random inputs; the walks on tables made by hand, of four and of five levels; examples on
+//! boards of five levels. All that is lent to them stands between guard pages.
 //!
 //! Prints `ok NAME` or `FAILED NAME: why` for each check and ends with the two counts.
 //! Where a sequence of calls differs, the shortest one found is printed.
@@ -7,10 +8,15 @@
 //! Usage: layers [--seed S] [--sequences N]
 
 mod addresses;
+mod differences;
 mod entries;
+mod example;
+mod five;
 mod frames;
 #[path = "../shared/guard.rs"]
 mod guard;
+#[path = "../shared/model/mod.rs"]
+mod model;
 #[path = "../shared/options.rs"]
 mod options;
 #[path = "../shared/port.rs"]
@@ -19,6 +25,7 @@ mod port;
 mod report;
 mod rounding;
 mod search;
+mod walks;
 
 use options::Options;
 use report::Report;
@@ -33,6 +40,9 @@ fn main() {
     addresses::check(&mut report, &options);
     entries::check(&mut report, &options);
     frames::check(&mut report, &options);
+    walks::check(&mut report, &options);
+    five::check(&mut report);
+    differences::check(&mut report);
     search::check(&mut report, &options);
     report.finish();
 }

@@ -4,19 +4,20 @@ use crate::checked::rinux::oracle::{Board, Call};
 use crate::checked::run::{board, fixed, hint, mmap};
 use crate::report::{equal, holds, Check, Report};
 use paper::domain::{read, Reason, Verdict};
-use paper::state::Region;
+use paper::state::{Region, State};
 use paper::{LAST, PAGE, TEMPORARY};
 
 const FIRST: u64 = 0x100;
 const USER: u64 = 0x1000_0000_0000;
 
 pub fn check(report: &mut Report) {
-    let checks: [Check; 8] = [
+    let checks: [Check; 9] = [
         ("domain: sums", sums),
         ("domain: limits", limits),
         ("domain: broken records", broken),
+        ("domain: boards of five levels", five_levels),
         ("domain: tables off the board", off_board),
-        ("domain: the third-level HUGE entry is followed but by translate", huge),
+        ("domain: a HUGE entry of the last level but one is followed but by translate", huge),
         ("domain: a free frame as table", free_table),
         ("domain: copies", copies),
         ("domain: the page copied from the lowest free frame", copy_from_free),
@@ -113,6 +114,31 @@ fn broken() -> Result<(), String> {
     judge(&board, &broken)?;
     board.set_mmap(&[region(LAST - PAGE, PAGE)], LAST);
     judge(&board, &[(Call::Counts, Verdict::Inside)])
+}
+
+/// The Rust has four levels: on five every call is outside, and another number is a broken record.
+fn five_levels() -> Result<(), String> {
+    let mut board = board(16)?;
+    prepare(&mut board, &[mmap(PAGE), Call::Vmalloc { size: 1 }])?;
+    let calls = [
+        Call::Counts,
+        Call::Translate { addr: USER },
+        Call::Munmap { addr: USER, size: PAGE },
+        Call::Vmalloc { size: LAST + 1 },
+        fixed(1 << 47, PAGE),
+        Call::MarkCow { addr: USER },
+    ];
+    for (levels, reason) in
+        [(5, Reason::Levels), (0, Reason::Broken), (3, Reason::Broken), (6, Reason::Broken)]
+    {
+        for call in &calls {
+            let reading = read(&State { levels, ..board.state() }, call);
+            equal((reading.verdict, reading.safe), (Verdict::Outside(reason), false))?;
+        }
+    }
+    let broken = State { levels: 5, allocated: 0, ..board.state() };
+    equal(read(&broken, &calls[0]).verdict, Verdict::Outside(Reason::Broken))?;
+    judge(&board, &[(calls[0], Verdict::Inside), (calls[1], Verdict::Inside)])
 }
 
 fn off_board() -> Result<(), String> {

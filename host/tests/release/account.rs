@@ -8,9 +8,6 @@ use paper::state::{Region, Slot, State, SLOTS};
 use paper::{KERNEL_WINDOW, PAGE, USER_WINDOW};
 use std::collections::BTreeSet;
 
-/// 'every fixed or page-aligned hinted range ends at or below 2^47'
-const HIGHEST_END: u128 = 1 << 47;
-
 const MAP_FIXED: i32 = 0x10;
 
 /// A live region: the kernel's (vmalloc) or the user's (mmap).
@@ -41,16 +38,24 @@ impl Live {
     }
 }
 
-/// A run of one to three leading indices: how many, and the address bits that they are.
-pub type Run = (u32, u64);
+/// A run of leading indices: how many, and the address bits that they are.
+pub type Run = (u64, u64);
 
-/// The leading runs of a page, 'neither empty nor whole'.
-pub fn runs(page: u64) -> [Run; 3] {
-    [1, 2, 3].map(|length| (length, (page & 0xFFFF_FFFF_FFFF) >> (48 - 9 * length)))
+/// The leading runs of a page, 'neither empty nor whole': one to three indices on four levels, one to four on
+/// five.
+fn runs(page: u64, levels: u64) -> impl Iterator<Item = Run> {
+    let indices = page / PAGE % (1 << (9 * levels));
+    (1..levels).map(move |length| (length, indices >> (9 * (levels - length))))
+}
+
+/// What a fixed or page-aligned hinted range may reach: 2^47 on four levels, 2^56 on five.
+pub fn top(levels: u64) -> u64 {
+    1 << (11 + 9 * levels)
 }
 
 #[derive(Clone)]
 pub struct Account {
+    pub levels: u64,
     pub live: Vec<Live>,
     pub ever_live: Vec<Live>,
     pub runs: BTreeSet<Run>,
@@ -66,23 +71,24 @@ fn rounded(size: u64) -> u64 {
     (size + (PAGE - 1)) / PAGE * PAGE
 }
 
-/// Whether a fixed or page-aligned hinted range ends above 2^47.
-pub fn is_high(call: &Call) -> bool {
+/// Whether a fixed or page-aligned hinted range ends above the top.
+pub fn is_high(call: &Call, levels: u64) -> bool {
     match *call {
         Call::Mmap { given: true, addr, size, flags, .. } => {
             let named = flags & MAP_FIXED != 0 || addr % PAGE == 0;
             let pages = (u128::from(size) + 4095) / 4096;
-            named && u128::from(addr) + pages * 4096 > HIGHEST_END
+            named && u128::from(addr) + pages * 4096 > top(levels).into()
         }
         _ => false,
     }
 }
 
 impl Account {
-    pub fn fresh() -> Account {
+    pub fn fresh(levels: u64) -> Account {
         let window =
             Slot { start: KERNEL_WINDOW.0, size: KERNEL_WINDOW.1 - KERNEL_WINDOW.0, used: false };
         Account {
+            levels,
             live: Vec::new(),
             ever_live: Vec::new(),
             runs: BTreeSet::new(),
@@ -121,7 +127,8 @@ impl Account {
     fn born(&mut self, region: Live) {
         self.live.push(region);
         self.ever_live.push(region);
-        self.runs.extend(region.pages().flat_map(runs));
+        let levels = self.levels;
+        self.runs.extend(region.pages().flat_map(|page| runs(page, levels)));
     }
 
     fn died(&mut self, addr: u64, kernel: bool) -> Result<(), String> {

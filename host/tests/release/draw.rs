@@ -1,6 +1,6 @@
 //! Draws the calls of a list, with what stands and what once stood in view.
 
-use crate::account::{kernel, user, Account, Live};
+use crate::account::{kernel, top, user, Account, Live};
 use paper::call::Call;
 use paper::generate::Random;
 use paper::state::{State, SLOTS};
@@ -184,9 +184,10 @@ impl Draw {
         Call::Mmap { given, addr, size, prot: self.signed(), flags }
     }
 
-    /// Where a range may begin: in, at or beside a region, ending at or just above 2^47, across the end
+    /// Where a range may begin: in, at or beside a region, ending at or just above the top, across the end
     /// of a table, or anywhere.
     fn address(&mut self, size: u64, state: &State, account: &Account) -> u64 {
+        let top = top(account.levels);
         let pages = (size & !(PAGE - 1)).min(1 << 46);
         let standing = match account.ever_live.is_empty() {
             true => Live::Kernel { start: USER_WINDOW.0, size: PAGE },
@@ -200,13 +201,14 @@ impl Draw {
             3 => end + self.random.below(4) * PAGE,
             4 => start.wrapping_sub(pages + PAGE * self.random.below(2)),
             5 => state.next_addr,
-            6 => (1 << 47) - pages - PAGE * self.random.below(3),
+            6 => top - pages - PAGE * self.random.below(3),
             7 => {
-                let table = self.random.one_of(&[1 << 21, 1 << 30, 1 << 39]);
-                (1 + self.random.below((1 << 47) / table - 1)) * table - PAGE
+                let tables = [1 << 21, 1 << 30, 1 << 39, 1 << 48];
+                let table = self.random.one_of(&tables[..account.levels as usize - 1]);
+                (1 + self.random.below(top / table - 1)) * table - PAGE
             }
-            8 => self.random.one_of(&[0, PAGE, 1 << 47, KERNEL_WINDOW.0, LAST, LAST - PAGE]),
-            9 => self.random.below(1 << 47),
+            8 => self.random.one_of(&[0, PAGE, top, KERNEL_WINDOW.0, LAST, LAST - PAGE]),
+            9 => self.random.below(top),
             10 => start ^ self.random.below(1 << 32),
             _ => start ^ (1 + self.random.below(3)) << 21,
         }

@@ -35,19 +35,21 @@ pub fn check(state: &State, account: &Account) -> Result<(), String> {
 }
 
 /// 'The frames that present entries above the last level reach from the root', each by its run. No
-/// entry that would make an address translate is present: neither a leaf nor a third-level HUGE entry.
+/// entry that would make an address translate is present: neither a leaf nor a HUGE entry of the last level
+/// but one.
 fn tables(state: &State) -> Result<BTreeMap<Run, u64>, String> {
     let mut tables = BTreeMap::new();
     let mut open = vec![((0, 0), state.root)];
     while let Some(((length, bits), table)) = open.pop() {
+        let level = state.levels - length;
         let at = state.lent(table).ok_or(format!("table {table:x} is not lent"))? * 512;
         for (index, word) in (0..).zip(&state.words[at..at + 512]) {
             if word & PRESENT == 0 {
                 continue;
             }
             let run = (length + 1, bits << 9 | index);
-            holds(length < 3, &format!("no leaf at {run:x?}, {word:x}"))?;
-            holds(length < 2 || word & HUGE == 0, &format!("no HUGE entry at {run:x?}, {word:x}"))?;
+            holds(level > 1, &format!("no leaf at {run:x?}, {word:x}"))?;
+            holds(level > 2 || word & HUGE == 0, &format!("no HUGE entry at {run:x?}, {word:x}"))?;
             let below = (word & ADDR_MASK) / PAGE;
             tables.insert(run, below);
             holds(tables.len() as u64 <= state.total, "fewer tables than frames")?;
@@ -58,25 +60,25 @@ fn tables(state: &State) -> Result<BTreeMap<Run, u64>, String> {
 }
 
 /// That no address translates: pages ever live, addresses beside them or under the same tables, limits
-/// and random ones. `translate` answers a number.
+/// and random ones.
 pub fn nowhere(
     random: &mut Random,
     account: &Account,
-    translate: &mut dyn FnMut(u64) -> u64,
-) -> Result<u64, String> {
+    is_nowhere: &mut dyn FnMut(u64) -> bool,
+) -> Result<(), String> {
     let limits = [0, USER_WINDOW.0, 1 << 47, KERNEL_WINDOW.0, KERNEL_WINDOW.1, TEMPORARY, LAST];
-    let mut addresses: Vec<u64> = limits.into_iter().chain([u64::MAX]).collect();
+    let mut addresses: Vec<u64> = limits.into_iter().chain([1 << 48, 1 << 56, u64::MAX]).collect();
+    let ignored = 12 + 9 * account.levels;
     addresses.extend((0..32).map(|i| random.word() >> i));
     for live in &account.ever_live {
         addresses.extend(live.pages().map(|page| page + random.below(PAGE)));
         let ends = [live.start().wrapping_sub(1), live.start() + live.size()];
         addresses.extend(ends);
-        let under = [12, 21, 30, 39].map(|bits| live.start() ^ random.below(1 << bits));
+        let under = (12..ignored).step_by(9).map(|bits| live.start() ^ random.below(1 << bits));
         addresses.extend(under);
-        addresses.push(live.start() ^ random.word() << 48);
+        addresses.push(live.start() ^ random.word() << ignored);
     }
-    for addr in &addresses {
-        equal_at(addr, translate(*addr), 14)?;
-    }
-    Ok(addresses.len() as u64)
+    addresses
+        .into_iter()
+        .try_for_each(|addr| holds(is_nowhere(addr), &format!("14 for the address {addr:x}")))
 }

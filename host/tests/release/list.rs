@@ -1,21 +1,25 @@
-//! Plays a list of calls on the port and on the Rust, from a fresh board, keeping inside demand 3's
-//! conditions: a call that breaks one is left out before it is made.
+//! Plays a list of calls on the port and on what stands beside it, from a fresh board, keeping inside
+//! demand 3's conditions: a call that breaks one is left out before it is made.
 
 use crate::account::{is_high, Account};
+use crate::beside::{Beside, Foreseen};
 use crate::draw::{Draw, Kind};
 use crate::guard::Against;
+use crate::model::Model;
 use crate::port::{self, Port};
 use crate::report::{equal, holds};
 use crate::seen::Seen;
-use gadulnos::Line;
+use gadulnos::{Board as Parts, Line, LEVELS};
 use paper::call::Call;
-use paper::domain::{self, Reason, Verdict};
+use paper::domain::Reason;
 use paper::generate::Random;
 use paper::state::{State, SLOTS};
+use paper::PAGE;
 use rinux::oracle::Board;
 
 /// What both sides start from.
 pub struct Setting {
+    pub levels: u64,
     pub memory: (u64, u64),
     /// The frames' words before the start.
     pub words: Vec<u64>,
@@ -26,7 +30,7 @@ pub struct Setting {
 }
 
 impl Setting {
-    pub fn draw(random: &mut Random, kind: Kind) -> (Setting, Draw) {
+    pub fn draw(random: &mut Random, kind: Kind, levels: u64) -> (Setting, Draw) {
         let mut draw = Draw::new(Random::new(random.word()), kind);
         let memory = draw.memory();
         let frames = (memory.1 / 4096 - memory.0 / 4096 + 1) as usize;
@@ -36,22 +40,38 @@ impl Setting {
         };
         let against = random.one_of(&[Against::Before, Against::Behind]);
         let (rubbish, orders) = (random.word(), random.word());
-        (Setting { memory, words, rubbish, orders, against }, draw)
+        (Setting { levels, memory, words, rubbish, orders, against }, draw)
     }
 
-    /// A fresh board of the Rust's.
-    pub fn rust(&self) -> Result<Board, String> {
+    /// The port's parts before the start, lent as many frames as the board has.
+    fn before(&self) -> Parts {
+        let lent = ((self.memory.1 - self.memory.0) / PAGE) as usize * 512;
+        port::rubbish(&mut Random::new(self.rubbish), &self.words[..lent])
+    }
+
+    /// A fresh board of the port's. One of four levels does not name them.
+    fn port(&self) -> Result<Port, String> {
+        let mut port = port::guarded(&self.before(), self.against);
         let (from, to) = self.memory;
-        let fill = |lent: &mut [u64]| lent.copy_from_slice(&self.words[..lent.len()]);
-        Board::start_on(from, to, fill).map_err(|why| format!("{why:?}"))
+        let line = match self.levels {
+            LEVELS => port.start(from, to),
+            levels => port.start_levels(from, to, levels),
+        };
+        equal(line, Line::met(0))?;
+        Ok(port)
     }
 
-    /// A fresh board of the port's, lent as many frames as the Rust's.
-    fn port(&self, lent: usize) -> Result<Port, String> {
-        let before = port::rubbish(&mut Random::new(self.rubbish), &self.words[..lent]);
-        let mut port = port::guarded(&before, self.against);
-        equal(port.start(self.memory.0, self.memory.1), Line::met(0))?;
-        Ok(port)
+    /// A fresh board to stand beside it.
+    pub fn beside(&self) -> Result<Beside, String> {
+        let (from, to) = self.memory;
+        if self.levels == LEVELS {
+            let fill = |lent: &mut [u64]| lent.copy_from_slice(&self.words[..lent.len()]);
+            let rust = Board::start_on(from, to, fill).map_err(|why| format!("{why:?}"))?;
+            return Ok(Beside::Rust(rust));
+        }
+        let mut model = Model::of(&self.before());
+        equal(model.start(true, from, to, self.levels), Line::met(0))?;
+        Ok(Beside::Model(Box::new(model)))
     }
 }
 
@@ -84,26 +104,25 @@ impl Source for std::slice::Iter<'_, Call> {
 /// A list and where it led.
 pub struct Played {
     pub port: Port,
-    pub rust: Board,
+    pub beside: Beside,
     pub account: Account,
 }
 
 /// Plays what the source gives. The calls made are pushed on `calls`, the last one being the one that
-/// differs if there is a difference; of those that the Rust was given `on_rust` has a copy.
+/// differs if there is a difference; of those that were made beside the port `given` has a copy.
 pub fn play(
     setting: &Setting,
     source: &mut dyn Source,
     calls: &mut Vec<Call>,
-    on_rust: &mut Vec<Call>,
+    given: &mut Vec<Call>,
     seen: &mut Seen,
 ) -> Result<Played, String> {
-    let rust = setting.rust()?;
-    let port = setting.port(rust.words().len())?;
-    let mut played = Played { port, rust, account: Account::fresh() };
+    let (port, beside) = (setting.port()?, setting.beside()?);
+    let mut played = Played { port, beside, account: Account::fresh(setting.levels) };
     played.compare()?;
-    while let Some(call) = source.next(&played.rust.state(), &played.account) {
-        let reading = domain::read(&played.rust.state(), &call);
-        if let Some(why) = left_out(&played.port, &call, reading.turned_away) {
+    while let Some(call) = source.next(&port::state(&played.port)?, &played.account) {
+        let foreseen = played.beside.foresee(&port::state(&played.port)?, &call);
+        if let Some(why) = left_out(&played, &call, foreseen.turned_away) {
             seen.count(why);
             match source.goes_on() {
                 true => continue,
@@ -114,59 +133,53 @@ pub fn play(
             }
         }
         calls.push(call);
-        let beside = matches!(reading.verdict, Verdict::Inside | Verdict::Edge);
-        if beside {
-            on_rust.push(call);
+        if foreseen.kept.is_none() {
+            given.push(call);
         }
-        played.one(&call, reading.verdict, seen).map_err(|why| format!("{call}: {why}"))?;
+        played.one(&call, &foreseen, seen).map_err(|why| format!("{call}: {why}"))?;
     }
     Ok(played)
 }
 
 /// Why a call may not stand in the list, if so: it would be turned away with 11 or 13, or it has a fixed
-/// or hinted range that ends above 2^47 and would be met, which a copy of the board tells.
-fn left_out(port: &Port, call: &Call, turned_away: Option<u32>) -> Option<&'static str> {
+/// or hinted range that ends above the top and would be met, which a copy of the board tells.
+fn left_out(played: &Played, call: &Call, turned_away: Option<u32>) -> Option<&'static str> {
     match turned_away {
         Some(11) => return Some("left out: 11"),
         Some(_) => return Some("left out: 13"),
-        None if !is_high(call) => return None,
+        None if !is_high(call, played.account.levels) => return None,
         None => {}
     }
-    let mut trial = port::guarded(&port::unguarded(port), Against::Behind);
+    let mut trial = port::guarded(&port::unguarded(&played.port), Against::Behind);
     let met = port::play(&mut trial, call).number == 0;
-    met.then_some("left out: a range above 2^47")
+    met.then_some("left out: a range above the top")
 }
 
 impl Played {
     /// One call on both, and the account of it.
-    fn one(&mut self, call: &Call, verdict: Verdict, seen: &mut Seen) -> Result<(), String> {
+    fn one(&mut self, call: &Call, foreseen: &Foreseen, seen: &mut Seen) -> Result<(), String> {
         let full = self.account.book.len() == SLOTS;
         let line = port::play(&mut self.port, call);
         holds(line.number != 11 && line.number != 13, "neither 11 nor 13, as was foreseen")?;
-        let number = u32::try_from(line.number).unwrap_or(u32::MAX);
-        match verdict {
-            Verdict::Inside | Verdict::Edge => {
-                let outcome = self.rust.play(call);
-                let wanted = outcome.key_line(call.kind());
-                holds(outcome.agrees(number, line.value), &format!("`{wanted}`, got {line:x?}"))?;
-            }
+        match foreseen.kept {
+            None => self.beside.play(call, line)?,
             // The Rust is not given the call: document 01 adds 3 or 20, or uses the exact sum, which no
             // region is found for, and nothing changes.
-            Verdict::Outside(Reason::Sum) => {
+            Some(Reason::Sum) => {
                 let too_large = [3, 15].map(Line::refused).contains(&line);
                 holds(too_large, &format!("3 or 15, got {line:x?}"))?;
                 seen.count("calls that the Rust was not given, for a sum");
             }
-            Verdict::Outside(Reason::Limit) => {
+            Some(Reason::Limit) => {
                 equal(line, Line::refused(20))?;
                 seen.count("calls that the Rust was not given, for a 257th region");
             }
-            Verdict::Outside(why) => return Err(format!("outside the domain: {why:?}")),
+            Some(why) => return Err(format!("outside the domain: {why:?}")),
         }
         let cuts = self.account.cuts;
         self.account.note(call, line)?;
         self.compare()?;
-        seen.call(call, number, &self.account);
+        seen.call(call, line.number, &self.account);
         if self.account.cuts > cuts {
             seen.count("cuts at 256");
         }
@@ -184,6 +197,6 @@ impl Played {
     pub fn compare(&self) -> Result<(), String> {
         let ours = port::state(&self.port).map_err(|part| format!("{part} of the port"))?;
         self.account.check(&ours)?;
-        self.rust.state().difference(&ours).map_or(Ok(()), Err)
+        self.beside.compare(&self.port)
     }
 }

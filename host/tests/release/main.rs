@@ -1,6 +1,7 @@
-//! The release paper (demand 3), played on the port and on the original Rust: random lists of vmalloc,
-//! vfree, mmap and munmap from fresh boards, refused calls included, then several orders of releasing
-//! all live regions. Every clause is checked at each order's end, and the window book at every step.
+//! The release paper (demand 3), played on the port and on the original Rust, and on boards of five levels,
+//! which the Rust has not, on the port and on the model: random lists of vmalloc, vfree, mmap and munmap from
+//! fresh boards, refused calls included, then several orders of releasing all live regions. Every clause is
+//! checked at each order's end, and the window book at every step.
 //!
 //! Prints `ok NAME` or `FAILED NAME: why` for each check and ends with the two counts. Where a list
 //! fails, the shortest one found is printed.
@@ -8,11 +9,14 @@
 //! Usage: release [--seed S] [--lists N] [--from I]
 
 mod account;
+mod beside;
 mod draw;
 mod ended;
 #[path = "../shared/guard.rs"]
 mod guard;
 mod list;
+#[path = "../shared/model/mod.rs"]
+mod model;
 #[path = "../shared/options.rs"]
 mod options;
 mod orders;
@@ -23,6 +27,7 @@ mod report;
 mod seen;
 
 use draw::Kind;
+use gadulnos::{LEVELS, MOST_LEVELS};
 use list::{Setting, Source};
 use options::Options;
 use paper::call::Call;
@@ -34,22 +39,35 @@ fn main() {
     let options = Options::read("release", "lists", 1000);
     guard::watch();
     let mut report = Report::default();
-    let mut seen = Seen::default();
-    for (stream, kind) in (1..).zip(Kind::ALL) {
-        let checked = run(&options, stream, kind, &mut seen);
-        report.tell(&format!("release: {}, lists and their orders", kind.name()), checked);
+    // Half as many lists on five levels, their draws apart.
+    for (levels, lists, first) in
+        [(LEVELS, options.amount, 1), (MOST_LEVELS, (options.amount + 1) / 2, 11)]
+    {
+        let mut seen = Seen::new(levels);
+        for (stream, kind) in (first..).zip(Kind::ALL) {
+            let share = (lists * kind.share() + 99) / 100;
+            let checked = run(&options, stream, kind, levels, share, &mut seen);
+            let name = format!("release: {levels} levels, {}, lists and their orders", kind.name());
+            report.tell(&name, checked);
+        }
+        seen.check(&mut report, lists);
     }
-    seen.check(&mut report, options.amount);
     report.finish();
 }
 
-/// A kind's share of the lists, at least one: how many orders were tried.
-fn run(options: &Options, stream: u64, kind: Kind, seen: &mut Seen) -> Checked {
-    let share = (options.amount * kind.share() + 99) / 100;
+/// So many lists of a kind: how many orders were tried.
+fn run(
+    options: &Options,
+    stream: u64,
+    kind: Kind,
+    levels: u64,
+    lists: u64,
+    seen: &mut Seen,
+) -> Checked {
     let before = seen.orders();
-    for i in options.from..options.from + share {
-        guard::at(format!("release: {}, list {i}", kind.name()));
-        let (setting, mut draw) = Setting::draw(&mut options.nth(stream, i), kind);
+    for i in options.from..options.from + lists {
+        guard::at(format!("release: {levels} levels, {}, list {i}", kind.name()));
+        let (setting, mut draw) = Setting::draw(&mut options.nth(stream, i), kind, levels);
         let mut calls = Vec::new();
         if let Err(why) = whole(&setting, &mut draw, &mut calls, seen) {
             print_shortest(&setting, &calls);
@@ -66,19 +84,21 @@ fn whole(
     calls: &mut Vec<Call>,
     seen: &mut Seen,
 ) -> Result<(), String> {
-    let mut on_rust = Vec::new();
-    let played = list::play(setting, source, calls, &mut on_rust, seen)?;
-    orders::check(setting, played, &on_rust, seen)
+    let mut given = Vec::new();
+    let played = list::play(setting, source, calls, &mut given, seen)?;
+    orders::check(setting, played, &given, seen)
 }
 
 fn print_shortest(setting: &Setting, calls: &[Call]) {
     let again = |calls: &[Call]| {
         guard::at("the search for a shorter list");
-        whole(setting, &mut calls.iter(), &mut Vec::new(), &mut Seen::default())
+        whole(setting, &mut calls.iter(), &mut Vec::new(), &mut Seen::new(setting.levels))
     };
     let short = minimise::shortest(calls, &mut |calls| again(calls).is_err());
     let (from, to) = setting.memory;
-    println!("{} calls, from {}, on memory {from:#x} to {to:#x}:", short.len(), calls.len());
+    let Setting { levels, .. } = setting;
+    print!("{} calls, from {}, on {levels} levels, ", short.len(), calls.len());
+    println!("memory {from:#x} to {to:#x}:");
     print!("{}", minimise::describe(&short));
     println!("then the releases: {}", again(&short).err().unwrap_or_default());
 }

@@ -2,6 +2,7 @@
 //! and against document 01's clauses.
 
 use crate::account::{Account, Live};
+use crate::beside::Beside;
 use crate::ended;
 use crate::guard::Against;
 use crate::list::{Played, Setting};
@@ -16,11 +17,11 @@ use paper::PAGE;
 /// All orders are tried of at most so many regions.
 const FEW: usize = 4;
 
-/// Tries the orders of a list that was played; `on_rust` are the calls that the Rust was given.
+/// Tries the orders of a list that was played; `given` are the calls that were made beside the port too.
 pub fn check(
     setting: &Setting,
     mut played: Played,
-    on_rust: &[Call],
+    given: &[Call],
     seen: &mut Seen,
 ) -> Result<(), String> {
     let mut random = Random::new(setting.orders);
@@ -30,7 +31,7 @@ pub fn check(
     for (i, order) in orders(&mut random, &account.live).into_iter().enumerate() {
         if i > 0 {
             drop(played);
-            played = replayed(setting, &before, &account, on_rust)?;
+            played = replayed(setting, &before, &account, given)?;
         }
         let at = |why| format!("order {order:x?}: {why}");
         let end = release(&mut random, &mut played, &order, i == 0).map_err(at)?;
@@ -45,19 +46,17 @@ pub fn check(
     Ok(())
 }
 
-/// The boards before the releases again: the port's copied, the Rust's played again.
+/// The boards before the releases again: the port's copied, the one beside it played again.
 fn replayed(
     setting: &Setting,
     before: &Parts,
     account: &Account,
-    on_rust: &[Call],
+    given: &[Call],
 ) -> Result<Played, String> {
-    let mut rust = setting.rust()?;
-    for call in on_rust {
-        rust.play(call);
-    }
+    let mut beside = setting.beside()?;
+    given.iter().for_each(|call| beside.replay(call));
     let port = port::guarded(before, Against::Behind);
-    let played = Played { port, rust, account: account.clone() };
+    let played = Played { port, beside, account: account.clone() };
     played.compare()?;
     Ok(played)
 }
@@ -114,7 +113,7 @@ fn release(
         };
         let line = port::play(&mut played.port, &call);
         equal_at(call, line, Line::met(0))?;
-        holds(played.rust.play(&call).met, &format!("{call} to be met by the Rust"))?;
+        played.beside.play(&call, line).map_err(|why| format!("{call}: {why}"))?;
         played.account.note(&call, line)?;
         match closely {
             true => played.compare()?,
@@ -122,19 +121,14 @@ fn release(
         }
     }
     played.compare()?;
-    let Played { port, rust, account } = played;
+    let Played { port, beside, account } = played;
     ended::check(&port::state(port)?, account)?;
-    ended::check(&rust.state(), account).map_err(|why| format!("the Rust: {why}"))?;
-    ended::nowhere(random, account, &mut |addr| port.translate(addr).number)?;
-    ended::nowhere(random, account, &mut |addr| {
-        let outcome = rust.play(&Call::Translate { addr });
-        if outcome.numbers.contains(14) {
-            14
-        } else {
-            0
-        }
-    })
-    .map_err(|why| format!("the Rust: {why}"))?;
+    if let Beside::Rust(rust) = beside {
+        ended::check(&rust.state(), account).map_err(|why| format!("the Rust: {why}"))?;
+    }
+    ended::nowhere(random, account, &mut |addr| port.translate(addr) == Line::refused(14))?;
+    ended::nowhere(random, account, &mut |addr| beside.is_nowhere(addr))
+        .map_err(|why| format!("beside the port: {why}"))?;
     Ok(port::unguarded(port))
 }
 

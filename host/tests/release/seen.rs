@@ -1,13 +1,14 @@
 //! How often each thing happened that lists must come upon, or they show little.
 
-use crate::account::{Account, Live};
+use crate::account::{top, Account, Live};
 use crate::report::Report;
 use paper::call::Call;
-use paper::PAGE;
+use paper::{LEVELS, PAGE};
 use std::collections::BTreeMap;
 
-#[derive(Default)]
+/// On boards of one number of levels.
 pub struct Seen {
+    levels: u64,
     times: BTreeMap<String, u64>,
     /// Whether the list under way has had a refused call, and a cut.
     refused: bool,
@@ -15,7 +16,7 @@ pub struct Seen {
 
 type Least = (&'static str, u64);
 
-/// What a run of 1000 lists comes upon, at the least.
+/// What a run of 1000 lists comes upon, at the least, on four levels and on five.
 const WANTED: [(&str, &[Least]); 4] = [
     (
         "lists and their orders",
@@ -42,13 +43,11 @@ const WANTED: [(&str, &[Least]); 4] = [
             ("mmap met, fixed", 700),
             ("mmap met, at its hint", 900),
             ("mmap met, elsewhere than its hint", 200),
-            ("a range that ends at 2^47", 40),
+            ("a range that ends at the top", 40),
             ("left out: 11", 2500),
             ("left out: 13", 500),
-            ("left out: a range above 2^47", 400),
+            ("left out: a range above the top", 400),
             ("lists cut before such a call", 40),
-            ("calls that the Rust was not given, for a sum", 80),
-            ("calls that the Rust was not given, for a 257th region", 80),
         ],
     ),
     (
@@ -75,16 +74,30 @@ const WANTED: [(&str, &[Least]); 4] = [
     ),
 ];
 
+/// .. beside the Rust, on four levels alone.
+const BESIDE_RUST: &[Least] = &[
+    ("calls that the Rust was not given, for a sum", 80),
+    ("calls that the Rust was not given, for a 257th region", 80),
+];
+
+/// .. on five levels alone.
+const ON_FIVE: &[Least] =
+    &[("mmap met, ending above 2^47", 700), ("lists with a range above 2^47", 250)];
+
 /// Fewer lists than this need not come upon everything.
 const ENOUGH: u64 = 500;
 
 impl Seen {
+    pub fn new(levels: u64) -> Seen {
+        Seen { levels, times: BTreeMap::new(), refused: false }
+    }
+
     pub fn count(&mut self, what: &str) {
         *self.times.entry(what.to_string()).or_default() += 1;
     }
 
     /// A call of a list, its number, and the account after it.
-    pub fn call(&mut self, call: &Call, number: u32, account: &Account) {
+    pub fn call(&mut self, call: &Call, number: u64, account: &Account) {
         self.count("calls");
         self.count(&format!("{} {number}", call.shape().name));
         self.refused |= number != 0;
@@ -97,8 +110,11 @@ impl Seen {
                 (false, false) => "mmap met, elsewhere than its hint",
             };
             self.count(what);
-            if end == 1 << 47 {
-                self.count("a range that ends at 2^47");
+            if end == top(self.levels) {
+                self.count("a range that ends at the top");
+            }
+            if end > 1 << 47 {
+                self.count("mmap met, ending above 2^47");
             }
         }
     }
@@ -111,6 +127,7 @@ impl Seen {
             ("lists", true),
             ("lists with refused calls", self.refused),
             ("lists with a cut", account.cuts > 0),
+            ("lists with a range above 2^47", account.ever_live.iter().any(is_above)),
             ("lists that end with regions of both kinds", kernel > 0 && user > 0),
             ("lists that end with 5 regions or more", account.live.len() > 4),
             (
@@ -140,15 +157,28 @@ impl Seen {
     pub fn check(&self, report: &mut Report, lists: u64) {
         let counts: Vec<String> =
             self.times.iter().map(|(what, n)| format!("{what}: {n}")).collect();
-        println!("  {}", counts.join("; "));
-        for (name, wanted) in WANTED.iter().filter(|_| lists >= ENOUGH) {
-            let lacking = wanted.iter().find_map(|(what, least)| {
-                let (least, times) = (least * lists / 1000, self.times.get(*what).copied());
-                let times = times.unwrap_or(0);
-                (times < least).then(|| format!("{what}: {times} times, not {least}"))
-            });
-            let name = format!("release: {name} often enough");
-            report.check(&name, lacking.map_or(Ok(()), Err));
+        println!("  {} levels: {}", self.levels, counts.join("; "));
+        let alone = match self.levels {
+            LEVELS => ("calls that the Rust was not given", BESIDE_RUST),
+            _ => ("ranges above 2^47", ON_FIVE),
+        };
+        for (name, wanted) in WANTED.into_iter().chain([alone]).filter(|_| lists >= ENOUGH) {
+            let name = format!("release: {} levels, {name} often enough", self.levels);
+            report.check(&name, self.lacking(wanted, lists).map_or(Ok(()), Err));
         }
     }
+
+    /// What did not come often enough in so many lists.
+    fn lacking(&self, wanted: &[Least], lists: u64) -> Option<String> {
+        wanted.iter().find_map(|(what, least)| {
+            let least = (least * lists / 1000).max(1);
+            let times = self.times.get(*what).copied().unwrap_or(0);
+            (times < least).then(|| format!("{what}: {times} times, not {least}"))
+        })
+    }
+}
+
+/// Whether a region of mmap's ends above 2^47, where no search ends.
+fn is_above(live: &Live) -> bool {
+    matches!(live, Live::User(_)) && live.start() + live.size() > 1 << 47
 }

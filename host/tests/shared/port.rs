@@ -61,10 +61,10 @@ pub fn packed(state: &State) -> Board {
     }
     let mut marked = Marked { count: state.marked.len() as u64, pages: [0; SLOTS] };
     marked.pages.iter_mut().zip(&state.marked).for_each(|(to, page)| *to = *page);
-    let State { start_frame, total, allocated, root, .. } = *state;
+    let State { start_frame, total, allocated, levels, root, .. } = *state;
     Board {
         words: state.words.to_vec(),
-        fields: Frames { start_frame, total, allocated }.pack(),
+        fields: Frames { start_frame, total, allocated, levels }.pack(),
         bits: Box::new(gadulnos::pack_bitmap(&state.bitmap)),
         root,
         kernel: kernel.pack(),
@@ -141,6 +141,7 @@ pub fn state(port: &Port) -> Result<State<'_>, String> {
         start_frame: frames.start_frame,
         total: frames.total,
         allocated: frames.allocated,
+        levels: frames.levels,
         bitmap: gadulnos::unpack_bitmap(&port.bits),
         root: port.root,
         vmalloc_count: kernel.count as usize,

@@ -66,7 +66,7 @@ impl Model {
                 true if heap && fetch => Err(7),
                 true => self.change(|memory| {
                     let frame = memory.take()?;
-                    memory.map(page, 3, entry(frame * PAGE, write, user)).map_err(|_| 18)
+                    memory.map(page, entry(frame * PAGE, write, user)).map_err(|_| 18)
                 }),
             };
         }
@@ -109,7 +109,7 @@ fn copy(memory: &mut Memory, page: u64, user: bool) -> Answer {
     if memory.translate(TEMPORARY).is_ok() {
         let _ = memory.unmap(TEMPORARY);
     }
-    memory.map(TEMPORARY, 3, entry(frame * PAGE, true, false)).map_err(|_| 18u64)?;
+    memory.map(TEMPORARY, entry(frame * PAGE, true, false)).map_err(|_| 18u64)?;
     let source = memory.translate(page).ok().and_then(|phys| memory.lent(phys / PAGE));
     if let Some(source) = source {
         let target = memory.lent(frame).expect("a frame that was taken");
@@ -120,5 +120,5 @@ fn copy(memory: &mut Memory, page: u64, user: bool) -> Answer {
     if let Ok(old) = memory.unmap(page) {
         memory.free(old);
     }
-    memory.map(page, 3, entry(frame * PAGE, true, user)).map_err(|_| 18)
+    memory.map(page, entry(frame * PAGE, true, user)).map_err(|_| 18)
 }

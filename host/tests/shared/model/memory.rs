@@ -1,6 +1,6 @@
-//! Frames and page tables.
+//! Frames and page tables. Levels count from the bottom, 1 the last.
 
-use super::Answer;
+use super::{is_levels, Answer};
 use gadulnos::{Bitmap, Frames};
 use paper::state::is_multiple;
 use paper::PAGE;
@@ -21,6 +21,10 @@ pub struct Memory<'a> {
     pub root: u64,
 }
 
+/// The level of a page's entry, and the one that HUGE is looked at on.
+const LAST_LEVEL: u64 = 1;
+const LAST_BUT_ONE: u64 = 2;
+
 /// What stands at a page.
 enum Found {
     /// The word of its entry.
@@ -30,10 +34,11 @@ enum Found {
 }
 
 impl Memory<'_> {
-    /// 'total above 8192, lent words too few, frames ending above 2^52, root outside'.
+    /// 'total above 8192, lent words too few, frames ending above 2^52, root outside', or other levels.
     pub fn walk_is_broken(&self) -> bool {
-        let Frames { start_frame, total, .. } = self.frames;
-        total > 8192
+        let Frames { start_frame, total, levels, .. } = self.frames;
+        !is_levels(levels)
+            || total > 8192
             || (self.words.len() as u64) < total * 512
             || u128::from(start_frame) + u128::from(total) > 1 << 40
             || self.lent(self.root).is_none()
@@ -84,11 +89,11 @@ impl Memory<'_> {
         self.lent(table).map(|frame| frame * 512 + index).ok_or(19)
     }
 
-    /// Goes down `depth` tables to an entry's word. An absent table is made, with this user bit, or
-    /// the walk ends with 14.
-    fn descend(&mut self, virt: u64, depth: u32, make: Option<u64>) -> Result<usize, u64> {
+    /// Goes down from the top level to an entry's word at level `to`. An absent table is made, with this
+    /// user bit, or the walk ends with 14.
+    fn descend(&mut self, virt: u64, to: u64, make: Option<u64>) -> Result<usize, u64> {
         let mut table = self.root;
-        for level in 0..depth {
+        for level in (to + 1..=self.frames.levels).rev() {
             let at = self.place(table, index(virt, level))?;
             if self.words[at] & PRESENT == 0 {
                 let user = make.ok_or(14u64)?;
@@ -98,11 +103,16 @@ impl Memory<'_> {
             }
             table = frame_of(self.words[at]);
         }
-        self.place(table, index(virt, depth))
+        self.place(table, index(virt, to))
     }
 
-    pub fn map(&mut self, virt: u64, depth: u32, entry: u64) -> Answer {
-        let at = self.descend(virt, depth, Some(entry & USER))?;
+    /// Enters a page.
+    pub fn map(&mut self, virt: u64, entry: u64) -> Answer {
+        self.map_at(LAST_LEVEL, virt, entry)
+    }
+
+    fn map_at(&mut self, level: u64, virt: u64, entry: u64) -> Answer {
+        let at = self.descend(virt, level, Some(entry & USER))?;
         if self.words[at] & PRESENT != 0 {
             return Err(12);
         }
@@ -111,22 +121,22 @@ impl Memory<'_> {
     }
 
     pub fn map_huge(&mut self, virt: u64, phys: u64, gigabyte: bool, entry: u64) -> Answer {
-        let (size, depth): (u64, u32) = if gigabyte { (1 << 30, 2) } else { (1 << 21, 3) };
+        let (size, level) = if gigabyte { (1 << 30, LAST_BUT_ONE) } else { (1 << 21, LAST_LEVEL) };
         if !is_multiple(virt, size) || !is_multiple(phys, size) {
             return Err(4);
         }
-        self.map(virt, depth, entry)
+        self.map_at(level, virt, entry)
     }
 
     /// Enters a page whatever its entry holds.
     pub fn overwrite(&mut self, virt: u64, entry: u64) -> Answer {
-        let at = self.descend(virt, 3, Some(entry & USER))?;
+        let at = self.descend(virt, LAST_LEVEL, Some(entry & USER))?;
         self.words[at] = entry;
         Ok(0)
     }
 
     pub fn unmap(&mut self, virt: u64) -> Answer {
-        let at = self.descend(virt, 3, None)?;
+        let at = self.descend(virt, LAST_LEVEL, None)?;
         let leaf = self.words[at];
         if leaf & PRESENT == 0 {
             return Err(14);
@@ -136,32 +146,39 @@ impl Memory<'_> {
     }
 
     pub fn translate(&self, virt: u64) -> Answer {
-        let (leaf, level) = self.leaf(virt)?;
-        let low = if level == 2 { 21 } else { 12 };
+        let (leaf, is_huge) = self.leaf(virt)?;
+        let low = if is_huge { 21 } else { 12 };
         Ok((leaf & ADDR_MASK) + virt % (1 << low))
     }
 
-    /// The entry that a translation ends at, and its level.
-    pub fn leaf(&self, virt: u64) -> Result<(u64, u32), u64> {
+    /// Whether user code may, by these bits of a page's entry: 'no where nothing translates' or a HUGE
+    /// entry of the last level but one does.
+    pub fn user_may(&self, virt: u64, bits: u64) -> bool {
+        self.leaf(virt).map_or(false, |(leaf, is_huge)| !is_huge && leaf & bits == bits)
+    }
+
+    /// The entry that a translation ends at, and whether it is a HUGE one of the last level but one.
+    fn leaf(&self, virt: u64) -> Result<(u64, bool), u64> {
         let mut table = self.root;
-        for level in 0..4 {
+        for level in (LAST_LEVEL..=self.frames.levels).rev() {
             let word = self.words[self.place(table, index(virt, level))?];
             if word & PRESENT == 0 {
                 return Err(14);
             }
-            if level == 3 || level == 2 && word & HUGE != 0 {
-                return Ok((word, level));
+            let is_huge = level == LAST_BUT_ONE && word & HUGE != 0;
+            if level == LAST_LEVEL || is_huge {
+                return Ok((word, is_huge));
             }
             table = frame_of(word);
         }
-        unreachable!("the fourth level ends the walk")
+        unreachable!("the last level ends the walk")
     }
 
     /// Unmaps pages and frees their frames, one after the other, passing over those that are not
     /// mapped. False if it took too many steps.
     pub fn release(&mut self, start: u64, pages: u64) -> bool {
-        // Once all four indices came round, no page is mapped: an absent entry stays absent.
-        let pages = pages.min(1 << 36);
+        // Once all indices came round, no page is mapped: an absent entry stays absent.
+        let pages = pages.min(1 << (9 * self.frames.levels));
         let mut done = 0;
         for _ in 0..MANY_STEPS {
             if done >= pages {
@@ -182,24 +199,25 @@ impl Memory<'_> {
 
     fn find(&self, virt: u64) -> Found {
         let mut table = self.root;
-        for level in 0..4 {
-            let below = 9 * (3 - level);
-            let gap = Found::Gap((1 << below) - (virt / PAGE) % (1 << below));
+        for level in (LAST_LEVEL..=self.frames.levels).rev() {
+            let below: u64 = 1 << (9 * (level - 1));
             match self.place(table, index(virt, level)) {
-                Ok(at) if self.words[at] & PRESENT != 0 && level == 3 => return Found::Leaf(at),
-                Ok(at) if self.words[at] & PRESENT != 0 => table = frame_of(self.words[at]),
-                Ok(_) => return gap,
+                Ok(at) if self.words[at] & PRESENT == 0 => {
+                    return Found::Gap(below - (virt / PAGE) % below);
+                }
+                Ok(at) if level == LAST_LEVEL => return Found::Leaf(at),
+                Ok(at) => table = frame_of(self.words[at]),
                 // The table is outside: all that the entry above leads to.
-                Err(_) => return Found::Gap((512 << below) - (virt / PAGE) % (512 << below)),
+                Err(_) => return Found::Gap(512 * below - (virt / PAGE) % (512 * below)),
             }
         }
-        unreachable!("the fourth level ends the walk")
+        unreachable!("the last level ends the walk")
     }
 }
 
-/// The index of an address at a level, counted from the root.
-fn index(virt: u64, level: u32) -> usize {
-    (virt >> (39 - 9 * level)) as usize % 512
+/// The index of an address at a level: bits 20 to 12 at the last, 56 to 48 at the fifth.
+fn index(virt: u64, level: u64) -> usize {
+    (virt >> (3 + 9 * level)) as usize % 512
 }
 
 fn frame_of(word: u64) -> u64 {

@@ -1,5 +1,6 @@
-//! Document 01, written a second time and in the plainest way, on copies of what is lent. It knows
-//! also what lies outside the domain of equality: 10, 19, 20 and the leftovers.
+//! Document 01, written a second time and in the plainest way, on copies of what is lent, for boards of
+//! four and of five levels: the frame record has their number. It knows also what lies outside the domain
+//! of equality: 10, 19, 20 and the leftovers.
 
 #![allow(dead_code)] // no program uses all of it
 
@@ -12,6 +13,7 @@ use memory::Memory;
 use paper::call::{user, writable, Call};
 use paper::state::is_multiple;
 use paper::{KERNEL_WINDOW, LAST, PAGE, USER_WINDOW};
+use std::fmt::LowerHex;
 use std::ops::Deref;
 
 /// A value, or one of document 01's numbers.
@@ -52,6 +54,34 @@ impl Model {
         }
     }
 
+    /// That a board has the model's parts. Of a part that stands for no record nothing is said.
+    pub fn compare<W, B, M>(&self, board: &Board<W, B, M>) -> Result<(), String>
+    where
+        W: Deref<Target = [u64]>,
+        B: Deref<Target = [u8]>,
+        M: Deref<Target = Marks>,
+    {
+        let wanted = [
+            self.frames.as_ref().map(Frames::pack),
+            Some(gadulnos::pack_bitmap(&self.bitmap).to_vec()),
+            self.kernel.as_ref().map(Kernel::pack),
+            self.user.as_ref().map(User::pack),
+            self.marked.as_ref().map(Marked::pack),
+        ];
+        let parts: [(&str, &[u8]); 5] = [
+            ("byte of fields", &board.fields),
+            ("byte of bits", &board.bits[..]),
+            ("byte of kernel", &board.kernel),
+            ("byte of user", &board.user),
+            ("byte of marked", &board.marked),
+        ];
+        for ((name, part), wanted) in parts.into_iter().zip(&wanted) {
+            same(name, part, wanted.as_deref().unwrap_or(part))?;
+        }
+        same("root", &[board.root], &[self.root])?;
+        same("word", &board.words, &self.words)
+    }
+
     pub fn play(&mut self, call: &Call) -> Line {
         self.answer(call).map_or_else(Line::refused, Line::met)
     }
@@ -70,7 +100,7 @@ impl Model {
             Call::UnmapPage { virt } => self.on_walk(|memory| memory.unmap(virt)),
             Call::MapPage { virt, phys, flags } => {
                 let entry = memory::entry(phys, writable(flags), user(flags));
-                self.on_frames_and_words(|memory| memory.map(virt, 3, entry))
+                self.on_frames_and_words(|memory| memory.map(virt, entry))
             }
             Call::MapHugePage { virt, phys, gigabyte, flags } => {
                 let entry = memory::entry(phys, writable(flags), user(flags)) | memory::HUGE;
@@ -120,11 +150,7 @@ impl Model {
     /// Whether user code may read an address, and write it.
     pub fn user_may(&mut self, virt: u64) -> [Line; 2] {
         [memory::USER, memory::USER | memory::WRITABLE].map(|bits| {
-            let may = self.on_walk(|memory| {
-                let leaf =
-                    memory.leaf(virt).map_or(0, |(leaf, level)| if level == 3 { leaf } else { 0 });
-                Ok((leaf & bits == bits).into())
-            });
+            let may = self.on_walk(|memory| Ok(memory.user_may(virt, bits).into()));
             may.map_or_else(Line::refused, Line::met)
         })
     }
@@ -139,9 +165,9 @@ impl Model {
         }
     }
 
-    /// The start, on parts that have the right lengths if `fits`.
-    pub fn start(&mut self, fits: bool, from: u64, to: u64) -> Line {
-        let frames = match fresh_frames(from, to).filter(|_| fits) {
+    /// The start of a board of so many levels, on parts that have the right lengths if `fits`.
+    pub fn start(&mut self, fits: bool, from: u64, to: u64, levels: u64) -> Line {
+        let frames = match fresh_frames(from, to).filter(|_| fits && is_levels(levels)) {
             Some(frames) => frames,
             None => return Line::refused(BROKEN),
         };
@@ -152,7 +178,7 @@ impl Model {
             return Line::refused(11);
         }
         self.words[..512].fill(0);
-        self.frames = Some(Frames { allocated: 1, ..frames });
+        self.frames = Some(Frames { allocated: 1, levels, ..frames });
         self.bitmap = [0; 128];
         self.bitmap[0] = 1;
         self.root = frames.start_frame;
@@ -168,7 +194,7 @@ impl Model {
 
     /// Words, frames and root; parts that stand for nothing as zeros.
     fn memory(&mut self) -> Memory<'_> {
-        let none = Frames { start_frame: 0, total: 0, allocated: 0 };
+        let none = Frames { start_frame: 0, total: 0, allocated: 0, levels: 0 };
         Memory {
             words: &mut self.words,
             frames: self.frames.unwrap_or(none),
@@ -177,7 +203,7 @@ impl Model {
         }
     }
 
-    /// A call that is lent words, start_frame, total and root.
+    /// A call that is lent words, start_frame, total, levels and root.
     fn on_walk(&mut self, call: impl FnOnce(&mut Memory) -> Answer) -> Answer {
         let mut memory = self.memory();
         match memory.walk_is_broken() {
@@ -210,24 +236,40 @@ impl Model {
     }
 }
 
-/// What `init` makes of a memory: nothing for 'start above end, end above 2^52'.
+/// That a part is the one that was wanted; else where they differ.
+fn same<T: PartialEq + LowerHex>(name: &str, part: &[T], wanted: &[T]) -> Result<(), String> {
+    match part.iter().zip(wanted).position(|(got, wanted)| got != wanted) {
+        Some(at) => Err(format!("{name}, {at}: got {:x}, wanted {:x}", part[at], wanted[at])),
+        None if part.len() != wanted.len() => Err(format!("{name}: another length")),
+        None => Ok(()),
+    }
+}
+
+/// What `init` makes of a memory: nothing for 'start above end, end above 2^52'. It leaves 4 levels.
 fn fresh_frames(from: u64, to: u64) -> Option<Frames> {
     let sound = from <= to && to <= 1 << 52;
     sound.then(|| Frames {
         start_frame: from / PAGE,
         total: ((to - from) / PAGE).min(8192),
         allocated: 0,
+        levels: 4,
     })
 }
 
-/// 'total above 8192, .. frames ending above 2^52, .. a counter other than the set bits below total'.
+/// 'A board is started with 4 or 5 levels'.
+fn is_levels(levels: u64) -> bool {
+    levels == 4 || levels == 5
+}
+
+/// 'total above 8192, .. frames ending above 2^52, .. a counter other than the set bits below total', or
+/// other levels.
 fn frames_are_broken(frames: Option<Frames>, bitmap: &Bitmap) -> bool {
     let frames = match frames {
         Some(frames) => frames,
         None => return true,
     };
     let ends_high = u128::from(frames.start_frame) + u128::from(frames.total) > 1 << 40;
-    if frames.total > 8192 || ends_high {
+    if frames.total > 8192 || ends_high || !is_levels(frames.levels) {
         return true;
     }
     let set = (0..frames.total as usize).filter(|i| bitmap[i / 64] >> (i % 64) & 1 == 1);

@@ -168,7 +168,7 @@ fn map_pages(
         let frame = memory.take().map_err(|number| (number, i))?;
         memory.zero(frame);
         let entry = entry(frame * PAGE, writable, user);
-        memory.map(start + i * PAGE, 3, entry).map_err(|_| (13, i))?;
+        memory.map(start + i * PAGE, entry).map_err(|_| (13, i))?;
     }
     Ok(())
 }

@@ -1,0 +1,185 @@
+//! The calls that are lent the number of levels, on a chain of tables that leads to one page: which bits of
+//! an address they look at, on which level HUGE counts, and which numbers of levels they refuse.
+
+use crate::guard::{Against, Guarded};
+use crate::options::Options;
+use crate::report::{equal_at, holds, Checked, Report};
+use gadulnos::{Line, LEVELS, MOST_LEVELS};
+use paper::generate::Random;
+use paper::PAGE;
+
+const HUGE: u64 = 128;
+
+/// The user's, writable and present.
+const ENTRY: u64 = 7;
+
+pub fn check(report: &mut Report, options: &Options) {
+    report.tell("walks: which bits of an address lead to a page", bits(options));
+    report.tell("walks: HUGE on each level", huge(options));
+    report.tell("walks: entries that are absent or lead outside", ends(options));
+    report.tell("walks: other numbers of levels", other_levels(options));
+}
+
+/// Tables that lead to one page, one entry on each level. All other words are rubbish that is not present.
+struct Chain {
+    words: Guarded<u64>,
+    start: u64,
+    total: u64,
+    levels: u64,
+    root: u64,
+    virt: u64,
+    /// The page's frame.
+    frame: u64,
+    /// The word of the entry on each level, the last level's first.
+    places: Vec<usize>,
+}
+
+impl Chain {
+    fn draw(random: &mut Random, levels: u64) -> Chain {
+        let total = levels + random.below(4);
+        let start = random.one_of(&[0, 0x100, 1 << 35, (1 << 40) - total]);
+        let virt = random.word();
+        let frame = random.below(1 << 40);
+        let mut words: Vec<u64> = (0..total * 512).map(|_| random.word() & !1).collect();
+        // The table of the level n is the board's frame `first` + n, wrapped.
+        let first = random.below(total);
+        let table = |level: u64| (first + level) % total;
+        let place = |level: u64| (table(level) * 512 + (virt >> (3 + 9 * level)) % 512) as usize;
+        let places: Vec<usize> = (1..=levels).map(place).collect();
+        words[places[0]] = (frame * PAGE) | ENTRY;
+        for level in 2..=levels {
+            words[place(level)] = ((start + table(level - 1)) * PAGE) | ENTRY;
+        }
+        let words = Guarded::copy(&words, random.one_of(&[Against::Before, Against::Behind]));
+        Chain { words, start, total, levels, root: start + table(levels), virt, frame, places }
+    }
+
+    fn translate(&self, virt: u64) -> Line {
+        let Chain { words, start, total, levels, root, .. } = self;
+        gadulnos::translate(words, *start, *total, *levels, *root, virt)
+    }
+
+    fn user_may(&self, virt: u64) -> [Line; 2] {
+        let Chain { words, start, total, levels, root, .. } = self;
+        [false, true]
+            .map(|write| gadulnos::user_may(words, *start, *total, *levels, *root, virt, write))
+    }
+
+    /// Unmaps a page, and tells whether that one entry was cleared and nothing else changed.
+    fn unmap(&mut self, virt: u64) -> (Line, bool) {
+        let mut wanted = self.words.to_vec();
+        let Chain { words, start, total, levels, root, .. } = self;
+        let line = gadulnos::unmap_page(words, *start, *total, *levels, *root, virt);
+        if line.number == 0 {
+            wanted[self.places[0]] = 0;
+        }
+        (line, self.words[..] == wanted[..])
+    }
+}
+
+/// So many chains of each number of levels.
+fn each(
+    options: &Options,
+    stream: u64,
+    mut check: impl FnMut(&mut Random, &mut Chain) -> Checked,
+) -> Checked {
+    let mut random = options.random(stream);
+    let mut cases = 0;
+    for levels in [LEVELS, MOST_LEVELS] {
+        for _ in 0..1 + options.amount / 4 {
+            let mut chain = Chain::draw(&mut random, levels);
+            let about = (levels, chain.start, chain.total, chain.virt);
+            cases += check(&mut random, &mut chain).map_err(|why| format!("{about:x?}: {why}"))?;
+        }
+    }
+    Ok(cases)
+}
+
+/// Another bit of an index leads elsewhere, another one above the indices does not.
+fn bits(options: &Options) -> Checked {
+    each(options, 40, |_, chain| {
+        let (virt, page) = (chain.virt, chain.frame * PAGE);
+        equal_at(virt, chain.translate(virt), Line::met(page + virt % PAGE))?;
+        for bit in 0..64 {
+            let other = virt ^ 1 << bit;
+            let leads_elsewhere = (12..12 + 9 * chain.levels).contains(&bit);
+            let (wanted, may) = match leads_elsewhere {
+                true => (Line::refused(14), Line::met(0)),
+                false => (Line::met(page + other % PAGE), Line::met(1)),
+            };
+            equal_at(other, chain.translate(other), wanted)?;
+            equal_at(other, chain.user_may(other), [may; 2])?;
+            if leads_elsewhere {
+                equal_at(other, chain.unmap(other), (wanted, true))?;
+            }
+        }
+        let alias = virt ^ u64::MAX << (12 + 9 * chain.levels);
+        equal_at(alias, chain.unmap(alias), (Line::met(chain.frame), true))?;
+        equal_at(virt, chain.translate(virt), Line::refused(14))?;
+        Ok(66)
+    })
+}
+
+/// On the last level but one a HUGE entry ends a translation, and user code may not; unmap_page follows it.
+/// On the others nothing looks at it.
+fn huge(options: &Options) -> Checked {
+    each(options, 41, |_, chain| {
+        let (virt, page) = (chain.virt, chain.frame * PAGE);
+        for (level, place) in (1..).zip(chain.places.clone()) {
+            let word = chain.words[place];
+            chain.words[place] = word | HUGE;
+            let large = (word & 0x000F_FFFF_FFFF_F000) + virt % (1 << 21);
+            let (wanted, may) = match level {
+                2 => (large, 0),
+                _ => (page + virt % PAGE, 1),
+            };
+            equal_at(level, chain.translate(virt), Line::met(wanted))?;
+            equal_at(level, chain.user_may(virt), [Line::met(may); 2])?;
+            let leaf = chain.words[chain.places[0]];
+            equal_at(level, chain.unmap(virt), (Line::met(chain.frame), true))?;
+            chain.words[chain.places[0]] = leaf;
+            chain.words[place] = word;
+        }
+        Ok(chain.levels)
+    })
+}
+
+/// 14 and 19, on each level.
+fn ends(options: &Options) -> Checked {
+    each(options, 42, |random, chain| {
+        for (level, place) in (1..).zip(chain.places.clone()) {
+            let word = chain.words[place];
+            let outside = random.one_of(&[chain.start + chain.total, chain.start.wrapping_sub(1)]);
+            let outside = (outside % (1 << 40) * PAGE) | ENTRY;
+            for (other, number) in [(word & !1, 14), (0, 14), (outside, 19)] {
+                if level == 1 && number == 19 {
+                    continue;
+                }
+                chain.words[place] = other;
+                equal_at((level, other), chain.translate(chain.virt), Line::refused(number))?;
+                equal_at((level, other), chain.user_may(chain.virt), [Line::met(0); 2])?;
+                equal_at((level, other), chain.unmap(chain.virt), (Line::refused(number), true))?;
+            }
+            chain.words[place] = word;
+        }
+        Ok(3 * chain.levels - 1)
+    })
+}
+
+/// All but 4 and 5 are refused, and nothing changes.
+fn other_levels(options: &Options) -> Checked {
+    each(options, 43, |random, chain| {
+        let known = chain.levels;
+        let any = [random.word() | 8, known << 8, known | 1 << 32, known | 1 << 63, u64::MAX];
+        for levels in (0..LEVELS).chain([6, 7, 8, 12]).chain(any) {
+            chain.levels = levels;
+            equal_at(levels, chain.translate(chain.virt), Line::refused(10))?;
+            equal_at(levels, chain.user_may(chain.virt), [Line::refused(10); 2])?;
+            equal_at(levels, chain.unmap(chain.virt), (Line::refused(10), true))?;
+        }
+        chain.levels = known;
+        let met = chain.unmap(chain.virt) == (Line::met(chain.frame), true);
+        holds(met, "the page to be there still")?;
+        Ok(13)
+    })
+}
