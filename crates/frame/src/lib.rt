@@ -12,7 +12,7 @@ use answer::Outcome;
 ghost use mathlib.Core.Path.{_≡_};
 ghost use Prim.Native.Nat.{min};
 ghost use Rattle.bitmap.specs.Bitmap.{marksIn};
-ghost use Rattle.frame.specs.Frames.{lentFrames, isLevels, unused, withCounter, withLevels, sound, init as initOf, isAllocated, markAllocated, allocate, deallocate, freeFrames, allocatedFrames, totalFrames};
+ghost use Rattle.frame.specs.Frames.{lentFrames, isLevels, unused, sound, init as initOf, isAllocated, markAllocated, allocate, deallocate, freeFrames, allocatedFrames, totalFrames};
 ghost use Rattle.frame.specs.Results.{changed, allocated as allocatedOf};
 
 pub const FRAME_SIZE: u64 = 4096;
@@ -80,7 +80,17 @@ impl FrameAllocator {
     pub fn is_sound(self, bitmap: &Marks) -> bool
         ensures { λ r. ⌜ r ≡ sound (lentFrames (now (bitmap .entry)) self) ⌝ }
     {
-        are_sound(bitmap, self.start, self.total, self.levels, self.allocated)
+        let total = self.total;
+        if total > MAX_FRAMES {
+            return false;
+        }
+        if self.start > FRAMES_END - total {
+            return false;
+        }
+        if !is_levels(self.levels) {
+            return false;
+        }
+        self.allocated == bitmap::count(bitmap, total as usize) as u64
     }
 
     fn init(self, bitmap: &mut Marks, from: u64, to: u64) -> Changed
@@ -193,22 +203,6 @@ impl FrameAllocator {
         }
         Outcome::Value(self.total)
     }
-}
-
-// The same of a record's numbers, which a caller has at hand.
-fn are_sound(bitmap: &Marks, start: u64, total: u64, levels: u64, allocated: u64) -> bool
-    ensures { λ r. ⌜ r ≡ sound (lentFrames (now (bitmap .entry)) (withLevels (withCounter (unused start total) allocated) levels)) ⌝ }
-{
-    if total > MAX_FRAMES {
-        return false;
-    }
-    if start > FRAMES_END - total {
-        return false;
-    }
-    if !is_levels(levels) {
-        return false;
-    }
-    allocated == bitmap::count(bitmap, total as usize) as u64
 }
 
 // Whether a board may have n levels of page tables.

@@ -15,10 +15,10 @@ use Rattle.answer.specs.declared.Outcome.the-variants.{Value, Stop}
 use Rattle.paging.specs.declared.Leaf.{Leaf}
 use Rattle.paging.specs.Walk.{place, entryAt, reach, judge, leaf, address}
 use Rattle.paging.specs.Calls.{translate}
-use Rattle.paging.proofs.Walk.{present-yes, present-no, entry-out, entry-in, reach-end, reach-stop, reach-on, leaf-stop, leaf-on}
+use Rattle.paging.proofs.Walk.{no-value, present-yes, present-no, entry-out, entry-in, reach-end, reach-stop, reach-on, leaf-stop, leaf-on}
 use Rattle.intel.specs.Sdm.{Paging, fourLevel, fiveLevel, bits, Memory, Translation, physical, notPresent, reserved, large, choose, p, ps, tableOf, pageAt, throughPte, throughPde, throughPdpte, throughPml4e, throughPml5e, throughCr3, linear}
 use Rattle.intel.specs.Agreement.{pagingLevels, Holds, NoHuge, verdict, Agrees, SamePages, SameAbsent, ThreeOutcomes, OffBoard}
-use Rattle.intel.proofs.Steps.{no-address, not-outside, judge-plain, entry-outcomes, leaf-plain, plain-here, plain-below, outcomes}
+use Rattle.intel.proofs.Steps.{not-outside, judge-plain, entry-outcomes, leaf-plain, plain-here, plain-below, outcomes}
 use Rattle.intel.proofs.Entries.{same-table, walk-is}
 
 -- ---- one table after the other, from the last level up
@@ -115,7 +115,7 @@ module _ (ws : List ℕ) (start total v : ℕ) where
       (λ h e. (λ _. (0, t, omega arith, reach-end ws start total t refl, h), λ _. ap (address v) (leaf-stop ws start total t refl outside e)))
       (λ h e. (
         λ z. absurd (not-outside (sym (ap (address v) (leaf-stop ws start total t refl notMapped e)) ∙ z)),
-        λ o. let q = off-past t i is h o in absurd (no-address (sym (q .3) ∙ reach-stop ws start total t refl notMapped e)),
+        λ o. let q = off-past t i is h o in absurd (no-value (sym (q .3) ∙ reach-stop ws start total t refl notMapped e)),
       ))
       (λ h. there h (getD ws (place start t i) 0))
       refl
@@ -123,7 +123,7 @@ module _ (ws : List ℕ) (start total v : ℕ) where
   off : (i : ℕ) (is : List ℕ) (t : ℕ) → NoHuge ws start total (length is) t → Leaves t (i ∷ is)
   off i [] t _ =
       off-entry t i [] (λ h w e. (
-        λ z. absurd (no-address (sym (ap (address v) (leaf-on ws start total t refl w e)) ∙ z)),
+        λ z. absurd (no-value (sym (ap (address v) (leaf-on ws start total t refl w e)) ∙ z)),
         λ o. let q = off-past t i [] h o in absurd (omega (arith, q .2)),
       ))
   off i (j ∷ js) t n =

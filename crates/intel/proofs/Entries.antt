@@ -13,11 +13,11 @@ use Rattle.frame.specs.Frames.{inside, isLevels}
 use Rattle.answer.specs.declared.Outcome.the-variants.{Value, Stop}
 use Rattle.paging.specs.Walk.{place, entryAt, judge, leaf, address, mayWalk}
 use Rattle.paging.specs.Calls.{translate}
-use Rattle.paging.proofs.Walk.{present-yes, present-no, entry-out, entry-in, leaf-stop, leaf-on}
+use Rattle.paging.proofs.Walk.{no-value, present-yes, present-no, entry-out, entry-in, leaf-stop, leaf-on}
 use Rattle.paging.proofs.Calls.{walk-by-lent, translate-is}
 use Rattle.intel.specs.Sdm.{Paging, fourLevel, fiveLevel, bits, Memory, choose, p, ps, tableOf, reading, readPte, readPde, readPdpte, readPml4e, readPml5e, readCr3, entriesRead}
 use Rattle.intel.specs.Agreement.{pagingLevels, Holds, NoHuge, ReadsOff}
-use Rattle.intel.proofs.Steps.{no-address, not-outside, judge-plain, plain-here, plain-below}
+use Rattle.intel.proofs.Steps.{not-outside, judge-plain, plain-here, plain-below}
 
 -- the table that an entry references is the frame that we walk to
 pub same-table : (e : ℕ) → tableOf e ≡ frameOf e
@@ -91,7 +91,7 @@ module _ (mem : Memory) (ws : List ℕ) (start total v : ℕ) (holds : Holds mem
   unfolding readPte
   page-table t =
       subst (λ (l : List ℕ). Leaves t (indices 1 v) (at t (bits 20 12 v) ∷ l)) (nothing (p (mem (at t (bits 20 12 v)))))
-      (step t (index 0 v) [] (λ _. []) (omega arith) (λ e _. (λ z. absurd (no-address z), λ o. absurd (off-none o))))
+      (step t (index 0 v) [] (λ _. []) (omega arith) (λ e _. (λ z. absurd (no-value z), λ o. absurd (off-none o))))
     where
       nothing : (x : Bool) → choose {A = List ℕ} x [] [] ≡ []
       nothing true = refl

@@ -16,8 +16,9 @@ use Rattle.answer.specs.declared.Outcome.{Outcome}
 use Rattle.answer.specs.declared.Outcome.the-variants.{Value}
 use Rattle.paging.specs.Walk.{place, present, entryAt, leaf, mayWalk}
 use Rattle.paging.specs.Calls.{lentWalk, translate}
+use Rattle.paging.proofs.Walk.{no-value}
 use Rattle.intel.specs.Sdm.{Paging, fourLevel, fiveLevel, bits, Memory, physical, notPresent, notCanonical, widthOf, or, canonical, linear, readPte, readPde, readPdpte, readPml4e, readPml5e, entriesRead}
-use Rattle.intel.proofs.Steps.{no-address, not-outside, entry-outcomes}
+use Rattle.intel.proofs.Steps.{not-outside, entry-outcomes}
 use Rattle.intel.specs.Agreement.{pagingLevels, Holds, NoHuge, Setting}
 use Rattle.intel.proofs.Agree.{same-pages, same-absent}
 
@@ -36,7 +37,7 @@ memory-holds ws start total = record {
 pub no-bit-7 : (ws : List ℕ) (start total up root : ℕ) → ((n : ℕ) → flag 7 (getD ws n 0) ≡ false) → NoHuge ws start total up root
 no-bit-7 ws start total up root h = record {
   plain = λ is t i e _ _.
-      entry-outcomes ws start total t i (λ (w : Outcome). w ≡ Value e → flag 7 e ≡ false) (λ _ x. absurd (no-address (sym x))) (λ _ x. absurd (no-address (sym x)))
+      entry-outcomes ws start total t i (λ (w : Outcome). w ≡ Value e → flag 7 e ≡ false) (λ _ x. absurd (no-value (sym x))) (λ _ x. absurd (no-value (sym x)))
       (λ _ x. let word : getD ws (place start t i) 0 ≡ e = cc in subst (λ (n : ℕ). flag 7 n ≡ false) word (h (place start t i)));
 }
 
@@ -87,8 +88,8 @@ setting paging v h =
 
 pub mapped : (paging : Paging) → linear paging (memoryOf words 0x100) 0x10_0000 0x123 ≡ physical 0x10_0123
 unfolding translate lentWalk leaf entryAt present mayWalk
-mapped fourLevel = same-pages fourLevel _ _ _ _ _ _ _ (setting fourLevel 0x123 refl) no-address 0x10_0123 .0 refl
-mapped fiveLevel = same-pages fiveLevel _ _ _ _ _ _ _ (setting fiveLevel 0x123 refl) no-address 0x10_0123 .0 refl
+mapped fourLevel = same-pages fourLevel _ _ _ _ _ _ _ (setting fourLevel 0x123 refl) no-value 0x10_0123 .0 refl
+mapped fiveLevel = same-pages fiveLevel _ _ _ _ _ _ _ (setting fiveLevel 0x123 refl) no-value 0x10_0123 .0 refl
 
 pub absent : (paging : Paging) → linear paging (memoryOf words 0x100) 0x10_0000 0x1123 ≡ notPresent
 unfolding translate lentWalk leaf entryAt present mayWalk

@@ -21,10 +21,7 @@ use Rattle.paging.specs.Walk.{place, present, entryAt, judge, leaf, address}
 use Rattle.paging.proofs.Walk.{reach-end, reach-on, leaf-on}
 use Rattle.intel.specs.Agreement.{NoHuge}
 
--- an address is no number, and 14 is not 19
-pub no-address : {a n : ℕ} → Value a ≡ Stop n → ⊥
-no-address e = let z : _≡_ {A = ℕ} 0 1 = cc in omega arith
-
+-- 14 is not 19
 pub not-outside : Stop notMapped ≡ Stop outside → ⊥
 not-outside e = let z : notMapped ≡ outside = cc in omega arith
 

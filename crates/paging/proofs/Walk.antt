@@ -4,10 +4,8 @@ use mathlib.Core.Path.{_≡_, refl, _∙_}
 use mathlib.Core.Bool.{true, false}
 use mathlib.Core.List.{List, [], _∷_}
 use native.Mathlib.Omega.{arith}
-use native.Mathlib.Numerals.{add-one}
 use lib.Dec.{leb}
-use lib.ListN.{length, getD, take, drop, length-take, drop-of-length-le}
-use lib.Seq.{drop-cons, getD-take}
+use lib.ListN.{length, getD}
 use borrow.Author.Tests.{le-leb, lt-leb, lt-ltb, le-ltb, leb-true}
 use Rattle.bits.specs.Bit.{pick, flag}
 use Rattle.bits.proofs.Choice.{both-true}
@@ -20,16 +18,9 @@ use Rattle.paging.specs.declared.Leaf.{Leaf}
 use Rattle.paging.specs.declared.Leaf.the-variants.{Page, Large, NoLeaf}
 use Rattle.paging.specs.Walk.{place, present, entryAt, reach, judge, leaf, mayWalk, WordsLent}
 
--- The path that is left from index k on. The laws of walks below take a path by such an equation, so that they serve a path that is written out, by `refl`, and a loop's turn.
-pub next : (is : List ℕ) (k : ℕ) → k < length is → drop k is ≡ getD is k 0 ∷ drop (k + 1) is
-next is k h = rw (drop-cons is k 0 h, add-one k)
-
--- the same of the first `up` indices
-pub next-upper : (up : ℕ) (is : List ℕ) (k : ℕ) → k < up → up ≤ length is → drop k (take up is) ≡ getD is k 0 ∷ drop (k + 1) (take up is)
-next-upper up is k h l = rw (drop-cons (take up is) k 0 (omega (arith, length-take up is)), getD-take up is k 0 h, add-one k)
-
-pub none-upper : (up : ℕ) (is : List ℕ) (k : ℕ) → up ≤ k → drop k (take up is) ≡ []
-none-upper up is k h = drop-of-length-le (take up is) {i = k} (omega (arith, length-take up is))
+-- a value is no stop
+pub no-value : {a n : ℕ} → Value a ≡ Stop n → ⊥
+no-value e = let z : _≡_ {A = ℕ} 0 1 = cc in omega arith
 
 -- ---- one entry
 
@@ -62,7 +53,7 @@ place-lent {start = start} {total = total} t i l h k = omega (arith, l .enough, 
 pub frame-lent : {ws : List ℕ} {start total : ℕ} (f : ℕ) → WordsLent ws start total → inside start total f ≡ true → place start f 0 + 512 ≤ length ws
 frame-lent {start = start} {total = total} f l h = omega (arith, l .enough, inside-from start total f h, inside-under start total f h)
 
--- ---- the frame at the end of a path
+-- ---- the frame at the end of a path. The laws of walks take a path by an equation, so that they serve one that is written out, by `refl`, and a loop's turn
 
 module _ (ws : List ℕ) (start total t : ℕ) {p : List ℕ} where
   pub reach-end : p ≡ [] → reach ws start total t p ≡ Value t

@@ -14,7 +14,7 @@ use Rattle.frame.proofs.Laws.{inside-from, inside-bit, levels-least, levels-mos
 use Rattle.answer.specs.declared.Outcome.the-variants.{Value, Stop}
 use Rattle.paging.specs.declared.Leaf.the-variants.{NoLeaf}
 use Rattle.paging.specs.Walk.{entryAt, reach, leaf}
-use Rattle.paging.proofs.Walk.{reach-end, reach-stop, reach-on, leaf-stop, leaf-above}
+use Rattle.paging.proofs.Walk.{no-value, reach-end, reach-stop, reach-on, leaf-stop, leaf-above}
 use Rattle.paging.proofs.Calls.{walked-cases}
 
 -- what `entry_place` asks of an entry of a lent table
@@ -28,15 +28,12 @@ shifted e h = ap (λ (x : ℕ). x / 4096) h ∙ frame-of-addr e
 pub named : (e : ℕ) {a : ℕ} → a ≡ addrOf e → Value (frameOf e) ≡ Value (a / 4096)
 named e h = ap Value (sym (shifted e h))
 
--- a value is a value alone, and no stop
-pub value-is : {a b : ℕ} → Value a ≡ Value b → a ≡ b
+-- the same outcome, the same number
+value-is : {a b : ℕ} → Value a ≡ Value b → a ≡ b
 value-is e = cc
 
-pub stop-is : {a b : ℕ} → Stop a ≡ Stop b → a ≡ b
+stop-is : {a b : ℕ} → Stop a ≡ Stop b → a ≡ b
 stop-is e = cc
-
-pub no-value : {a n : ℕ} → Value a ≡ Stop n → ⊥
-no-value e = let z : _≡_ {A = ℕ} 0 1 = cc in omega arith
 
 module _ (ws : List ℕ) (start total e : ℕ) {a : ℕ} (h : a ≡ addrOf e) (is : List ℕ) where
   pub reach-shifted : reach ws start total (frameOf e) is ≡ reach ws start total (a / 4096) is
