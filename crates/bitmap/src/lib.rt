@@ -138,18 +138,6 @@ fn count_words(bitmap: &[u8], from: usize, end: usize) -> usize
     sum
 }
 
-// Where a count that starts at word `full` stops if nothing is marked behind: one word on, or at the end.
-fn near(full: usize, end: usize) -> usize
-    requires { ⌜ full ≤ end ⌝ }
-    ensures { λ r. ⌜ full ≤ r ⌝ }
-    ensures { λ r. ⌜ r ≤ end ⌝ }
-{
-    if full == end {
-        return end;
-    }
-    full + 1
-}
-
 // How many bits of the first n words are marked. Full words at the front and clear ones at the end, which is how frames are taken, are not counted bit by bit.
 fn count_whole(bitmap: &[u8], n: usize) -> usize
     requires { ⌜ bitmapSize ≤ length (now bitmap) ⌝ }
@@ -157,9 +145,11 @@ fn count_whole(bitmap: &[u8], n: usize) -> usize
     ensures { λ r. ⌜ r ≡ countBelow (marksIn (now (bitmap .entry))) (n * 64) ⌝ }
 {
     let full = full_words(bitmap, n);
-    let end = near(full, n);
-    if is_clear(bitmap, end, n) {
-        return full * 64 + count_words(bitmap, full, end);
+    if full == n {
+        return n * 64;
+    }
+    if is_clear(bitmap, full + 1, n) {
+        return full * 64 + ones(word(bitmap, full));
     }
     full * 64 + count_words(bitmap, full, n)
 }

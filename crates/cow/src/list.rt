@@ -57,10 +57,13 @@ fn pages_rise(list: &[u8], n: usize) -> bool
     requires { ⌜ n ≤ 256 ⌝ }
     ensures { λ r. ⌜ r ≡ risingFrom pageKey 0 (take n (markedIn (now (list .entry)) .slots)) ⌝ }
 {
+    let mut last = page_at(list, 0);
     for i in 1..n {
-        if page_at(list, i - 1) >= page_at(list, i) {
+        let page = page_at(list, i);
+        if page <= last {
             return false;
         }
+        last = page;
     }
     true
 }

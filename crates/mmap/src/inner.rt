@@ -269,7 +269,7 @@ pub fn unmap_region(
         return not_unmapped(answer::REGION_NOT_FOUND, frames);
     }
     let up = frames.levels - 1;
-    let left = pages::free_pages(words, bitmap, frames, up, root, addr, n / 4096);
+    let left = freeing::free_pages(words, bitmap, frames, up, root, addr, n / 4096);
     mappings::list::remove_at(list, at);
     Munmapped {
         answer: Answer::Met,

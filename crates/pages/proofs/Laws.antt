@@ -23,9 +23,9 @@ use Rattle.paging.specs.Map.{Memory, memory, startFrame, totalOf, Out, out, cle
 use Rattle.paging.specs.Calls.{asChanged, mapAt}
 use Rattle.answer.specs.Outcomes.{asAnswer}
 use Rattle.paging.proofs.Map.{roomy-less}
-use Rattle.paging.specs.Pages.{Ran, ran, freshFrame, orFailed, mapFresh, mapPages, clearPage, clearPages, freePages}
+use Rattle.paging.specs.Pages.{Ran, ran, freshFrame, orFailed, mapFresh, mapPages, clearPage, clearPages}
 use Rattle.paging.proofs.Pages.{fresh-new, fresh-full, fresh-roomy, fresh-low, map-fresh-on, map-fresh-roomy, map-entry-at}
-use Rattle.paging.proofs.Pages.{map-pages-none, map-pages-on, map-pages-stop, clear-pages-none, clear-pages-more, free-pages-none}
+use Rattle.paging.proofs.Pages.{map-pages-none, map-pages-on, map-pages-stop, clear-pages-none, clear-pages-more}
 use Rattle.tables.proofs.Laws.{stepped}
 use Rattle.pages.specs.Answers.{asOutcome}
 
@@ -122,9 +122,6 @@ module _ (root v i n : ℕ) (over : n ≤ i) (m : Memory) where
 
   pub clear-end : (up : ℕ) → clearPages up m root v (n - i) ≡ m
   clear-end up = rw none-left (clear-pages-none up m root v)
-
-  pub free-end : (up : ℕ) → freePages up m root v (n - i) ≡ m
-  free-end up = rw none-left (free-pages-none up m root v)
 
 -- ---- a leaf, after `unmap_leaf`
 

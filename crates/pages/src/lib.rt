@@ -1,6 +1,4 @@
 // Runs of pages on a record that was tested, shared by vmalloc, mmap and the faults: fresh frames mapped one page after the other, and pages unmapped.
-mod freeing;
-
 use address::Frame;
 use address::FrameAnswer;
 use address::PhysAddr;
@@ -16,7 +14,7 @@ ghost use mathlib.Core.List.{List};
 ghost use Prim.Native.Nat.{ℕ, _+_, _*_, _^_, _<_, _≤_};
 ghost use Rattle.paging.specs.Walk.{WordsLent};
 ghost use Rattle.paging.specs.Map.{out, RoomToTake};
-ghost use Rattle.paging.specs.Pages.{ran, freshFrame, orFailed, mapFresh, mapPages, clearPage, freePage, clearPages, freePages};
+ghost use Rattle.paging.specs.Pages.{ran, freshFrame, orFailed, mapFresh, mapPages, clearPage, freePage, clearPages};
 ghost use Rattle.paging.specs.Levels.{mostAbove, mostLevels};
 ghost use Rattle.paging.specs.Kept.{lentMemory};
 ghost use Rattle.pages.specs.Answers.{asOutcome};
@@ -198,30 +196,6 @@ pub fn clear_pages(
     for i in 0..n {
         clear_page(words, frames, up, root, VirtAddr(virt.0 + i * 4096));
     }
-}
-
-// .. and their frames freed.
-pub fn free_pages(
-    words: &mut [u64],
-    bitmap: &mut Marks,
-    frames: FrameAllocator,
-    up: u64,
-    root: Frame,
-    virt: VirtAddr,
-    n: u64,
-) -> FrameAllocator
-    requires { ⌜ RoomToTake (lentMemory (now words) (now bitmap) frames) 0 ⌝ }
-    requires { ⌜ virt .0 + n * 4096 < 2 ^ 64 ⌝ }
-    requires { ⌜ up ≤ mostAbove ⌝ }
-    ensures { λ r. ⌜ lentMemory (now (words .exit)) (now (bitmap .exit)) r
-        ≡ freePages up (lentMemory (now (words .entry)) (now (bitmap .entry)) frames) (root .0) (virt .0) n ⌝ }
-{
-    let most = freeing::at_most(n, freeing::all_pages(up));
-    let mut empty: Marks = [0u8; 1024];
-    if most < freeing::BLOCK {
-        return freeing::free_run(words, bitmap, &mut empty, frames, up, root, virt, most);
-    }
-    freeing::free_blocks(words, bitmap, &mut empty, frames, up, root, virt, most)
 }
 
 // 13 for whatever `map_page` was refused with.

@@ -1,10 +1,11 @@
 -- What entering tables, mapping and unmapping come to, by the tests that code makes.
 use Prim.Native.Nat.{ℕ, zero, suc, _+_, _*_, _^_, _<_, _≤_}
-use mathlib.Core.Path.{_≡_, refl, sym, _∙_, subst}
+use mathlib.Core.Path.{_≡_, refl, sym, _∙_, ap, subst}
 use mathlib.Core.Bool.{Bool, true, false}
 use mathlib.Core.List.{List, [], _∷_}
 use native.Mathlib.Omega.{arith}
 use native.Mathlib.Numerals.{add-one}
+use native.Mathlib.Decide.{decLt}
 use lib.ListN.{length, getD, set, length-set}
 use Rattle.bits.specs.Bit.{pick, flag}
 use Rattle.bits.proofs.Choice.{pick-cases}
@@ -19,8 +20,9 @@ use Rattle.frame.specs.Frames.{Frames, FramesDid, inside, withMark, takeFrame}
 use Rattle.frame.proofs.Laws.{inside-yes, take-cases}
 use Rattle.answer.specs.declared.Outcome.{Outcome}
 use Rattle.answer.specs.declared.Outcome.the-variants.{Value, Stop}
-use Rattle.paging.specs.Walk.{place, reach, WordsLent}
+use Rattle.paging.specs.Walk.{place, entryAt, reach, WordsLent}
 use Rattle.paging.specs.Map.{Memory, memory, startFrame, totalOf, Out, out, goOn, clear, zeroFrame, newTable, create, below, enter, make, Left, left, putEntry, withWords, mapEntry, takeLeaf, unmapEntry, RoomToTake}
+use Rattle.paging.proofs.Walk.{no-value, present-yes, present-no, entry-out, entry-past, entry-in, reach-stop, reach-on}
 
 -- both ways on from a step
 pub goOn-cases : (P : Out → Type 0) (o : Out) (k : ℕ → Memory → Out)
@@ -162,6 +164,28 @@ module _ (u : Bool) (m : Memory) (t : ℕ) {p : List ℕ} where
     pub make-on : (f : ℕ) → enter u m t i ≡ out (Value f) m′ → make u m t p ≡ make u m′ f is
     unfolding make
     make-on f e = rw (c, e)
+
+-- tables that are all there are only passed
+pub make-there : (u : Bool) (m : Memory) (t f : ℕ) (p : List ℕ) → reach (m .words) (startFrame m) (totalOf m) t p ≡ Value f → make u m t p ≡ out (Value f) m
+unfolding reach make
+make-there u m t f [] h = ap (λ (w : Outcome). out w m) h
+make-there u m t f (i ∷ is) h =
+    enter-cases u m t i (λ (o : Out). goOn o (λ t′ m′. make u m′ t′ is) ≡ out (Value f) m) (λ a. absurd (stuck outside (entry-out _ _ _ _ _ a)))
+    (λ a b. make-there u m _ f is (sym (reach-on _ _ _ _ {is = is} refl _ (entry-in _ _ _ _ _ a (small a) ∙ present-yes _ b)) ∙ h))
+    (λ a b _ _ _ _. absurd (absent a b)) (λ a b _. absurd (absent a b))
+  where
+    stuck : (n : ℕ) → entryAt (m .words) (startFrame m) (totalOf m) t i ≡ Stop n → ⊥
+    stuck n q = no-value (sym h ∙ reach-stop (m .words) (startFrame m) (totalOf m) t {is = is} refl n q)
+
+    small : inside (startFrame m) (totalOf m) t ≡ true → i < 512
+    small a = go (decLt i 512)
+      where
+        go : Dec (i < 512) → i < 512
+        go (yes l) = l
+        go (no l) = absurd (stuck notMapped (entry-past _ _ _ _ _ a (omega arith)))
+
+    absent : inside (startFrame m) (totalOf m) t ≡ true → flag 0 (getD (m .words) (place (startFrame m) t i) 0) ≡ false → ⊥
+    absent a b = stuck notMapped (entry-in _ _ _ _ _ a (small a) ∙ present-no _ b)
 
 pub make-kept : (u : Bool) (p : List ℕ) (m : Memory) (t : ℕ) → KeptSpan m (make u m t p .mem)
 unfolding make

@@ -132,7 +132,7 @@ fn tables_below(
     }
 }
 
-// The same. For a page of a board of four levels the loop's length is written out, for the compiler.
+// The same. Where a page's tables are all there, which is most often so, they are only read.
 pub fn make_tables(
     words: &mut [u64],
     bitmap: &mut Marks,
@@ -150,9 +150,15 @@ pub fn make_tables(
         ≡ make user (lentMemory (now (words .entry)) (now (bitmap .entry)) frames) (root .0)
         (take k (indicesOf (suc up) (virt .0))) ⌝ }
 {
-    if up == 3 {
-        if k == 3 {
-            return tables_below(words, bitmap, frames, 3, root, virt, 3, user);
+    if k == up {
+        match walk::find_table(words, frames.start, frames.total, up, root, virt) {
+            Outcome::Stop(_) => {}
+            Outcome::Value(t) => {
+                return Entered {
+                    walked: Outcome::Value(t),
+                    frames,
+                };
+            }
         }
     }
     tables_below(words, bitmap, frames, up, root, virt, k, user)

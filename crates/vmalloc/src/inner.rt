@@ -97,7 +97,7 @@ pub fn free(
     }
     let r = vm_list::slot(list, i);
     let up = frames.levels - 1;
-    let left = pages::free_pages(words, bitmap, frames, up, root, addr, r.size / 4096);
+    let left = freeing::free_pages(words, bitmap, frames, up, root, addr, r.size / 4096);
     vm_list::free_region(list, n, i);
     Vfreed {
         answer: Answer::Met,

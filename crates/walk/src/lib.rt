@@ -225,10 +225,10 @@ pub fn is_lent(len: usize, start: u64, total: u64, root: Frame) -> bool
 pub fn may_walk(len: usize, start: u64, total: u64, levels: u64, root: Frame) -> bool
     ensures { λ r. ⌜ r ≡ lentWalk levels len start total (root .0) ⌝ }
 {
-    if !frame::is_levels(levels) {
+    if !is_lent(len, start, total, root) {
         return false;
     }
-    is_lent(len, start, total, root)
+    frame::is_levels(levels)
 }
 
 pub fn translate(

@@ -1,6 +1,6 @@
 -- `full_words`: the words passed are full.
 use Prim.Native.Nat.{_*_, _-_, _≤_}
-use mathlib.Core.Path.{_≡_, refl, ap}
+use mathlib.Core.Path.{_≡_, refl}
 use borrow.Author.Needs.{needs}
 use Rattle.bitmap.specs.Bitmap.{count as countBelow, marksIn}
 use Rattle.bitmap.proofs.ByWord.{count-full}

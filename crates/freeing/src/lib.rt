@@ -1,0 +1,98 @@
+// Runs of pages unmapped and their frames freed, on a record that was tested: page by page, or by what is found at once.
+mod blocks;
+mod run;
+
+use address::Frame;
+use address::VirtAddr;
+use frame::FrameAllocator;
+use frame::Marks;
+ghost use mathlib.Core.Path.{_≡_};
+ghost use Prim.Native.Nat.{suc, _+_, _-_, _*_, _^_, _≤_, _<_};
+ghost use Rattle.paging.specs.Map.{RoomToTake};
+ghost use Rattle.paging.specs.Pages.{freePages};
+ghost use Rattle.paging.specs.Levels.{mostAbove};
+ghost use Rattle.paging.specs.Kept.{lentMemory};
+
+// Runs of so few pages are freed page by page.
+const FEW: u64 = 4;
+
+// All the pages that there are below `up` levels: what lies above the top index of an address is ignored.
+fn all_pages(up: u64) -> u64
+    requires { ⌜ up ≤ mostAbove ⌝ }
+    ensures { λ r. ⌜ r ≡ 2 ^ (9 * suc up) ⌝ }
+{
+    1 << (9 * (up + 1))
+}
+
+// n pages from `virt` on, one after the other.
+fn free_few(
+    words: &mut [u64],
+    bitmap: &mut Marks,
+    frames: FrameAllocator,
+    up: u64,
+    root: Frame,
+    virt: VirtAddr,
+    n: u64,
+) -> FrameAllocator
+    requires { ⌜ RoomToTake (lentMemory (now words) (now bitmap) frames) 0 ⌝ }
+    requires { ⌜ virt .0 + n * 4096 < 2 ^ 64 ⌝ }
+    requires { ⌜ up ≤ mostAbove ⌝ }
+    ensures { λ r. ⌜ lentMemory (now (words .exit)) (now (bitmap .exit)) r
+        ≡ freePages up (lentMemory (now (words .entry)) (now (bitmap .entry)) frames) (root .0) (virt .0) n ⌝ }
+{
+    let mut left = frames;
+    for i in 0..n {
+        left = pages::free_page(words, bitmap, left, up, root, VirtAddr(virt.0 + i * 4096));
+    }
+    left
+}
+
+// The same, by what is found at once. `free_blocks` is called from two places, so that the compiler leaves it a function of its own: it has 16 KB of counts, which
+// would else be made room for on the stack of every call.
+fn free_many(
+    words: &mut [u64],
+    bitmap: &mut Marks,
+    frames: FrameAllocator,
+    up: u64,
+    root: Frame,
+    virt: VirtAddr,
+    n: u64,
+) -> FrameAllocator
+    requires { ⌜ RoomToTake (lentMemory (now words) (now bitmap) frames) 0 ⌝ }
+    requires { ⌜ virt .0 + n * 4096 < 2 ^ 64 ⌝ }
+    requires { ⌜ up ≤ mostAbove ⌝ }
+    ensures { λ r. ⌜ lentMemory (now (words .exit)) (now (bitmap .exit)) r
+        ≡ freePages up (lentMemory (now (words .entry)) (now (bitmap .entry)) frames) (root .0) (virt .0) n ⌝ }
+{
+    let most = run::at_most(n, all_pages(up));
+    let mut empty: Marks = [0u8; 1024];
+    if most < blocks::BLOCK {
+        return run::free_run(words, bitmap, &mut empty, frames, up, root, virt, most);
+    }
+    if up == 3 {
+        return blocks::free_blocks(words, bitmap, &mut empty, frames, 3, root, virt, most);
+    }
+    blocks::free_blocks(words, bitmap, &mut empty, frames, up, root, virt, most)
+}
+
+// The same: few pages one after the other, more by what is found at once.
+pub fn free_pages(
+    words: &mut [u64],
+    bitmap: &mut Marks,
+    frames: FrameAllocator,
+    up: u64,
+    root: Frame,
+    virt: VirtAddr,
+    n: u64,
+) -> FrameAllocator
+    requires { ⌜ RoomToTake (lentMemory (now words) (now bitmap) frames) 0 ⌝ }
+    requires { ⌜ virt .0 + n * 4096 < 2 ^ 64 ⌝ }
+    requires { ⌜ up ≤ mostAbove ⌝ }
+    ensures { λ r. ⌜ lentMemory (now (words .exit)) (now (bitmap .exit)) r
+        ≡ freePages up (lentMemory (now (words .entry)) (now (bitmap .entry)) frames) (root .0) (virt .0) n ⌝ }
+{
+    if n <= FEW {
+        return free_few(words, bitmap, frames, up, root, virt, n);
+    }
+    free_many(words, bitmap, frames, up, root, virt, n)
+}
