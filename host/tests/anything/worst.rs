@@ -32,16 +32,20 @@ pub fn check(report: &mut Report) {
     let one: Tables = |levels, i| (1..=levels).map(|k| if i == 0 { to(k) } else { 0 }).collect();
     let outside: Tables = |levels, _| vec![OUTSIDE; levels as usize];
     let looped: Tables = |levels, _| vec![to(0); levels as usize];
-    let wide: Tables = |levels, i| {
-        let leaf = if i % 2 == 0 { 0 } else { OUTSIDE };
-        (1..levels).map(to).chain([leaf]).collect()
+    let cut: Tables = |levels, i| {
+        let mut words = wide(levels, i);
+        if i == 511 {
+            words[levels as usize - 2] = to(levels - 3);
+        }
+        words
     };
-    let boards = [
+    let boards: [(&str, Tables); 6] = [
         ("no table", absent),
         ("one page", one),
         ("every table outside", outside),
         ("a root that leads to itself everywhere", looped),
         ("a table of each level, reached in 512 ways from the one above", wide),
+        ("the same, and an entry that leads to a table on the way as to a last one", cut),
     ];
     for levels in [LEVELS, MOST_LEVELS] {
         for (name, tables) in boards {
@@ -53,6 +57,12 @@ pub fn check(report: &mut Report) {
         let name = "8192 tables, each reached in many ways";
         timed(report, levels, name, || release_all(levels));
     }
+}
+
+/// Every entry of a table leads to the one of the level below.
+fn wide(levels: u64, i: usize) -> Vec<u64> {
+    let leaf = if i % 2 == 0 { 0 } else { OUTSIDE };
+    (1..levels).map(to).chain([leaf]).collect()
 }
 
 /// A check with the time that it took.
