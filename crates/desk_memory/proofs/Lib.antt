@@ -1,1 +1,2 @@
 pub mod LeftMemory
+pub mod RowNumbers

@@ -3,3 +3,4 @@ pub mod Map
 pub mod Calls
 pub mod Pages
 pub mod Past
+pub mod Working

@@ -4,3 +4,4 @@ pub mod Calls
 pub mod Pages
 pub mod Levels
 pub mod Kept
+pub mod Working

@@ -1,4 +1,7 @@
-// Page tables: the types that walks give, above the definitions of walks, mappings and the mapper's calls in specs/. The code is in `walk`, `tables` and `mapper`.
+// Page tables: the types that walks give, above the definitions of walks, mappings and the mapper's calls in specs/. The code is in `walk`, `working`, `tables` and
+// `mapper`.
+use address::Frame;
+use address::PhysAnswer;
 use answer::Outcome;
 use frame::FrameAllocator;
 ghost use mathlib.Core.Path.{_≡_};
@@ -15,6 +18,31 @@ pub enum Leaf {
     Page(u64),
     Large(u64),
     NoLeaf(u64),
+}
+
+// What a translation makes of an entry that it reads.
+pub enum Verdict {
+    Absent,
+    Outside,
+    Followed,
+    LargePage,
+    Last,
+}
+
+// An entry that a translation reads: its level, counted from the bottom, the table's frame and the index in it, the word, and the verdict.
+pub struct Row {
+    pub level: u64,
+    pub frame: Frame,
+    pub index: usize,
+    pub word: u64,
+    pub verdict: Verdict,
+}
+
+// A translation with its working: the first `count` rows are the entries read, in the order read.
+pub struct Shown {
+    pub answer: PhysAnswer,
+    pub rows: [Row; 5],
+    pub count: usize,
 }
 
 pub enum HugePageSize {

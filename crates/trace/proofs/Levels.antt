@@ -15,6 +15,7 @@ use Rattle.bits.proofs.Choice.{pick-cases}
 use Rattle.paging.specs.Map.{Memory, startFrame, totalOf}
 use Rattle.paging.specs.Calls.{whole, lentWalk, translate, userMay, mapPage, mapHuge, unmapPage}
 use Rattle.paging.specs.Levels.{levelsOf}
+use Rattle.paging.specs.Working.{showTranslate}
 use Rattle.paging.proofs.Calls.{whole-levels, walk-other}
 use Rattle.vmalloc.specs.Calls.{vmalloc, vfree}
 use Rattle.mmap.specs.Calls.{mmap, munmap}
@@ -24,7 +25,7 @@ use Rattle.board.specs.Board.{Board, BoardDid}
 use Rattle.board.proofs.Outcomes.{unmarked, may-other, may-met, start-refused, start-met, start-cases}
 use Rattle.release.specs.Calls.{Call, vmallocCall, vfreeCall, mmapCall, munmapCall}
 use Rattle.release.specs.Calls.{play as playRegions}
-use Rattle.trace.specs.Trace.{regionCall, mprotectCall, faultCall, secondFaultCall, markCowCall, unmarkCowCall, isCowCall, mapPageCall, mapHugeCall, unmapPageCall, translateCall, userMayCall, allocateCall, deallocateCall, markAllocatedCall, isAllocatedCall, freeFramesCall, allocatedFramesCall, totalFramesCall, initCall, startCall, played, byRegions, byStart}
+use Rattle.trace.specs.Trace.{regionCall, mprotectCall, faultCall, secondFaultCall, markCowCall, unmarkCowCall, isCowCall, mapPageCall, mapHugeCall, unmapPageCall, translateCall, showTranslateCall, userMayCall, allocateCall, deallocateCall, markAllocatedCall, isAllocatedCall, freeFramesCall, allocatedFramesCall, totalFramesCall, initCall, startCall, played, byRegions, byStart}
 use Rattle.trace.specs.Levels.{reads, names, none, tenLine, OtherLevels, LevelsKept, LevelsNamed}
 use Rattle.trace.proofs.Faults.{stays-fault, stays-second}
 use Rattle.trace.proofs.Theorem.{stays-map-page, stays-map-huge, stays-regions}
@@ -61,7 +62,7 @@ module _ (b : Board) (o : isLevels (levelsOf (b .mem)) ≡ false) where
   no-walk = walk-other (levelsOf (b .mem)) (length (b .mem .words)) (startFrame (b .mem)) (totalOf (b .mem)) (b .root) o
 
 pub other-levels : OtherLevels
-unfolding handleFault handleFaultSecond mapPage mapHuge unmapPage translate userMay allocate deallocate markAllocated isAllocated counted
+unfolding handleFault handleFaultSecond mapPage mapHuge unmapPage translate showTranslate userMay allocate deallocate markAllocated isAllocated counted
 other-levels b (regionCall c) r o = other-regions b o c
 other-levels b (mprotectCall a size prot) r o = absurd (unlent r)
 other-levels b (faultCall a code) r o = rw (other-whole (b .mem) (b .root) o)
@@ -73,6 +74,7 @@ other-levels b (mapPageCall v p w u) r o = rw (other-whole (b .mem) (b .root) o)
 other-levels b (mapHugeCall v p size w u) r o = rw (other-whole (b .mem) (b .root) o)
 other-levels b (unmapPageCall v) r o = rw (no-walk b o)
 other-levels b (translateCall v) r o = rw (no-walk b o)
+other-levels b (showTranslateCall v) r o = rw (no-walk b o)
 other-levels b (userMayCall v write) r o = rw (no-walk b o)
 other-levels b allocateCall r o = rw (other-sound (b .mem .frames) o)
 other-levels b (deallocateCall n) r o = rw (other-sound (b .mem .frames) o)
@@ -111,6 +113,7 @@ levels-kept b (mapPageCall v p w u) n = stays-map-page _ (b .mem) (b .root) v p 
 levels-kept b (mapHugeCall v p size w u) n = stays-map-huge _ (b .mem) (b .root) v p size w u .levels
 levels-kept b (unmapPageCall v) n = refl
 levels-kept b (translateCall v) n = refl
+levels-kept b (showTranslateCall v) n = refl
 levels-kept b (userMayCall v write) n = refl
 levels-kept b allocateCall n = kept-allocate (b .mem .frames)
 levels-kept b (deallocateCall f) n = kept-deallocate (b .mem .frames) f

@@ -33,7 +33,7 @@ use Rattle.board.specs.Board.{Board, BoardDid, start}
 use Rattle.board.proofs.Outcomes.{start-cases}
 use Rattle.release.specs.Calls.{Call, vmallocCall, vfreeCall, mmapCall, munmapCall}
 use Rattle.release.specs.Calls.{play as playRegions}
-use Rattle.trace.specs.Trace.{play, regionCall, mprotectCall, faultCall, secondFaultCall, markCowCall, unmarkCowCall, isCowCall, mapPageCall, mapHugeCall, unmapPageCall, translateCall, userMayCall, allocateCall, deallocateCall, markAllocatedCall, isAllocatedCall, freeFramesCall, allocatedFramesCall, totalFramesCall, initCall, startCall}
+use Rattle.trace.specs.Trace.{play, regionCall, mprotectCall, faultCall, secondFaultCall, markCowCall, unmarkCowCall, isCowCall, mapPageCall, mapHugeCall, unmapPageCall, translateCall, showTranslateCall, userMayCall, allocateCall, deallocateCall, markAllocatedCall, isAllocatedCall, freeFramesCall, allocatedFramesCall, totalFramesCall, initCall, startCall}
 use Rattle.trace.specs.Untouched.{Untouched, NoneTouched}
 use Rattle.trace.proofs.Faults.{stays-fault, stays-second}
 
@@ -140,6 +140,7 @@ none-touched b (unmapPageCall v) =
     let p : Past (totalOf (b .mem) * 512) (b .mem .words) (left .mem .words) = past-unmap-page _ (b .mem .words) (startFrame (b .mem)) _ (b .root) v in
     stays-untouched b left (stays-words (b .mem) _ p)
 none-touched b (translateCall v) = words-untouched b _ refl
+none-touched b (showTranslateCall v) = words-untouched b _ refl
 none-touched b (userMayCall v write) = words-untouched b _ refl
 none-touched b allocateCall = words-untouched b _ refl
 none-touched b (deallocateCall n) = words-untouched b _ refl

@@ -9,7 +9,7 @@ use Rattle.answer.specs.Numbers.{brokenRecord}
 use Rattle.frame.specs.Frames.{isLevels}
 use Rattle.paging.specs.Levels.{levelsOf}
 use Rattle.board.specs.Board.{Board, frameCount}
-use Rattle.trace.specs.Trace.{AnyCall, regionCall, mprotectCall, faultCall, secondFaultCall, markCowCall, unmarkCowCall, isCowCall, mapPageCall, mapHugeCall, unmapPageCall, translateCall, userMayCall, allocateCall, deallocateCall, markAllocatedCall, isAllocatedCall, freeFramesCall, allocatedFramesCall, totalFramesCall, initCall, startCall, played, play}
+use Rattle.trace.specs.Trace.{AnyCall, regionCall, mprotectCall, faultCall, secondFaultCall, markCowCall, unmarkCowCall, isCowCall, mapPageCall, mapHugeCall, unmapPageCall, translateCall, showTranslateCall, userMayCall, allocateCall, deallocateCall, markAllocatedCall, isAllocatedCall, freeFramesCall, allocatedFramesCall, totalFramesCall, initCall, startCall, played, play}
 
 -- what a call does with the number of levels: it goes by it, names it anew, or is not lent it
 pub data Use : Type 0 where
@@ -27,6 +27,7 @@ useOf (mapPageCall v p w u) = reads
 useOf (mapHugeCall v p size w u) = reads
 useOf (unmapPageCall v) = reads
 useOf (translateCall v) = reads
+useOf (showTranslateCall v) = reads
 useOf (userMayCall v write) = reads
 useOf allocateCall = reads
 useOf (deallocateCall n) = reads

@@ -15,6 +15,7 @@ use Rattle.paging.specs.declared.HugePageSize.{HugePageSize}
 use Rattle.paging.specs.Map.{Memory, memory, startFrame, totalOf, Out, Left}
 use Rattle.paging.specs.Calls.{translate, userMay, mapPageOf, mapHugeOf, unmapPage}
 use Rattle.paging.specs.Levels.{levelsOf}
+use Rattle.paging.specs.Working.{showTranslate}
 use Rattle.slots.specs.Slots.{Slots}
 use Rattle.mmap.specs.Calls.{mprotect}
 use Rattle.cow.specs.Marked.{MarkedDid, markCow, unmarkCow, isCow}
@@ -39,6 +40,8 @@ pub data AnyCall : Type 0 where
   mapHugeCall : ℕ → ℕ → HugePageSize → Bool → Bool → AnyCall
   -- unmap_page and translate: address
   unmapPageCall translateCall : ℕ → AnyCall
+  -- translate with its working: address
+  showTranslateCall : ℕ → AnyCall
   -- may user code read an address, or write it?
   userMayCall : ℕ → Bool → AnyCall
   -- the frame allocator's: a frame's number, or none
@@ -112,6 +115,7 @@ play b (mapPageCall v p w u) = byStep b (mapPageOf (b .mem) (b .root) v p w u)
 play b (mapHugeCall v p size w u) = byStep b (mapHugeOf (b .mem) (b .root) v p size w u)
 play b (unmapPageCall v) = byUnmap b (unmapPage (levelsOf (b .mem)) (b .mem .words) (startFrame (b .mem)) (totalOf (b .mem)) (b .root) v)
 play b (translateCall v) = played (physLine (asPhys (translate (levelsOf (b .mem)) (b .mem .words) (startFrame (b .mem)) (totalOf (b .mem)) (b .root) v))) b
+play b (showTranslateCall v) = played (physLine (asPhys (showTranslate (levelsOf (b .mem)) (b .mem .words) (startFrame (b .mem)) (totalOf (b .mem)) (b .root) v .answer))) b
 play b (userMayCall v write) = played (flagLine (userMay (levelsOf (b .mem)) (b .mem .words) (startFrame (b .mem)) (totalOf (b .mem)) (b .root) v write)) b
 play b allocateCall = let d = allocate (b .mem .frames) in played (frameLine (d .answer)) (withFrames b (d .frames))
 play b (deallocateCall n) = byFrames b (deallocate (b .mem .frames) n)

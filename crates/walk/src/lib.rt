@@ -105,7 +105,7 @@ fn large_offset(virt: VirtAddr) -> u64
 }
 
 // An address's physical one, by the entry that its translation ends at.
-fn phys_at(end: Leaf, virt: VirtAddr) -> PhysAnswer
+pub fn phys_at(end: Leaf, virt: VirtAddr) -> PhysAnswer
     ensures { λ r. ⌜ r ≡ asPhys (address (virt .0) end) ⌝ }
 {
     match end {

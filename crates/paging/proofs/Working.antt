@@ -1,0 +1,341 @@
+-- The working of a translation: the verdict case by case, the rows one after the other, and the statement.
+use Prim.Native.Nat.{ℕ, zero, suc, _-_, _<_, _≤_}
+use mathlib.Core.Path.{_≡_, refl, sym, _∙_, ap}
+use mathlib.Core.Bool.{Bool, true, false, false≢true}
+use mathlib.Core.List.{List, [], _∷_, _++_, map}
+use native.Mathlib.Omega.{arith}
+use native.Mathlib.Decide.{ℕ-discrete}
+use lib.Dec.{eqb, ltb, lit≤}
+use lib.ListN.{length, getD, replicate, length-append, length-replicate}
+use borrow.Author.Tests.{ne-eqb, lt-ltb, le-ltb}
+use Rattle.bits.specs.Bit.{pick, both, flag}
+use Rattle.bits.proofs.Choice.{pick-cases}
+use Rattle.answer.specs.Numbers.{notMapped, outside}
+use Rattle.answer.specs.Outcomes.{andThen}
+use Rattle.answer.specs.declared.Outcome.{Outcome}
+use Rattle.answer.specs.declared.Outcome.the-variants.{Value, Stop}
+use Rattle.entry.specs.Entry.{frameOf, index, indices}
+use Rattle.entry.proofs.Entry.{length-indices}
+use Rattle.frame.specs.Frames.{inside}
+use Rattle.frame.proofs.Laws.{levels-least, levels-most}
+use Rattle.paging.specs.declared.Leaf.{Leaf}
+use Rattle.paging.specs.declared.Leaf.the-variants.{Page, Large, NoLeaf}
+use Rattle.paging.specs.declared.Verdict.{Verdict}
+use Rattle.paging.specs.declared.Verdict.the-variants.{Absent, Outside, Followed, LargePage, Last}
+use Rattle.paging.specs.declared.Row.{Row}
+use Rattle.paging.specs.Walk.{place, present, entryAt, judge, leaf, address}
+use Rattle.paging.specs.Calls.{lentWalk, translate}
+use Rattle.paging.specs.Working.{verdictOf, rowOf, goesOn, working, byVerdict, endOf, Working, byRows, noWorking, showTranslate, noRow, fiveRows}
+use Rattle.paging.specs.Working.{Read, Logged, logged, entryLogged, judgeLogged, behind, leafLogged, readOf, Shows}
+use Rattle.paging.proofs.Walk.{present-yes, present-no, entry-out, entry-in, lent-root, leaf-stop, leaf-on, judge-last, judge-one, judge-above}
+use Rattle.paging.proofs.Calls.{walk-levels, walk-lent, translate-broken, translate-is}
+
+-- ---- the verdict, by the tests that code makes
+
+-- a present word above the last level that is no large page
+abbrev pub Names : ℕ → ℕ → Type 0
+Names below e = (flag 0 e ≡ true) × (0 < below) × (both (eqb below 1) (flag 7 e) ≡ false)
+
+module _ (start total below e : ℕ) where
+  pub verdict-absent : flag 0 e ≡ false → verdictOf start total below e ≡ Absent
+  unfolding verdictOf
+  verdict-absent h = rw h
+
+  pub verdict-last : flag 0 e ≡ true → below ≡ 0 → verdictOf start total below e ≡ Last
+  unfolding verdictOf
+  verdict-last h z = rw (h, z)
+
+  pub verdict-large : flag 0 e ≡ true → below ≡ 1 → flag 7 e ≡ true → verdictOf start total below e ≡ LargePage
+  unfolding verdictOf
+  verdict-large h o k = rw (h, o, k)
+
+  pub verdict-followed : Names below e → inside start total (frameOf e) ≡ true → verdictOf start total below e ≡ Followed
+  unfolding verdictOf
+  verdict-followed n j = rw (n .0, ne-eqb below 0 (λ z. omega (arith, n .1)), n .2, j)
+
+  pub verdict-outside : Names below e → inside start total (frameOf e) ≡ false → verdictOf start total below e ≡ Outside
+  unfolding verdictOf
+  verdict-outside n j = rw (n .0, ne-eqb below 0 (λ z. omega (arith, n .1)), n .2, j)
+
+-- the four cases of a word
+pub data Case (below e : ℕ) : Type 0 where
+  absent : flag 0 e ≡ false → Case below e
+  last : flag 0 e ≡ true → below ≡ 0 → Case below e
+  large : flag 0 e ≡ true → below ≡ 1 → flag 7 e ≡ true → Case below e
+  names : Names below e → Case below e
+
+pub case : (below e : ℕ) → Case below e
+case below e = by (flag 0 e) refl
+  where
+    tested : (b : Bool) → flag 7 e ≡ b → (d : ℕ) → below ≡ d → flag 0 e ≡ true → Case below e
+    tested b k zero z h = last h z
+    tested true k (suc zero) o h = large h o k
+    tested false k (suc zero) o h = names (h, rw o (lit≤ tt), rw (o, k))
+    tested b k (suc (suc d)) o h = names (h, omega (arith, o), rw (ne-eqb below 1 (λ z. omega (arith, o))))
+
+    by : (b : Bool) → flag 0 e ≡ b → Case below e
+    by false h = absent h
+    by true h = tested (flag 7 e) refl below refl h
+
+-- a word that is followed names a lent table, and stands above the last level
+pub followed : (start total below e : ℕ) → goesOn (verdictOf start total below e) ≡ true → Names below e × (inside start total (frameOf e) ≡ true)
+followed start total below e h = by (case below e)
+  where
+    no : (v : Verdict) → verdictOf start total below e ≡ v → goesOn v ≡ false → ⊥
+    no v j g = false≢true (sym g ∙ ap goesOn (sym j) ∙ h)
+
+    lent : Names below e → (b : Bool) → inside start total (frameOf e) ≡ b → inside start total (frameOf e) ≡ true
+    lent n true j = j
+    lent n false j = absurd (no Outside (verdict-outside start total below e n j) refl)
+
+    by : Case below e → Names below e × (inside start total (frameOf e) ≡ true)
+    by (absent f) = absurd (no Absent (verdict-absent start total below e f) refl)
+    by (last f z) = absurd (no Last (verdict-last start total below e f z) refl)
+    by (large f o g) = absurd (no LargePage (verdict-large start total below e f o g) refl)
+    by (names n) = (n, lent n (inside start total (frameOf e)) refl)
+
+-- ---- the rows, one after the other. Paths by an equation, as the laws of walks take them
+
+-- the word at entry i of table t
+abbrev wordAt : List ℕ → ℕ → ℕ → ℕ → ℕ
+wordAt ws start t i = getD ws (place start t i) 0
+
+module _ (ws : List ℕ) (start total t : ℕ) {p : List ℕ} {i : ℕ} {is : List ℕ} (c : p ≡ i ∷ is) where
+  pub working-ends : goesOn (verdictOf start total (length is) (wordAt ws start t i)) ≡ false
+      → working ws start total t p ≡ rowOf start total (length is) t i (wordAt ws start t i) ∷ []
+  unfolding working
+  working-ends h = rw (c, h)
+
+  pub working-on : goesOn (verdictOf start total (length is) (wordAt ws start t i)) ≡ true
+      → working ws start total t p ≡ rowOf start total (length is) t i (wordAt ws start t i) ∷ working ws start total (frameOf (wordAt ws start t i)) is
+  unfolding working
+  working-on h = rw (c, h)
+
+-- what the last row says is what the whole says
+pub end-more : (r : Row) (rs : List Row) → 1 ≤ length rs → endOf (r ∷ rs) ≡ endOf rs
+end-more r [] h = absurd (omega arith)
+end-more r (s ∷ rs) h = refl
+
+-- ---- a word that names a table: the walk goes on, with its log and without
+
+judge-names : (is : List ℕ) (e : ℕ) (on : Leaf) → Names (length is) e → judge is e on ≡ on
+judge-names [] e on n = absurd (omega (arith, n .1))
+judge-names (j ∷ []) e on n = let k : flag 7 e ≡ false = n .2 in rw k
+judge-names (j ∷ k ∷ is) e on n = refl
+
+judge-logged-names : (is : List ℕ) (e : ℕ) (on : Logged Leaf) → Names (length is) e → judgeLogged is e on ≡ on
+judge-logged-names [] e on n = absurd (omega (arith, n .1))
+judge-logged-names (j ∷ []) e on n = let k : flag 7 e ≡ false = n .2 in rw k
+judge-logged-names (j ∷ k ∷ is) e on n = refl
+
+judge-logged-last : (is : List ℕ) (e : ℕ) (on : Logged Leaf) → length is ≡ 0 → judgeLogged is e on ≡ logged (Page e) []
+judge-logged-last [] e on h = refl
+judge-logged-last (i ∷ is) e on h = absurd (omega arith)
+
+judge-logged-large : (is : List ℕ) (e : ℕ) (on : Logged Leaf) → length is ≡ 1 → flag 7 e ≡ true → judgeLogged is e on ≡ logged (Large e) []
+judge-logged-large [] e on h k = absurd (omega arith)
+judge-logged-large (i ∷ []) e on h k = rw k
+judge-logged-large (i ∷ j ∷ is) e on h k = absurd (omega arith)
+
+-- ---- the walk with its log
+
+-- it comes where the walk comes
+pick-came : {A : Type 0} (b : Bool) (x y : Logged A) → pick b x y .came ≡ pick b (x .came) (y .came)
+pick-came true x y = refl
+pick-came false x y = refl
+
+judge-came : (is : List ℕ) (e : ℕ) (on : Logged Leaf) → judgeLogged is e on .came ≡ judge is e (on .came)
+judge-came [] e on = refl
+judge-came (j ∷ []) e on = pick-came (flag 7 e) (logged (Large e) []) on
+judge-came (j ∷ k ∷ is) e on = refl
+
+behind-came : (o : Outcome) (rs : List Read) (k : ℕ → Logged Leaf) (j : ℕ → Leaf) → ((e : ℕ) → k e .came ≡ j e) → behind o rs k .came ≡ andThen o NoLeaf j
+behind-came (Value e) rs k j h = h e
+behind-came (Stop n) rs k j h = refl
+
+module _ (ws : List ℕ) (start total t i : ℕ) where
+  -- what was read of an entry
+  abbrev readAt : Read
+  readAt = record { table = t; index = i; word = wordAt ws start t i }
+
+  entry-logged-in : inside start total t ≡ true → i < 512 → entryLogged ws start total t i ≡ logged (present (wordAt ws start t i)) (readAt ∷ [])
+  unfolding entryLogged
+  entry-logged-in h k = rw (h, lt-ltb i 512 k)
+
+  entry-logged-out : inside start total t ≡ false → entryLogged ws start total t i ≡ logged (Stop outside) []
+  unfolding entryLogged
+  entry-logged-out h = rw h
+
+  entry-came : entryLogged ws start total t i .came ≡ entryAt ws start total t i
+  unfolding entryLogged entryAt
+  entry-came =
+      let read : Logged Outcome = logged (present (wordAt ws start t i)) (readAt ∷ []) in
+      pick-came (inside start total t) (pick (ltb i 512) read (logged (Stop notMapped) [])) (logged (Stop outside) [])
+      ∙ ap (λ (o : Outcome). pick (inside start total t) o (Stop outside)) (pick-came (ltb i 512) read (logged (Stop notMapped) []))
+
+pub walk-logged : (ws : List ℕ) (start total t : ℕ) (path : List ℕ) → leafLogged ws start total t path .came ≡ leaf ws start total t path
+unfolding leafLogged leaf
+walk-logged ws start total t [] = refl
+walk-logged ws start total t (i ∷ is) =
+    let l = entryLogged ws start total t i in
+    behind-came (l .came) (l .reads) (λ e. judgeLogged is e (leafLogged ws start total (frameOf e) is)) (λ e. judge is e (leaf ws start total (frameOf e) is))
+    (λ e. judge-came is e (leafLogged ws start total (frameOf e) is) ∙ ap (judge is e) (walk-logged ws start total (frameOf e) is))
+    ∙ ap (λ (o : Outcome). andThen o NoLeaf (λ e. judge is e (leaf ws start total (frameOf e) is))) (entry-came ws start total t i)
+
+module _ (ws : List ℕ) (start total t : ℕ) {p : List ℕ} {i : ℕ} {is : List ℕ} (c : p ≡ i ∷ is) {rs : List Read} where
+  logged-stop : (n : ℕ) → entryLogged ws start total t i ≡ logged (Stop n) rs → leafLogged ws start total t p .reads ≡ rs
+  unfolding leafLogged
+  logged-stop n h = rw (c, h)
+
+  logged-on : (e : ℕ) → entryLogged ws start total t i ≡ logged (Value e) rs
+      → leafLogged ws start total t p .reads ≡ rs ++ judgeLogged is e (leafLogged ws start total (frameOf e) is) .reads
+  unfolding leafLogged
+  logged-on e h = rw (c, h)
+
+-- a table that is not lent: nothing is read, and 19
+module _ (ws : List ℕ) (start total f : ℕ) (h : inside start total f ≡ false) where
+  leaf-out : (is : List ℕ) → 0 < length is → leaf ws start total f is ≡ NoLeaf outside
+  leaf-out [] k = absurd (omega arith)
+  leaf-out (i ∷ is) k = leaf-stop ws start total f refl outside (entry-out ws start total f i h)
+
+  logged-out : (is : List ℕ) → 0 < length is → leafLogged ws start total f is .reads ≡ []
+  logged-out [] k = absurd (omega arith)
+  logged-out (i ∷ is) k = logged-stop ws start total f refl outside (entry-logged-out ws start total f i h)
+
+-- ---- the rows are right: they end where the walk ends, and are its reads
+
+pub record Right (ws : List ℕ) (start total t : ℕ) (p : List ℕ) : Type 0 where
+  pub ends : endOf (working ws start total t p) ≡ leaf ws start total t p
+  pub reads : map readOf (working ws start total t p) ≡ leafLogged ws start total t p .reads
+  pub most : length (working ws start total t p) ≤ length p
+  pub least : 1 ≤ length (working ws start total t p)
+
+module _ (ws : List ℕ) (start total t i : ℕ) (is : List ℕ) (h : inside start total t ≡ true) (k : i < 512) where
+  abbrev here : ℕ
+  here = wordAt ws start t i
+
+  abbrev below : ℕ
+  below = length is
+
+  -- what is read there
+  value : flag 0 here ≡ true → entryAt ws start total t i ≡ Value here
+  value f = entry-in ws start total t i h k ∙ present-yes here f
+
+  value-logged : flag 0 here ≡ true → entryLogged ws start total t i ≡ logged (Value here) (readAt ws start total t i ∷ [])
+  value-logged f = entry-logged-in ws start total t i h k ∙ ap (λ o. logged o (readAt ws start total t i ∷ [])) (present-yes here f)
+
+  -- a row that is the last of all
+  right-end : (v : Verdict) → verdictOf start total below here ≡ v → goesOn v ≡ false → byVerdict v here ≡ leaf ws start total t (i ∷ is)
+      → leafLogged ws start total t (i ∷ is) .reads ≡ readAt ws start total t i ∷ [] → Right ws start total t (i ∷ is)
+  right-end v j g l r =
+      let w = working-ends ws start total t refl (ap goesOn j ∙ g) in
+      record {
+        ends = ap endOf w ∙ ap (λ (x : Verdict). byVerdict x here) j ∙ l;
+        reads = ap (map readOf) w ∙ sym r;
+        most = rw w (omega arith);
+        least = rw w (lit≤ tt);
+      }
+
+  -- a row that is followed, where what follows is right
+  right-on : Names below here → inside start total (frameOf here) ≡ true → Right ws start total (frameOf here) is → Right ws start total t (i ∷ is)
+  right-on n j r =
+      let w = working-on ws start total t refl (ap goesOn (verdict-followed start total below here n j)) in
+      record {
+        ends = ap endOf w ∙ end-more (rowOf start total below t i here) (working ws start total (frameOf here) is) (r .least) ∙ r .ends ∙ sym (leaf-on ws start total t refl here (value (n .0)) ∙ judge-names is here _ n);
+        reads =
+            ap (map readOf) w ∙ ap (λ rs. readAt ws start total t i ∷ rs) (r .reads)
+            ∙ sym (logged-on ws start total t refl here (value-logged (n .0)) ∙ ap (λ (l : Logged Leaf). readAt ws start total t i ∷ l .reads) (judge-logged-names is here _ n));
+        most = rw w (omega (arith, r .most));
+        least = rw w (omega arith);
+      }
+
+  -- .. or names no lent table
+  right-out : Names below here → inside start total (frameOf here) ≡ false → Right ws start total t (i ∷ is)
+  right-out n j =
+      right-end Outside (verdict-outside start total below here n j) refl
+      (sym (leaf-on ws start total t refl here (value (n .0)) ∙ judge-names is here _ n ∙ leaf-out ws start total (frameOf here) j is (n .1)))
+      (logged-on ws start total t refl here (value-logged (n .0))
+      ∙ ap (λ (l : Logged Leaf). readAt ws start total t i ∷ l .reads) (judge-logged-names is here _ n)
+      ∙ ap (λ rs. readAt ws start total t i ∷ rs) (logged-out ws start total (frameOf here) j is (n .1)))
+
+  right-by : (0 < below → inside start total (frameOf here) ≡ true → Right ws start total (frameOf here) is) → Right ws start total t (i ∷ is)
+  right-by on = by (case below here)
+    where
+      follow : Names below here → (b : Bool) → inside start total (frameOf here) ≡ b → Right ws start total t (i ∷ is)
+      follow n true j = right-on n j (on (n .1) j)
+      follow n false j = right-out n j
+
+      by : Case below here → Right ws start total t (i ∷ is)
+      by (absent f) =
+          right-end Absent (verdict-absent start total below here f) refl
+          (sym (leaf-stop ws start total t refl notMapped (entry-in ws start total t i h k ∙ present-no here f)))
+          (logged-stop ws start total t refl notMapped (entry-logged-in ws start total t i h k ∙ ap (λ o. logged o (readAt ws start total t i ∷ [])) (present-no here f)))
+      by (last f z) =
+          right-end Last (verdict-last start total below here f z) refl (sym (leaf-on ws start total t refl here (value f) ∙ judge-last is here _ z))
+          (logged-on ws start total t refl here (value-logged f) ∙ ap (λ (l : Logged Leaf). readAt ws start total t i ∷ l .reads) (judge-logged-last is here _ z))
+      by (large f o g) =
+          right-end LargePage (verdict-large start total below here f o g) refl (sym (leaf-on ws start total t refl here (value f) ∙ judge-one is here _ o ∙ rw g))
+          (logged-on ws start total t refl here (value-logged f) ∙ ap (λ (l : Logged Leaf). readAt ws start total t i ∷ l .reads) (judge-logged-large is here _ o g))
+      by (names n) = follow n (inside start total (frameOf here)) refl
+
+pub right : (ws : List ℕ) (start total v n t : ℕ) → inside start total t ≡ true → Right ws start total t (indices (suc n) v)
+right ws start total v zero t h = right-by ws start total t (index 0 v) [] h (omega arith) (λ z _. absurd (omega (arith, z)))
+right ws start total v (suc n) t h = right-by ws start total t (index (suc n) v) (indices (suc n) v) h (omega arith) (λ _ j. right ws start total v n _ j)
+
+-- ---- the statement
+
+module _ (levels : ℕ) (ws : List ℕ) (start total root v : ℕ) where
+  pub show-broken : lentWalk levels (length ws) start total root ≡ false → showTranslate levels ws start total root v ≡ noWorking
+  unfolding showTranslate
+  show-broken h = rw h
+
+  pub show-is : lentWalk levels (length ws) start total root ≡ true
+      → showTranslate levels ws start total root v ≡ byRows v (working ws start total root (indices levels v))
+  unfolding showTranslate
+  show-is h = rw h
+
+  -- the rows of a record that is not broken
+  right-lent : lentWalk levels (length ws) start total root ≡ true → Right ws start total root (indices levels v)
+  right-lent h = by levels (levels-least levels (walk-levels _ _ _ _ _ h)) (lent-root _ _ _ _ (walk-lent _ _ _ _ _ h))
+    where
+      by : (n : ℕ) → 4 ≤ n → inside start total root ≡ true → Right ws start total root (indices n v)
+      by zero l k = absurd (omega arith)
+      by (suc n) l k = right ws start total v n root k
+
+  -- by the test of the record
+  tested : (P : Working → Type 0) → (lentWalk levels (length ws) start total root ≡ true → P (byRows v (working ws start total root (indices levels v))))
+      → (lentWalk levels (length ws) start total root ≡ false → P noWorking) → P (showTranslate levels ws start total root v)
+  unfolding showTranslate
+  tested P met broken = pick-cases P (lentWalk levels (length ws) start total root) _ _ met broken
+
+  same-as : showTranslate levels ws start total root v .answer ≡ translate levels ws start total root v
+  same-as =
+      tested (λ w. w .answer ≡ translate levels ws start total root v)
+      (λ h. ap (address v) (right-lent h .ends) ∙ sym (translate-is levels ws start total root v h))
+      (λ h. sym (translate-broken levels ws start total root v h))
+
+  pub show-most : length (showTranslate levels ws start total root v .rows) ≤ levels
+  show-most =
+      tested (λ w. length (w .rows) ≤ levels) (λ h. omega (arith, right-lent h .most, length-indices levels v)) (λ h. omega arith)
+
+  -- so they fit into five
+  show-few : length (showTranslate levels ws start total root v .rows) ≤ 5
+  show-few =
+      tested (λ w. length (w .rows) ≤ 5)
+      (λ h. omega (arith, right-lent h .most, length-indices levels v, levels-most levels (walk-levels _ _ _ _ _ h))) (λ h. omega arith)
+
+  pub show-five : length (fiveRows (showTranslate levels ws start total root v .rows)) ≡ 5
+  show-five =
+      let rows = showTranslate levels ws start total root v .rows in
+      length-append rows (replicate (5 - length rows) noRow) ∙ omega (arith, length-replicate (5 - length rows) noRow, show-few)
+
+pub shows : Shows
+shows =
+    record {
+      same = same-as;
+      walk = walk-logged;
+      reads = λ levels ws start total root v h. ap (λ (w : Working). map readOf (w .rows)) (show-is levels ws start total root v h) ∙ right-lent levels ws start total root v h .reads;
+      most = show-most;
+      least = λ levels ws start total root v h. rw (show-is levels ws start total root v h) (right-lent levels ws start total root v h .least);
+      none = λ levels ws start total root v h. ap (λ (w : Working). w .rows) (show-broken levels ws start total root v h);
+    }

@@ -1,0 +1,143 @@
+-- `show_rows`: the loop writes a row at each turn. The invariant is `Turn`.
+use Prim.Native.Nat.{_<_, _≤_}
+use mathlib.Core.Path.{_∙_, ap}
+use native.Mathlib.Omega.{arith}
+use lib.ListN.{length}
+use borrow.Author.Needs.{needs}
+use Rattle.frame.proofs.Laws.{passed, failed}
+use Rattle.address.specs.Address.{asPhys}
+use Rattle.paging.specs.declared.Leaf.{Leaf}
+use Rattle.paging.specs.Walk.{address}
+use Rattle.paging.proofs.Walk.{place-lent}
+use Rattle.walk.proofs.Laws.{place-asks, shifted}
+use Rattle.working.proofs.Rows.{Turn, turn-first, turn-end, turn-on}
+use Rattle.working.proofs.show_rows.Statement.{statement}
+use Rattle.working.proofs.show_rows.Tie as tie
+
+abbrev Inv-loop : tie.InvT-loop
+Inv-loop words start total levels virt rows₀ t₀ level₀ at₀ rows t level at = Turn words start total t₀ (virt .0) levels rows t level at
+
+abbrev μ-loop : tie.MeasureT-loop
+μ-loop words start total levels virt rows₀ t₀ level₀ at₀ rows t level at = level
+
+no-rows-requires : tie.Need-no-rows-requires Inv-loop μ-loop
+no-rows-requires c κs = search needs
+
+loop-holds : tie.Need-loop-holds Inv-loop μ-loop
+loop-holds c =
+    let s = c .before .before in
+    turn-first (s .args .words .now) (s .args .start) (s .args .total) (s .args .root .0) (s .args .virt .0) (s .args .levels) _ (c .no-rows .ensures) (s .pre .1 .1 .1) (s .pre .1 .0)
+
+sub-page-index : tie.Need-sub-page-index Inv-loop μ-loop
+sub-page-index c = c .before .loop .inv .some
+
+-- at most five levels
+few : (l : tie.At-loop Inv-loop μ-loop) → l .before .before .before .args .levels ≤ 5
+few l = l .before .before .before .pre .1 .1 .0
+
+page-index-requires : tie.Need-page-index-requires Inv-loop μ-loop
+page-index-requires c κs = let l = c .before in omega (arith, l .loop .inv .sum, few l)
+
+entry-place-requires : tie.Need-entry-place-requires Inv-loop μ-loop
+entry-place-requires c κs =
+    let l = c .before .before in
+    let s = l .before .before .before in
+    place-asks (s .args .start) (s .args .total) (l .loop .t) (c .page-index .result) (s .pre .0 .few) (l .loop .inv .lent) (c .page-index .ensures .1)
+
+-- the entry is a lent word
+under : (c : tie.After-entry-place Inv-loop μ-loop) → c .entry-place .result < length (c .before .before .before .before .before .before .args .words .now)
+under c =
+    let l = c .before .before .before in
+    let s = l .before .before .before in
+    rw (c .entry-place .ensures) (place-lent _ _ (s .pre .0) (l .loop .inv .lent) (c .before .page-index .ensures .1))
+
+mul-e : tie.Need-mul-e Inv-loop μ-loop
+mul-e c = let h = under c in search needs
+
+shared-slice-read-e : tie.Need-shared-slice-read-e Inv-loop μ-loop
+shared-slice-read-e c = under (c .before)
+
+sub-entry-verdict : tie.Need-sub-entry-verdict Inv-loop μ-loop
+sub-entry-verdict c = c .before .before .before .before .loop .inv .some
+
+entry-verdict-requires : tie.Need-entry-verdict-requires Inv-loop μ-loop
+entry-verdict-requires c κs = let s = c .before .before .before .before .before .before .before in omega (arith, s .pre .0 .low)
+
+mul-rows : tie.Need-mul-rows Inv-loop μ-loop
+mul-rows c = let l = c .before .before .before .before .before in omega (arith, l .loop .inv .sum, few l)
+
+array-set-from-rows : tie.Need-array-set-from-rows Inv-loop μ-loop
+array-set-from-rows c = let l = c .before .before .before .before .before in omega (arith, l .loop .inv .sum, l .loop .inv .some, few l)
+
+goes-on-requires : tie.Need-goes-on-requires Inv-loop μ-loop
+goes-on-requires c κs = search needs
+
+leaf-by-requires : tie.Need-leaf-by-requires Inv-loop μ-loop
+leaf-by-requires c κs = search needs
+
+phys-at-requires : tie.Need-phys-at-requires Inv-loop μ-loop
+phys-at-requires c κs = search needs
+
+add-t29 : tie.Need-add-t29 Inv-loop μ-loop
+add-t29 c = let l = c .before .before .before .before .before .before .before .before .before in omega (arith, l .loop .inv .sum, few l)
+
+returns : tie.Need-returns Inv-loop μ-loop
+returns c =
+    let v = c .before .before .before .before in
+    let p = v .before .before in
+    let l = p .before .before .before in
+    turn-end (l .loop .inv) (few l) (p .before .page-index .ensures .0) (p .entry-place .ensures) (v .entry-verdict .ensures)
+    (failed (c .before .before .before .goes-on .ensures) (c .before .before .if1 .taken))
+    (c .phys-at .ensures ∙ ap (λ (e : Leaf). asPhys (address (l .before .before .before .args .virt .0) e)) (c .before .leaf-by .ensures))
+
+addr-requires : tie.Need-addr-requires Inv-loop μ-loop
+addr-requires c κs = search needs
+
+add-at : tie.Need-add-at Inv-loop μ-loop
+add-at c = let l = c .before .before .before .before .before .before .before .before .before in omega (arith, l .loop .inv .sum, few l)
+
+sub-level : tie.Need-sub-level Inv-loop μ-loop
+sub-level c = let l = c .before .before .before .before .before .before .before .before .before in l .loop .inv .some
+
+loop-less : tie.Need-loop-less Inv-loop μ-loop
+loop-less c = let l = c .before .before .before .before .before .before .before .before .before in omega (arith, l .loop .inv .some)
+
+loop-again : tie.Need-loop-again Inv-loop μ-loop
+loop-again c =
+    let v = c .before .before .before .before in
+    let p = v .before .before in
+    let l = p .before .before .before in
+    turn-on (l .loop .inv) (few l) (p .before .page-index .ensures .0) (p .entry-place .ensures) (v .entry-verdict .ensures)
+    (passed (c .before .before .before .goes-on .ensures) (c .before .before .if1 .left)) (shifted _ (c .before .addr .ensures))
+
+returns-2 : tie.Need-returns-2 Inv-loop μ-loop
+returns-2 c = absurd (omega (arith, c .before .loop .inv .some, c .loop-test .left))
+
+pub show-rows-spec : {M : Type 1} → statement M
+show-rows-spec =
+    tie.close
+    (tie.spec
+    Inv-loop
+    μ-loop
+    no-rows-requires
+    loop-holds
+    sub-page-index
+    page-index-requires
+    entry-place-requires
+    mul-e
+    shared-slice-read-e
+    sub-entry-verdict
+    entry-verdict-requires
+    mul-rows
+    array-set-from-rows
+    goes-on-requires
+    leaf-by-requires
+    phys-at-requires
+    add-t29
+    returns
+    addr-requires
+    add-at
+    sub-level
+    loop-less
+    loop-again
+    returns-2)
