@@ -4,10 +4,9 @@ use mathlib.Core.Path.{_≡_, refl, sym, _∙_, ap}
 use mathlib.Core.Bool.{Bool, true, false, false≢true}
 use mathlib.Core.List.{List, [], _∷_, _++_, map}
 use native.Mathlib.Omega.{arith}
-use native.Mathlib.Decide.{ℕ-discrete}
 use lib.Dec.{eqb, ltb, lit≤}
-use lib.ListN.{length, getD, replicate, length-append, length-replicate}
-use borrow.Author.Tests.{ne-eqb, lt-ltb, le-ltb}
+use lib.ListN.{length, getD, take, replicate, length-append, length-replicate}
+use borrow.Author.Tests.{ne-eqb, lt-ltb}
 use Rattle.bits.specs.Bit.{pick, both, flag}
 use Rattle.bits.proofs.Choice.{pick-cases}
 use Rattle.answer.specs.Numbers.{notMapped, outside}
@@ -26,8 +25,8 @@ use Rattle.paging.specs.declared.Row.{Row}
 use Rattle.paging.specs.Walk.{place, present, entryAt, judge, leaf, address}
 use Rattle.paging.specs.Calls.{lentWalk, translate}
 use Rattle.paging.specs.Working.{verdictOf, rowOf, goesOn, working, byVerdict, endOf, Working, byRows, noWorking, showTranslate, noRow, fiveRows}
-use Rattle.paging.specs.Working.{Read, Logged, logged, entryLogged, judgeLogged, behind, leafLogged, readOf, Shows}
-use Rattle.paging.proofs.Walk.{present-yes, present-no, entry-out, entry-in, lent-root, leaf-stop, leaf-on, judge-last, judge-one, judge-above}
+use Rattle.paging.specs.Working.{Read, Logged, logged, entryLogged, judgeLogged, behind, leafLogged, readOf, countdown, OneEnd, Shows}
+use Rattle.paging.proofs.Walk.{present-yes, present-no, entry-out, entry-in, lent-root, leaf-stop, leaf-on, judge-last, judge-one}
 use Rattle.paging.proofs.Calls.{walk-levels, walk-lent, translate-broken, translate-is}
 
 -- ---- the verdict, by the tests that code makes
@@ -115,6 +114,11 @@ module _ (ws : List ℕ) (start total t : ℕ) {p : List ℕ} {i : ℕ} {is : Li
 pub end-more : (r : Row) (rs : List Row) → 1 ≤ length rs → endOf (r ∷ rs) ≡ endOf rs
 end-more r [] h = absurd (omega arith)
 end-more r (s ∷ rs) h = refl
+
+-- a row that is followed, before rows that end
+end-on : (r : Row) (rs : List Row) → goesOn (r .verdict) ≡ true → OneEnd rs → OneEnd (r ∷ rs)
+end-on r [] g e = absurd e
+end-on r (s ∷ rs) g e = (g, e)
 
 -- ---- a word that names a table: the walk goes on, with its log and without
 
@@ -207,6 +211,8 @@ module _ (ws : List ℕ) (start total f : ℕ) (h : inside start total f ≡ fal
 pub record Right (ws : List ℕ) (start total t : ℕ) (p : List ℕ) : Type 0 where
   pub ends : endOf (working ws start total t p) ≡ leaf ws start total t p
   pub reads : map readOf (working ws start total t p) ≡ leafLogged ws start total t p .reads
+  pub down : map (λ (r : Row). r .level) (working ws start total t p) ≡ take (length (working ws start total t p)) (countdown (length p))
+  pub end : OneEnd (working ws start total t p)
   pub most : length (working ws start total t p) ≤ length p
   pub least : 1 ≤ length (working ws start total t p)
 
@@ -232,6 +238,8 @@ module _ (ws : List ℕ) (start total t i : ℕ) (is : List ℕ) (h : inside sta
       record {
         ends = ap endOf w ∙ ap (λ (x : Verdict). byVerdict x here) j ∙ l;
         reads = ap (map readOf) w ∙ sym r;
+        down = rw w;
+        end = rw w (ap goesOn j ∙ g);
         most = rw w (omega arith);
         least = rw w (lit≤ tt);
       }
@@ -239,12 +247,17 @@ module _ (ws : List ℕ) (start total t i : ℕ) (is : List ℕ) (h : inside sta
   -- a row that is followed, where what follows is right
   right-on : Names below here → inside start total (frameOf here) ≡ true → Right ws start total (frameOf here) is → Right ws start total t (i ∷ is)
   right-on n j r =
-      let w = working-on ws start total t refl (ap goesOn (verdict-followed start total below here n j)) in
+      let g = ap goesOn (verdict-followed start total below here n j) in
+      let w = working-on ws start total t refl g in
+      let row : Row = rowOf start total below t i here in
+      let rest : List Row = working ws start total (frameOf here) is in
       record {
-        ends = ap endOf w ∙ end-more (rowOf start total below t i here) (working ws start total (frameOf here) is) (r .least) ∙ r .ends ∙ sym (leaf-on ws start total t refl here (value (n .0)) ∙ judge-names is here _ n);
+        ends = ap endOf w ∙ end-more row rest (r .least) ∙ r .ends ∙ sym (leaf-on ws start total t refl here (value (n .0)) ∙ judge-names is here _ n);
         reads =
             ap (map readOf) w ∙ ap (λ rs. readAt ws start total t i ∷ rs) (r .reads)
             ∙ sym (logged-on ws start total t refl here (value-logged (n .0)) ∙ ap (λ (l : Logged Leaf). readAt ws start total t i ∷ l .reads) (judge-logged-names is here _ n));
+        down = rw w (ap (λ ls. suc below ∷ ls) (r .down));
+        end = rw w (end-on row rest g (r .end));
         most = rw w (omega (arith, r .most));
         least = rw w (omega arith);
       }
@@ -318,6 +331,11 @@ module _ (levels : ℕ) (ws : List ℕ) (start total root v : ℕ) where
   show-most =
       tested (λ w. length (w .rows) ≤ levels) (λ h. omega (arith, right-lent h .most, length-indices levels v)) (λ h. omega arith)
 
+  show-down : let rows = showTranslate levels ws start total root v .rows in map (λ (r : Row). r .level) rows ≡ take (length rows) (countdown levels)
+  show-down =
+      tested (λ w. map (λ (r : Row). r .level) (w .rows) ≡ take (length (w .rows)) (countdown levels))
+      (λ h. right-lent h .down ∙ ap (λ n. take (length (working ws start total root (indices levels v))) (countdown n)) (length-indices levels v)) (λ h. refl)
+
   -- so they fit into five
   show-few : length (showTranslate levels ws start total root v .rows) ≤ 5
   show-few =
@@ -335,6 +353,8 @@ shows =
       same = same-as;
       walk = walk-logged;
       reads = λ levels ws start total root v h. ap (λ (w : Working). map readOf (w .rows)) (show-is levels ws start total root v h) ∙ right-lent levels ws start total root v h .reads;
+      down = show-down;
+      end = λ levels ws start total root v h. rw (show-is levels ws start total root v h) (right-lent levels ws start total root v h .end);
       most = show-most;
       least = λ levels ws start total root v h. rw (show-is levels ws start total root v h) (right-lent levels ws start total root v h .least);
       none = λ levels ws start total root v h. ap (λ (w : Working). w .rows) (show-broken levels ws start total root v h);

@@ -1,11 +1,11 @@
 -- The working of a translation, document 02's slip 4: 'The result lists the entries read .. For each it gives the level, the frame and index, the word, and the verdict:
 -- absent, outside, followed, large page .. or last'. Levels count from the bottom, 1 the last.
-use Prim.Native.Nat.{ℕ, suc, _-_, _≤_}
+use Prim.Native.Nat.{ℕ, zero, suc, _-_, _≤_}
 use mathlib.Core.Path.{_≡_}
 use mathlib.Core.Bool.{Bool, true, false}
 use mathlib.Core.List.{List, [], _∷_, _++_, map}
 use lib.Dec.{eqb, ltb}
-use lib.ListN.{length, getD, replicate}
+use lib.ListN.{length, getD, take, replicate}
 use Rattle.bits.specs.Bit.{pick, unless, both, flag}
 use Rattle.answer.specs.Numbers.{brokenRecord, notMapped, outside}
 use Rattle.answer.specs.declared.Outcome.{Outcome}
@@ -143,6 +143,17 @@ readOf r = record { table = r .frame .0; index = r .index; word = r .word }
 
 -- ---- the statement, for every address and board, whatever its words hold, loops included
 
+-- the levels from n down to the last
+abbrev pub countdown : ℕ → List ℕ
+countdown zero = []
+countdown (suc n) = suc n ∷ countdown n
+
+-- every row but the last is followed, and the last is not
+abbrev pub OneEnd : List Row → Type 0
+OneEnd [] = ⊥
+OneEnd (r ∷ []) = goesOn (r .verdict) ≡ false
+OneEnd (r ∷ s ∷ rs) = (goesOn (r .verdict) ≡ true) × OneEnd (s ∷ rs)
+
 pub record Shows : Type 0 where
   -- 'The address and number equal translate's for every address and board'
   pub same : (levels : ℕ) (ws : List ℕ) (start total root v : ℕ) → showTranslate levels ws start total root v .answer ≡ translate levels ws start total root v
@@ -151,6 +162,11 @@ pub record Shows : Type 0 where
   -- 'The list is exactly the reads of the definition's walk'
   pub reads : (levels : ℕ) (ws : List ℕ) (start total root v : ℕ) → lentWalk levels (length ws) start total root ≡ true
       → map readOf (showTranslate levels ws start total root v .rows) ≡ leafLogged ws start total root (indices levels v) .reads
+  -- from the root's level down, one after the other; 'with the rule that gave it': one row ends the walk, the last
+  pub down : (levels : ℕ) (ws : List ℕ) (start total root v : ℕ) → let rows = showTranslate levels ws start total root v .rows in
+      map (λ (r : Row). r .level) rows ≡ take (length rows) (countdown levels)
+  pub end : (levels : ℕ) (ws : List ℕ) (start total root v : ℕ) → lentWalk levels (length ws) start total root ≡ true
+      → OneEnd (showTranslate levels ws start total root v .rows)
   -- 'The result lists the entries read, at most' as many as the board has levels; and the root's at least
   pub most : (levels : ℕ) (ws : List ℕ) (start total root v : ℕ) → length (showTranslate levels ws start total root v .rows) ≤ levels
   pub least : (levels : ℕ) (ws : List ℕ) (start total root v : ℕ) → lentWalk levels (length ws) start total root ≡ true
