@@ -5,7 +5,7 @@
 #   target/host/oracle/libpaper.rlib                      calls, tapes, states, the domain
 #   target/host/oracle-{checked,wrapping}                 the program that plays a tape
 #   target/host/oracle-self                               the oracle's own tests
-#   target/host/oracle/libgadulnos.rlib                   the port for a Rust host (gadulnos.rs)
+#   target/host/oracle/libgadulnos.rlib                   the port for a Rust host (gadulnos.rs, gadulnos/)
 #   target/host/{layers,beside,release,anything,keys,header}  the port's tests
 #   target/host/bench                                     the benchmark, if asked for: build.sh bench
 #
@@ -103,7 +103,7 @@ if [ ! -e "$archive" ]; then
     echo "no $archive (host/library.sh makes it): the port's tests are left out"
     exit 0
 fi
-if changed "$gadulnos" "$archive" host/gadulnos.rs; then
+if changed "$gadulnos" "$archive" host/gadulnos.rs host/gadulnos; then
     compile -o "$gadulnos" --crate-type rlib --crate-name gadulnos -L native="$(dirname "$archive")" host/gadulnos.rs
 fi
 

@@ -23,7 +23,7 @@
  *   marked   2056 bytes, the copy-on-write pages: count, then 256 page addresses
  *
  * A length other than its part's, a `used` other than 0 and 1, levels other than 4 and 5, or a record that
- * document 01 calls broken is answered with 10, before every other check, and nothing is changed.
+ * document 01 calls broken is answered with 10, before every other check, and no part is changed.
  */
 #ifndef GADULNOS_H
 #define GADULNOS_H
@@ -46,13 +46,24 @@ enum {
     GADULNOS_FRAME_WORDS = 512,
     /* The levels of a board if none are named, and the most that there may be. */
     GADULNOS_LEVELS = 4,
-    GADULNOS_MOST_LEVELS = 5
+    GADULNOS_MOST_LEVELS = 5,
+    /* How many numbers a working is: a count, then five for each of at most five rows. */
+    GADULNOS_SHOWN_NUMBERS = 26
 };
 
 /* A call's answer: document 01's number, 0 if the call was met, and its value, 0 if it has none. */
 struct gadulnos_line {
     uint64_t number;
     uint64_t value;
+};
+
+/* What a translation makes of an entry that it reads (gadulnos_show_translate). */
+enum gadulnos_verdict {
+    GADULNOS_ABSENT = 0,     /* PRESENT is clear: 14 */
+    GADULNOS_OUTSIDE = 1,    /* it names a table outside the lent frames: 19 */
+    GADULNOS_FOLLOWED = 2,   /* it names a lent table, whose entry is read next */
+    GADULNOS_LARGE_PAGE = 3, /* HUGE on the last level but one (2): a page, on the board or not */
+    GADULNOS_LAST = 4        /* present on the last level: a page, on the board or not */
 };
 
 /* ---- Numbers alone */
@@ -139,6 +150,13 @@ struct gadulnos_line gadulnos_total_frames(const uint8_t *fields, size_t fields_
 /* The physical address of `virt`: 14 if it is not mapped, 19 if a table is outside the lent frames. */
 struct gadulnos_line gadulnos_translate(const uint64_t *words, size_t words_len, uint64_t start,
                                         uint64_t total, uint64_t levels, uint64_t root, uint64_t virt);
+/* gadulnos_translate's answer, and its working: the entries read, in the order read. `out` is written whole
+ * in every call. out[0] is the number of rows, 1 to `levels`, with 10 none; row k, from 0, is the five
+ * numbers from out[1 + 5 * k] on: the level, the number of the table's frame, the index in it, the word, and
+ * its gadulnos_verdict. All rows but the last are GADULNOS_FOLLOWED. What lies past the rows is 0. */
+struct gadulnos_line gadulnos_show_translate(const uint64_t *words, size_t words_len, uint64_t start,
+                                             uint64_t total, uint64_t levels, uint64_t root, uint64_t virt,
+                                             uint64_t out[GADULNOS_SHOWN_NUMBERS]);
 /* 1 if user code may read `virt`, or write it if `write`, else 0. */
 struct gadulnos_line gadulnos_user_may(const uint64_t *words, size_t words_len, uint64_t start,
                                        uint64_t total, uint64_t levels, uint64_t root, uint64_t virt,

@@ -5,7 +5,11 @@
 //! changes nothing but the leftovers listed there; parts that stand for no sound record are answered
 //! with 10 and stay as they are.
 
+#[path = "gadulnos/working.rs"]
+mod working;
+
 use std::ops::DerefMut;
+pub use working::{Row, Shown, Verdict, SHOWN_NUMBERS};
 
 /// A call's answer: its number, 0 if met, and its value, 0 if none.
 #[repr(C)]
@@ -145,6 +149,11 @@ functions! {
     /// The physical address of `virt`.
     fn translate = gadulnos_translate(
         words: &[u64], start: u64, total: u64, levels: u64, root: u64, virt: u64
+    ) -> Line;
+    /// .. with its working, which is written to `out`, whatever the answer; `Shown::unpack` reads it.
+    fn show_translate = gadulnos_show_translate(
+        words: &[u64], start: u64, total: u64, levels: u64, root: u64, virt: u64,
+        out: &mut [u64; SHOWN_NUMBERS]
     ) -> Line;
     /// Whether user code may read `virt`, or write it: 1 or 0.
     fn user_may = gadulnos_user_may(
@@ -460,6 +469,15 @@ where
     pub fn translate(&self, virt: u64) -> Line {
         let Frames { start_frame, total, levels, .. } = self.frames();
         translate(&self.words, start_frame, total, levels, self.root, virt)
+    }
+
+    /// A translation and the entries that it read.
+    pub fn show_translate(&self, virt: u64) -> Shown {
+        let Frames { start_frame, total, levels, .. } = self.frames();
+        let mut out = [0; SHOWN_NUMBERS];
+        let (words, root) = (&self.words, self.root);
+        let answer = show_translate(words, start_frame, total, levels, root, virt, &mut out);
+        Shown::unpack(answer, &out).expect("a working in every call")
     }
 
     pub fn user_may(&self, virt: u64, write: bool) -> Line {

@@ -4,7 +4,9 @@
 
 use crate::same;
 use crate::trio::{alike, state};
-use gadulnos::{Board, Frames, Kernel, Line, Marked, Region, Slot, User, LEVELS, MOST_LEVELS};
+use gadulnos::{
+    Board, Frames, Kernel, Line, Marked, Region, Slot, User, LEVELS, MOST_LEVELS, SHOWN_NUMBERS,
+};
 use paper::call::{user, writable, Call};
 use paper::generate::{Generator, Parts, Profile, Random};
 use paper::{KERNEL_WINDOW, PAGE, USER_WINDOW};
@@ -100,13 +102,34 @@ fn search(random: &mut Random, port: &Board, same: &Board) -> Result<(), String>
     }
 }
 
+/// The working of a translation on both, whatever stood in its numbers before.
+fn show(port: &Board, same: &Board, virt: u64) -> Result<(), String> {
+    let Frames { start_frame: first, total, levels, .. } = port.frames();
+    let (mut shown, mut wanted) = ([7; SHOWN_NUMBERS], [8; SHOWN_NUMBERS]);
+    let (words, root) = (&port.words, port.root);
+    let one = gadulnos::show_translate(words, first, total, levels, root, virt, &mut shown);
+    let (words, root) = (&same.words, same.root);
+    let other = same::show_translate(words, first, total, levels, root, virt, &mut wanted);
+    match (one, shown) == (other, wanted) {
+        true => Ok(()),
+        false => Err(format!("show {virt:x}: {one:?} {shown:x?} and {other:?} {wanted:x?}")),
+    }
+}
+
 /// A call on both, which must leave both alike.
 fn both(port: &mut Board, same: &mut Board, call: &Call) -> Result<(), String> {
     let (one, other) = (on_port(port, call), on_same(same, call));
     if one != other {
         return Err(format!("{call}: {one:?} and {other:?}"));
     }
-    alike(port, same).map_err(|part| format!("{call}: {part}"))
+    alike(port, same).map_err(|part| format!("{call}: {part}"))?;
+    match *call {
+        Call::Translate { addr: virt }
+        | Call::UnmapPage { virt }
+        | Call::MapPage { virt, .. }
+        | Call::MapHugePage { virt, .. } => show(port, same, virt),
+        _ => Ok(()),
+    }
 }
 
 /// A start on both, of so many levels if they are named, whatever the parts hold.

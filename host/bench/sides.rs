@@ -2,7 +2,7 @@
 //! written once, over `Side`. The Rust has boards of four levels alone.
 
 use crate::same;
-use gadulnos::{Board, Frames, Line, Marked, LEVELS};
+use gadulnos::{Board, Frames, Line, Marked, LEVELS, SHOWN_NUMBERS};
 use paper::state::Region;
 use rinux::paging::{HugePageSize, PageMapper, PhysAddr, VirtAddr};
 use rinux::{frame, mmap, oracle, page_fault, page_handler, vmalloc};
@@ -16,6 +16,7 @@ pub trait Side {
     fn mark_allocated(&mut self, frame: u64) -> Option<u64>;
     fn allocated_frames(&self) -> Option<u64>;
     fn translate(&self, virt: u64) -> Option<u64>;
+    fn show_translate(&mut self, virt: u64) -> Option<u64>;
     fn user_may(&self, virt: u64, write: bool) -> Option<u64>;
     fn map_page(&mut self, virt: u64, phys: u64) -> Option<u64>;
     fn map_huge_page(&mut self, virt: u64, phys: u64, gigabyte: bool) -> Option<u64>;
@@ -52,6 +53,14 @@ fn met(line: Line) -> Option<u64> {
     (line.number == 0).then_some(line.value)
 }
 
+/// What a translation's working is written to, in the middle of a page: the words' tables begin near the
+/// front of pages, and a load waits where a store before it has the same low bits of the address.
+#[repr(C, align(4096))]
+pub struct Shown {
+    _front: [u64; 256],
+    pub numbers: [u64; SHOWN_NUMBERS],
+}
+
 /// A side on packed parts, whose functions stand in a module by the names of `gadulnos`.
 macro_rules! packed_side {
     ($name:ident, $calls:ident) => {
@@ -61,11 +70,14 @@ macro_rules! packed_side {
             start: u64,
             total: u64,
             levels: u64,
+            /// The working of the translation that was shown last.
+            pub shown: Box<Shown>,
         }
 
         impl $name {
             pub fn lend(start: u64, total: u64, levels: u64) -> $name {
-                $name { board: Board::lend(total as usize), start, total, levels }
+                let shown = Box::new(Shown { _front: [0; 256], numbers: [0; SHOWN_NUMBERS] });
+                $name { board: Board::lend(total as usize), start, total, levels, shown }
             }
         }
 
@@ -103,8 +115,14 @@ macro_rules! packed_side {
                 met($calls::translate(words, self.start, self.total, self.levels, *root, virt))
             }
 
+            fn show_translate(&mut self, virt: u64) -> Option<u64> {
+                let $name { board: Board { words, root, .. }, start, total, levels, shown } = self;
+                let out = &mut shown.numbers;
+                met($calls::show_translate(words, *start, *total, *levels, *root, virt, out))
+            }
+
             fn user_may(&self, virt: u64, write: bool) -> Option<u64> {
-                let $name { board: Board { words, root, .. }, start, total, levels } = self;
+                let $name { board: Board { words, root, .. }, start, total, levels, .. } = self;
                 met($calls::user_may(words, *start, *total, *levels, *root, virt, write))
             }
 
@@ -244,6 +262,11 @@ impl Side for Rust {
 
     fn translate(&self, virt: u64) -> Option<u64> {
         mapper().translate(VirtAddr::new(virt)).map(|phys| phys.as_u64())
+    }
+
+    /// The original shows none.
+    fn show_translate(&mut self, _virt: u64) -> Option<u64> {
+        None
     }
 
     /// The original has no such question.

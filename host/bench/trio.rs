@@ -53,10 +53,13 @@ impl Trio {
         trio
     }
 
-    /// That all stand in the same state: every word, part and record.
+    /// That all stand in the same state: every word, part and record, and what was shown last.
     pub fn check(&self) -> Result<(), String> {
         alike(&self.port.board, &self.same.board)
             .map_err(|part| format!("port and same: {part}"))?;
+        if self.port.shown.numbers != self.same.shown.numbers {
+            return Err("port and same: the working of a translation".to_string());
+        }
         let state = state(&self.port.board).ok_or("the port's parts stand for no state")?;
         let difference = self.rust.as_ref().map(|rust| rust.board.state().difference(&state));
         difference.flatten().map_or(Ok(()), |part| Err(format!("Rust and port: {part}")))

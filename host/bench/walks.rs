@@ -1,5 +1,5 @@
-//! The walks and the mapper's calls, with their tables there, and the user question; two of them on five
-//! levels too, without the Rust.
+//! The walks and the mapper's calls, with their tables there, a translation with its working and the user
+//! question; two of them on five levels too, without the Rust.
 
 use crate::sides::Side;
 use crate::table::{mean_of, timed, Row, Table, Work};
@@ -26,6 +26,9 @@ pub fn rows(table: &mut Table) {
         table.row(row("map_page", Some(map_goal)), || (board(), Map { is_timed: true }));
         table.row(row("unmap_page", Some(1.3)), || (board(), Map { is_timed: false }));
     }
+    let on = format!("{LARGE} frames, tables there");
+    let row = Row { what: "translate with its working", on, goal: None, main: true };
+    table.row(row, || (mapped(LARGE, LEVELS), Show));
     let on = format!("{LARGE} frames, five levels, tables there");
     let row = |what| Row { what, on: on.clone(), goal: None, main: true };
     let board = || mapped(LARGE, MOST_LEVELS);
@@ -62,6 +65,16 @@ struct Translate;
 impl Work for Translate {
     fn round<S: Side>(&self, side: &mut S) -> f64 {
         timed(4096, |i| side.translate(black_box(page(i) + 5)))
+    }
+}
+
+struct Show;
+
+impl Work for Show {
+    const IN_RUST: bool = false;
+
+    fn round<S: Side>(&self, side: &mut S) -> f64 {
+        timed(4096, |i| side.show_translate(black_box(page(i) + 5)))
     }
 }
 

@@ -110,6 +110,46 @@ static void tables(void)
                           && is(gadulnos_translate(WALK, 0x40012345), 0, 0x40012345));
 }
 
+/* That a translation of 0x1010 answers so, and that its working is these numbers, whatever `out` held. */
+static bool shows(uint64_t levels, uint64_t number, uint64_t value, const uint64_t wanted[GADULNOS_SHOWN_NUMBERS])
+{
+    uint64_t out[GADULNOS_SHOWN_NUMBERS];
+
+    memset(out, 0xA5, sizeof out);
+    return is(gadulnos_show_translate(words, WORDS, 0x100, FRAMES, levels, root, 0x1010, out), number, value)
+           && is(gadulnos_translate(words, WORDS, 0x100, FRAMES, levels, root, 0x1010), number, value)
+           && memcmp(out, wanted, sizeof out) == 0;
+}
+
+static void working(void)
+{
+    const uint64_t mapped[GADULNOS_SHOWN_NUMBERS] = {
+        4,
+        4, 0x100, 0, 0x101007, GADULNOS_FOLLOWED,
+        3, 0x101, 0, 0x102007, GADULNOS_FOLLOWED,
+        2, 0x102, 0, 0x103007, GADULNOS_FOLLOWED,
+        1, 0x103, 1, 0x10F005, GADULNOS_LAST};
+    const uint64_t large[GADULNOS_SHOWN_NUMBERS] = {
+        3,
+        4, 0x100, 0, 0x101007, GADULNOS_FOLLOWED,
+        3, 0x101, 0, 0x102007, GADULNOS_FOLLOWED,
+        2, 0x102, 0, 0x40000087, GADULNOS_LARGE_PAGE};
+    const uint64_t outside[GADULNOS_SHOWN_NUMBERS] = {1, 4, 0x100, 0, 0x110007, GADULNOS_OUTSIDE};
+    const uint64_t absent[GADULNOS_SHOWN_NUMBERS] = {1, 4, 0x100, 0, 0x101006, GADULNOS_ABSENT};
+    const uint64_t none[GADULNOS_SHOWN_NUMBERS] = {0};
+
+    check("the working",
+          start() && is(gadulnos_map_page(MEMORY, RECORD, root, 0x1000, 0x10F000, false, true), 0, 0)
+              && shows(GADULNOS_LEVELS, 0, 0x10F010, mapped));
+    words[2 * GADULNOS_FRAME_WORDS] = 0x40000087;
+    check("the working of a large page", shows(GADULNOS_LEVELS, 0, 0x40001010, large));
+    words[0] = 0x110007;
+    check("the working of 19", shows(GADULNOS_LEVELS, 19, 0, outside));
+    words[0] = 0x101006;
+    check("the working of 14", shows(GADULNOS_LEVELS, 14, 0, absent));
+    check("the working of 10", shows(3, 10, 0, none) && shows(6, 10, 0, none));
+}
+
 /* The top index of five levels is bits 56 to 48; the bits above are ignored. */
 static void five_levels(void)
 {
@@ -169,6 +209,7 @@ int main(void)
     numbers();
     frames();
     tables();
+    working();
     five_levels();
     regions();
     faults();

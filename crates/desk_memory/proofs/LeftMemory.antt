@@ -10,8 +10,9 @@ use Rattle.answer.specs.Outcomes.{andThen}
 use Rattle.answer.specs.Numbers.{answerLine}
 use Rattle.answer.specs.declared.Answer.{Answer}
 use Rattle.answer.specs.declared.Line.{Line}
-use Rattle.address.specs.Address.{aligned, frameLine, asFrame}
+use Rattle.address.specs.Address.{aligned, frameLine, asFrame, physLine, asPhys}
 use Rattle.address.specs.declared.FrameAnswer.{FrameAnswer}
+use Rattle.address.specs.declared.PhysAnswer.{PhysAnswer}
 use Rattle.entry.specs.Entry.{indices}
 use Rattle.packed.proofs.RoundTrip.{Bytes}
 use Rattle.bitmap.specs.Bitmap.{marksIn}
@@ -25,12 +26,15 @@ use Rattle.paging.specs.Levels.{aboveLast}
 use Rattle.paging.specs.Walk.{place, reach}
 use Rattle.paging.specs.Map.{Memory, Out, Left as Stored, left as stored, takeLeaf, unmapEntry}
 use Rattle.paging.specs.Calls.{whole, lentWalk, mapPage, mapPageOf, sizeOf, tablesAbove, mapHuge, mapHugeOf, unmapPage}
+use Rattle.paging.specs.Working.{showTranslate}
+use Rattle.paging.proofs.Working.{shows}
+use Rattle.working.specs.Rows.{shownNumbers}
 use Rattle.layout.specs.Parts.{fieldsIn, fieldsOut, fieldsFit}
 use Rattle.layout.specs.Left.{left, brokenLine, IsRefusal, Unchanged, noLeftovers, tableLeftovers}
 use Rattle.layout.specs.Memory.{plainLine, memoryParts}
 use Rattle.layout.proofs.Left.{broken-left, met-left, broken-line, met-line, unchanged-left, fields-same, memory-unchanged}
 use Rattle.layout.proofs.Numbers.{map-listed}
-use Rattle.desk_memory.specs.Memory.{framesParts, framesPacked, onFrames, readFrames, packedMapPage, packedMapHuge, leftUnmap}
+use Rattle.desk_memory.specs.Memory.{framesParts, framesPacked, onFrames, readFrames, packedMapPage, packedMapHuge, leftShow, leftUnmap}
 
 -- ---- the frame record and its bitmap
 
@@ -118,6 +122,12 @@ module _ (words fields bits : List ℕ) (b : Bytes fields) (root v p : ℕ) (w u
 
   pub huge-refused : (s : HugePageSize) → Unchanged tableLeftovers (memoryParts words fields bits) (packedMapHuge (memoryParts words fields bits) root v p s w u)
   huge-refused s = memory-unchanged (λ (m : Memory). mapHugeOf m root v p s w u) words fields bits tableLeftovers b (λ m. huge-clean (aboveLast m) root v p w u m s)
+
+-- ---- a translation with its working
+
+pub show-left : (words : List ℕ) (start total levels root v : ℕ) {a : PhysAnswer} {ns : List ℕ} {r : Line}
+    → let s = showTranslate levels words start total root v in (a ≡ asPhys (s .answer)) × (ns ≡ shownNumbers (s .rows)) → r ≡ physLine a → left r ns ≡ leftShow words start total levels root v
+show-left words start total levels root v (a, n) r = λ j. left ((r ∙ ap physLine (a ∙ ap asPhys (shows .same levels words start total root v))) j) (n j)
 
 -- ---- unmap_page
 

@@ -1,2 +1,1 @@
 pub mod LeftMemory
-pub mod RowNumbers

@@ -12,6 +12,8 @@ use Rattle.paging.specs.declared.HugePageSize.{HugePageSize}
 use Rattle.paging.specs.declared.HugePageSize.the-variants.{Size2MB, Size1GB}
 use Rattle.paging.specs.Map.{Memory}
 use Rattle.paging.specs.Calls.{translate, userMay, mapPageOf, mapHugeOf, unmapPage}
+use Rattle.paging.specs.Working.{showTranslate}
+use Rattle.working.specs.Rows.{shownNumbers}
 use Rattle.layout.specs.Parts.{framesIn, fieldsFit, fieldsOut}
 use Rattle.layout.specs.Left.{Left, left, brokenLine, unlessFit}
 use Rattle.layout.specs.Memory.{MemoryParts, onMemory}
@@ -70,6 +72,11 @@ hugeOf false = Size2MB
 
 abbrev pub lineTranslate : List ℕ → ℕ → ℕ → ℕ → ℕ → ℕ → Line
 lineTranslate words start total levels root virt = physLine (asPhys (translate levels words start total root virt))
+
+-- with its working the line is the same, and all its numbers are written, whatever stood there
+abbrev pub leftShow : List ℕ → ℕ → ℕ → ℕ → ℕ → ℕ → Left (List ℕ)
+leftShow words start total levels root virt =
+    left (lineTranslate words start total levels root virt) (shownNumbers (showTranslate levels words start total root virt .rows))
 
 abbrev pub lineUserMay : List ℕ → ℕ → ℕ → ℕ → ℕ → ℕ → Bool → Line
 lineUserMay words start total levels root virt write = flagLine (userMay levels words start total root virt write)

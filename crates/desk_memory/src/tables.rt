@@ -10,7 +10,7 @@ ghost use mathlib.Core.Path.{_≡_};
 ghost use Rattle.paging.specs.Calls.{sizeOf};
 ghost use Rattle.layout.specs.Left.{left, Unchanged, noLeftovers, tableLeftovers};
 ghost use Rattle.layout.specs.Memory.{memoryParts};
-ghost use Rattle.desk_memory.specs.Memory.{hugeOf, lineTranslate, lineUserMay, packedMapPage, packedMapHuge, leftUnmap};
+ghost use Rattle.desk_memory.specs.Memory.{hugeOf, lineTranslate, leftShow, lineUserMay, packedMapPage, packedMapHuge, leftUnmap};
 
 #[no_mangle]
 pub extern "C" fn gadulnos_translate(
@@ -24,6 +24,30 @@ pub extern "C" fn gadulnos_translate(
     ensures { λ r. ⌜ r ≡ lineTranslate (now (words .entry)) start total levels root virt ⌝ }
 {
     address::phys_line(walk::translate(words, start, total, levels, Frame(root), VirtAddr(virt)))
+}
+
+#[no_mangle]
+pub extern "C" fn gadulnos_show_translate(
+    words: &[u64],
+    start: u64,
+    total: u64,
+    levels: u64,
+    root: u64,
+    virt: u64,
+    out: &mut [u64; working::SHOWN_NUMBERS],
+) -> Line
+    ensures { λ r. ⌜ left r (now (out .exit)) ≡ leftShow (now (words .entry)) start total levels root virt ⌝ }
+{
+    let found = working::show_translate(
+        words,
+        start,
+        total,
+        levels,
+        Frame(root),
+        VirtAddr(virt),
+        out,
+    );
+    address::phys_line(found)
 }
 
 #[no_mangle]

@@ -17,7 +17,7 @@ use Rattle.paging.specs.Walk.{place, entryAt, reach, judge, leaf, address}
 use Rattle.paging.specs.Calls.{translate}
 use Rattle.paging.proofs.Walk.{no-value, present-yes, present-no, entry-out, entry-in, reach-end, reach-stop, reach-on, leaf-stop, leaf-on}
 use Rattle.intel.specs.Sdm.{Paging, fourLevel, fiveLevel, bits, Memory, Translation, physical, notPresent, reserved, large, choose, p, ps, tableOf, pageAt, throughPte, throughPde, throughPdpte, throughPml4e, throughPml5e, throughCr3, linear}
-use Rattle.intel.specs.Agreement.{pagingLevels, Holds, NoHuge, verdict, Agrees, SamePages, SameAbsent, ThreeOutcomes, OffBoard}
+use Rattle.intel.specs.Agreement.{pagingLevels, Holds, NoHuge, asTranslation, Agrees, SamePages, SameAbsent, ThreeOutcomes, OffBoard}
 use Rattle.intel.proofs.Steps.{not-outside, judge-plain, entry-outcomes, leaf-plain, plain-here, plain-below, outcomes}
 use Rattle.intel.proofs.Entries.{same-table, walk-is}
 
@@ -25,7 +25,7 @@ use Rattle.intel.proofs.Entries.{same-table, walk-is}
 
 -- an outcome of the manual's is one of ours, unless ours is off the board
 abbrev Same : Translation → Outcome → Type 0
-Same m w = (w ≡ Stop outside → ⊥) → m ≡ verdict w
+Same m w = (w ≡ Stop outside → ⊥) → m ≡ asTranslation w
 
 module _ (mem : Memory) (ws : List ℕ) (start total v : ℕ) (holds : Holds mem ws start total) where
   -- At entry i of table t. `through e` is the manual's outcome from an entry e on, and `on e` the one behind it where it is present.
@@ -37,14 +37,14 @@ module _ (mem : Memory) (ws : List ℕ) (start total v : ℕ) (holds : Holds mem
       w : ℕ
       w = getD ws (place start t i) 0
 
-      by-flag : inside start total t ≡ true → (x : Bool) → flag 0 w ≡ x → choose x (on w) notPresent ≡ verdict (address v (leaf ws start total t (i ∷ is)))
+      by-flag : inside start total t ≡ true → (x : Bool) → flag 0 w ≡ x → choose x (on w) notPresent ≡ asTranslation (address v (leaf ws start total t (i ∷ is)))
       by-flag h true k =
           let e : entryAt ws start total t i ≡ Value w = entry-in ws start total t i h small ∙ present-yes w k in
           let l : leaf ws start total t (i ∷ is) ≡ judge is w (leaf ws start total (frameOf w) is) = leaf-on ws start total t refl w e in
-          behind w e (λ z. stays (ap (address v) l ∙ z)) ∙ ap (λ (x : Leaf). verdict (address v x)) (sym l)
+          behind w e (λ z. stays (ap (address v) l ∙ z)) ∙ ap (λ (x : Leaf). asTranslation (address v x)) (sym l)
       by-flag h false k = rw (leaf-stop ws start total t {is = is} refl notMapped (entry-in ws start total t i h small ∙ present-no w k))
 
-      by-table : (x : Bool) → inside start total t ≡ x → through (mem (t * 2 ^ 12 + i * 2 ^ 3)) ≡ verdict (address v (leaf ws start total t (i ∷ is)))
+      by-table : (x : Bool) → inside start total t ≡ x → through (mem (t * 2 ^ 12 + i * 2 ^ 3)) ≡ asTranslation (address v (leaf ws start total t (i ∷ is)))
       by-table true h = ap through (holds .word t i h small) ∙ law w ∙ by-flag h (flag 0 w) refl
       by-table false h = absurd (stays (ap (address v) (leaf-stop ws start total t refl outside (entry-out ws start total t i h))))
 
@@ -148,18 +148,18 @@ three-outcomes paging ws start total root v h = rw (walk-is paging ws start tota
 
 pub same-pages : SamePages
 same-pages paging mem cr3 ws start total root v h stays a =
-    let same : linear paging mem cr3 v ≡ verdict (translate (pagingLevels paging) ws start total root v) = agrees paging mem cr3 ws start total root v h stays in
-    (λ e. same ∙ ap verdict e, λ e. back (translate (pagingLevels paging) ws start total root v) (sym same ∙ e))
+    let same : linear paging mem cr3 v ≡ asTranslation (translate (pagingLevels paging) ws start total root v) = agrees paging mem cr3 ws start total root v h stays in
+    (λ e. same ∙ ap asTranslation e, λ e. back (translate (pagingLevels paging) ws start total root v) (sym same ∙ e))
   where
-    back : (w : Outcome) → verdict w ≡ physical a → w ≡ Value a
+    back : (w : Outcome) → asTranslation w ≡ physical a → w ≡ Value a
     back (Value b) e = let x : b ≡ a = cc in ap Value x
     back (Stop n) e = let z : _≡_ {A = ℕ} 0 1 = cc in absurd (omega arith)
 
 pub same-absent : SameAbsent
 same-absent paging mem cr3 ws start total root v h stays =
-    let same : linear paging mem cr3 v ≡ verdict (translate (pagingLevels paging) ws start total root v) = agrees paging mem cr3 ws start total root v h stays in (
-      λ e. same ∙ ap verdict e,
-      λ e. ⊎-elim (λ (x : (a : ℕ) × (translate (pagingLevels paging) ws start total root v ≡ Value a)). absurd (mapped (x .0) (sym (ap verdict (x .1)) ∙ sym same ∙ e)))
+    let same : linear paging mem cr3 v ≡ asTranslation (translate (pagingLevels paging) ws start total root v) = agrees paging mem cr3 ws start total root v h stays in (
+      λ e. same ∙ ap asTranslation e,
+      λ e. ⊎-elim (λ (x : (a : ℕ) × (translate (pagingLevels paging) ws start total root v ≡ Value a)). absurd (mapped (x .0) (sym (ap asTranslation (x .1)) ∙ sym same ∙ e)))
           (⊎-elim (λ x. x) (λ x. absurd (stays x))) (three-outcomes paging ws start total root v (h .whole)),
     )
   where

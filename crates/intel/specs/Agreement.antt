@@ -34,9 +34,9 @@ pub record NoHuge (ws : List ℕ) (start total up root : ℕ) : Type 0 where
   pub plain : (is : List ℕ) (t i e : ℕ) → length is < up → reach ws start total root is ≡ Value t → entryAt ws start total t i ≡ Value e → flag 7 e ≡ false
 
 -- The manual's word for our answer.
-abbrev pub verdict : Outcome → Translation
-verdict (Value a) = physical a
-verdict (Stop n) = notPresent
+abbrev pub asTranslation : Outcome → Translation
+asTranslation (Value a) = physical a
+asTranslation (Stop n) = notPresent
 
 -- What the statements ask: a record that is not broken (10), CR3 that names the root, memory that holds the words, no HUGE entry, and a canonical address.
 pub record Setting (paging : Paging) (mem : Memory) (cr3 : ℕ) (ws : List ℕ) (start total root v : ℕ) : Type 0 where
@@ -53,7 +53,7 @@ abbrev pub Agrees : Type 0
 Agrees =
     (paging : Paging) (mem : Memory) (cr3 : ℕ) (ws : List ℕ) (start total root v : ℕ) → Setting paging mem cr3 ws start total root v
     → (translate (pagingLevels paging) ws start total root v ≡ Stop outside → ⊥)
-    → linear paging mem cr3 v ≡ verdict (translate (pagingLevels paging) ws start total root v)
+    → linear paging mem cr3 v ≡ asTranslation (translate (pagingLevels paging) ws start total root v)
 
 -- So there we give an address exactly where the manual does, and the same one,
 abbrev pub SamePages : Type 0

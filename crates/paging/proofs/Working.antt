@@ -2,10 +2,10 @@
 use Prim.Native.Nat.{ℕ, zero, suc, _-_, _<_, _≤_}
 use mathlib.Core.Path.{_≡_, refl, sym, _∙_, ap}
 use mathlib.Core.Bool.{Bool, true, false, false≢true}
-use mathlib.Core.List.{List, [], _∷_, _++_, map}
+use mathlib.Core.List.{List, [], _∷_, _++_, map, append-nil}
 use native.Mathlib.Omega.{arith}
 use lib.Dec.{eqb, ltb, lit≤}
-use lib.ListN.{length, getD, take, replicate, length-append, length-replicate}
+use lib.ListN.{length, getD, take, replicate}
 use borrow.Author.Tests.{ne-eqb, lt-ltb}
 use Rattle.bits.specs.Bit.{pick, both, flag}
 use Rattle.bits.proofs.Choice.{pick-cases}
@@ -16,7 +16,7 @@ use Rattle.answer.specs.declared.Outcome.the-variants.{Value, Stop}
 use Rattle.entry.specs.Entry.{frameOf, index, indices}
 use Rattle.entry.proofs.Entry.{length-indices}
 use Rattle.frame.specs.Frames.{inside}
-use Rattle.frame.proofs.Laws.{levels-least, levels-most}
+use Rattle.frame.proofs.Laws.{levels-least}
 use Rattle.paging.specs.declared.Leaf.{Leaf}
 use Rattle.paging.specs.declared.Leaf.the-variants.{Page, Large, NoLeaf}
 use Rattle.paging.specs.declared.Verdict.{Verdict}
@@ -24,16 +24,16 @@ use Rattle.paging.specs.declared.Verdict.the-variants.{Absent, Outside, 
 use Rattle.paging.specs.declared.Row.{Row}
 use Rattle.paging.specs.Walk.{place, present, entryAt, judge, leaf, address}
 use Rattle.paging.specs.Calls.{lentWalk, translate}
-use Rattle.paging.specs.Working.{verdictOf, rowOf, goesOn, working, byVerdict, endOf, Working, byRows, noWorking, showTranslate, noRow, fiveRows}
-use Rattle.paging.specs.Working.{Read, Logged, logged, entryLogged, judgeLogged, behind, leafLogged, readOf, countdown, OneEnd, Shows}
+use Rattle.paging.specs.Working.{verdictOf, rowOf, goesOn, rowsBelow, byVerdict, endOf, Working, byRows, noWorking, showTranslate}
+use Rattle.paging.specs.Working.{Read, Logged, logged, entryLogged, judgeLogged, leafLogged, readOf, countdown, endVerdict, Shows}
 use Rattle.paging.proofs.Walk.{present-yes, present-no, entry-out, entry-in, lent-root, leaf-stop, leaf-on, judge-last, judge-one}
 use Rattle.paging.proofs.Calls.{walk-levels, walk-lent, translate-broken, translate-is}
 
 -- ---- the verdict, by the tests that code makes
 
 -- a present word above the last level that is no large page
-abbrev pub Names : ℕ → ℕ → Type 0
-Names below e = (flag 0 e ≡ true) × (0 < below) × (both (eqb below 1) (flag 7 e) ≡ false)
+abbrev pub NamesTable : ℕ → ℕ → Type 0
+NamesTable below e = (flag 0 e ≡ true) × (0 < below) × (both (eqb below 1) (flag 7 e) ≡ false)
 
 module _ (start total below e : ℕ) where
   pub verdict-absent : flag 0 e ≡ false → verdictOf start total below e ≡ Absent
@@ -48,11 +48,11 @@ module _ (start total below e : ℕ) where
   unfolding verdictOf
   verdict-large h o k = rw (h, o, k)
 
-  pub verdict-followed : Names below e → inside start total (frameOf e) ≡ true → verdictOf start total below e ≡ Followed
+  pub verdict-followed : NamesTable below e → inside start total (frameOf e) ≡ true → verdictOf start total below e ≡ Followed
   unfolding verdictOf
   verdict-followed n j = rw (n .0, ne-eqb below 0 (λ z. omega (arith, n .1)), n .2, j)
 
-  pub verdict-outside : Names below e → inside start total (frameOf e) ≡ false → verdictOf start total below e ≡ Outside
+  pub verdict-outside : NamesTable below e → inside start total (frameOf e) ≡ false → verdictOf start total below e ≡ Outside
   unfolding verdictOf
   verdict-outside n j = rw (n .0, ne-eqb below 0 (λ z. omega (arith, n .1)), n .2, j)
 
@@ -61,7 +61,7 @@ pub data Case (below e : ℕ) : Type 0 where
   absent : flag 0 e ≡ false → Case below e
   last : flag 0 e ≡ true → below ≡ 0 → Case below e
   large : flag 0 e ≡ true → below ≡ 1 → flag 7 e ≡ true → Case below e
-  names : Names below e → Case below e
+  names : NamesTable below e → Case below e
 
 pub case : (below e : ℕ) → Case below e
 case below e = by (flag 0 e) refl
@@ -77,17 +77,17 @@ case below e = by (flag 0 e) refl
     by true h = tested (flag 7 e) refl below refl h
 
 -- a word that is followed names a lent table, and stands above the last level
-pub followed : (start total below e : ℕ) → goesOn (verdictOf start total below e) ≡ true → Names below e × (inside start total (frameOf e) ≡ true)
+pub followed : (start total below e : ℕ) → goesOn (verdictOf start total below e) ≡ true → NamesTable below e × (inside start total (frameOf e) ≡ true)
 followed start total below e h = by (case below e)
   where
     no : (v : Verdict) → verdictOf start total below e ≡ v → goesOn v ≡ false → ⊥
     no v j g = false≢true (sym g ∙ ap goesOn (sym j) ∙ h)
 
-    lent : Names below e → (b : Bool) → inside start total (frameOf e) ≡ b → inside start total (frameOf e) ≡ true
+    lent : NamesTable below e → (b : Bool) → inside start total (frameOf e) ≡ b → inside start total (frameOf e) ≡ true
     lent n true j = j
     lent n false j = absurd (no Outside (verdict-outside start total below e n j) refl)
 
-    by : Case below e → Names below e × (inside start total (frameOf e) ≡ true)
+    by : Case below e → NamesTable below e × (inside start total (frameOf e) ≡ true)
     by (absent f) = absurd (no Absent (verdict-absent start total below e f) refl)
     by (last f z) = absurd (no Last (verdict-last start total below e f z) refl)
     by (large f o g) = absurd (no LargePage (verdict-large start total below e f o g) refl)
@@ -100,34 +100,42 @@ abbrev wordAt : List ℕ → ℕ → ℕ → ℕ → ℕ
 wordAt ws start t i = getD ws (place start t i) 0
 
 module _ (ws : List ℕ) (start total t : ℕ) {p : List ℕ} {i : ℕ} {is : List ℕ} (c : p ≡ i ∷ is) where
-  pub working-ends : goesOn (verdictOf start total (length is) (wordAt ws start t i)) ≡ false
-      → working ws start total t p ≡ rowOf start total (length is) t i (wordAt ws start t i) ∷ []
-  unfolding working
-  working-ends h = rw (c, h)
+  pub rows-end : goesOn (verdictOf start total (length is) (wordAt ws start t i)) ≡ false
+      → rowsBelow ws start total t p ≡ rowOf start total (length is) t i (wordAt ws start t i) ∷ []
+  unfolding rowsBelow
+  rows-end h = rw (c, h)
 
-  pub working-on : goesOn (verdictOf start total (length is) (wordAt ws start t i)) ≡ true
-      → working ws start total t p ≡ rowOf start total (length is) t i (wordAt ws start t i) ∷ working ws start total (frameOf (wordAt ws start t i)) is
-  unfolding working
-  working-on h = rw (c, h)
+  pub rows-on : goesOn (verdictOf start total (length is) (wordAt ws start t i)) ≡ true
+      → rowsBelow ws start total t p ≡ rowOf start total (length is) t i (wordAt ws start t i) ∷ rowsBelow ws start total (frameOf (wordAt ws start t i)) is
+  unfolding rowsBelow
+  rows-on h = rw (c, h)
 
 -- what the last row says is what the whole says
 pub end-more : (r : Row) (rs : List Row) → 1 ≤ length rs → endOf (r ∷ rs) ≡ endOf rs
 end-more r [] h = absurd (omega arith)
 end-more r (s ∷ rs) h = refl
 
--- a row that is followed, before rows that end
-end-on : (r : Row) (rs : List Row) → goesOn (r .verdict) ≡ true → OneEnd rs → OneEnd (r ∷ rs)
-end-on r [] g e = absurd e
-end-on r (s ∷ rs) g e = (g, e)
+-- the verdict at a walk's end tells the end
+end-verdict : (v : Verdict) (e : ℕ) → goesOn v ≡ false → endVerdict (byVerdict v e) ≡ v
+end-verdict Absent e g = refl
+end-verdict Outside e g = refl
+end-verdict Followed e g = absurd (false≢true (sym g))
+end-verdict LargePage e g = refl
+end-verdict Last e g = refl
+
+-- one that is followed before others
+one-more : (n : ℕ) → 1 ≤ n → (x : Verdict) (rs : List Verdict) → x ∷ replicate (n - 1) x ++ rs ≡ replicate n x ++ rs
+one-more zero h x rs = absurd (omega arith)
+one-more (suc n) h x rs = let e : suc n - 1 ≡ n = omega arith in rw e
 
 -- ---- a word that names a table: the walk goes on, with its log and without
 
-judge-names : (is : List ℕ) (e : ℕ) (on : Leaf) → Names (length is) e → judge is e on ≡ on
+judge-names : (is : List ℕ) (e : ℕ) (on : Leaf) → NamesTable (length is) e → judge is e on ≡ on
 judge-names [] e on n = absurd (omega (arith, n .1))
 judge-names (j ∷ []) e on n = let k : flag 7 e ≡ false = n .2 in rw k
 judge-names (j ∷ k ∷ is) e on n = refl
 
-judge-logged-names : (is : List ℕ) (e : ℕ) (on : Logged Leaf) → Names (length is) e → judgeLogged is e on ≡ on
+judge-logged-names : (is : List ℕ) (e : ℕ) (on : Logged Leaf) → NamesTable (length is) e → judgeLogged is e on ≡ on
 judge-logged-names [] e on n = absurd (omega (arith, n .1))
 judge-logged-names (j ∷ []) e on n = let k : flag 7 e ≡ false = n .2 in rw k
 judge-logged-names (j ∷ k ∷ is) e on n = refl
@@ -144,18 +152,18 @@ judge-logged-large (i ∷ j ∷ is) e on h k = absurd (omega arith)
 -- ---- the walk with its log
 
 -- it comes where the walk comes
-pick-came : {A : Type 0} (b : Bool) (x y : Logged A) → pick b x y .came ≡ pick b (x .came) (y .came)
-pick-came true x y = refl
-pick-came false x y = refl
+pick-walked : {A : Type 0} (b : Bool) (x y : Logged A) → pick b x y .walked ≡ pick b (x .walked) (y .walked)
+pick-walked true x y = refl
+pick-walked false x y = refl
 
-judge-came : (is : List ℕ) (e : ℕ) (on : Logged Leaf) → judgeLogged is e on .came ≡ judge is e (on .came)
-judge-came [] e on = refl
-judge-came (j ∷ []) e on = pick-came (flag 7 e) (logged (Large e) []) on
-judge-came (j ∷ k ∷ is) e on = refl
+judge-walked : (is : List ℕ) (e : ℕ) (on : Logged Leaf) → judgeLogged is e on .walked ≡ judge is e (on .walked)
+judge-walked [] e on = refl
+judge-walked (j ∷ []) e on = pick-walked (flag 7 e) (logged (Large e) []) on
+judge-walked (j ∷ k ∷ is) e on = refl
 
-behind-came : (o : Outcome) (rs : List Read) (k : ℕ → Logged Leaf) (j : ℕ → Leaf) → ((e : ℕ) → k e .came ≡ j e) → behind o rs k .came ≡ andThen o NoLeaf j
-behind-came (Value e) rs k j h = h e
-behind-came (Stop n) rs k j h = refl
+then-walked : (o : Outcome) (k : ℕ → Logged Leaf) (j : ℕ → Leaf) → ((e : ℕ) → k e .walked ≡ j e) → andThen o (λ n. logged (NoLeaf n) []) k .walked ≡ andThen o NoLeaf j
+then-walked (Value e) k j h = h e
+then-walked (Stop n) k j h = refl
 
 module _ (ws : List ℕ) (start total t i : ℕ) where
   -- what was read of an entry
@@ -170,26 +178,26 @@ module _ (ws : List ℕ) (start total t i : ℕ) where
   unfolding entryLogged
   entry-logged-out h = rw h
 
-  entry-came : entryLogged ws start total t i .came ≡ entryAt ws start total t i
+  entry-walked : entryLogged ws start total t i .walked ≡ entryAt ws start total t i
   unfolding entryLogged entryAt
-  entry-came =
+  entry-walked =
       let read : Logged Outcome = logged (present (wordAt ws start t i)) (readAt ∷ []) in
-      pick-came (inside start total t) (pick (ltb i 512) read (logged (Stop notMapped) [])) (logged (Stop outside) [])
-      ∙ ap (λ (o : Outcome). pick (inside start total t) o (Stop outside)) (pick-came (ltb i 512) read (logged (Stop notMapped) []))
+      pick-walked (inside start total t) (pick (ltb i 512) read (logged (Stop notMapped) [])) (logged (Stop outside) [])
+      ∙ ap (λ (o : Outcome). pick (inside start total t) o (Stop outside)) (pick-walked (ltb i 512) read (logged (Stop notMapped) []))
 
-pub walk-logged : (ws : List ℕ) (start total t : ℕ) (path : List ℕ) → leafLogged ws start total t path .came ≡ leaf ws start total t path
+pub walk-logged : (ws : List ℕ) (start total t : ℕ) (path : List ℕ) → leafLogged ws start total t path .walked ≡ leaf ws start total t path
 unfolding leafLogged leaf
 walk-logged ws start total t [] = refl
 walk-logged ws start total t (i ∷ is) =
     let l = entryLogged ws start total t i in
-    behind-came (l .came) (l .reads) (λ e. judgeLogged is e (leafLogged ws start total (frameOf e) is)) (λ e. judge is e (leaf ws start total (frameOf e) is))
-    (λ e. judge-came is e (leafLogged ws start total (frameOf e) is) ∙ ap (judge is e) (walk-logged ws start total (frameOf e) is))
-    ∙ ap (λ (o : Outcome). andThen o NoLeaf (λ e. judge is e (leaf ws start total (frameOf e) is))) (entry-came ws start total t i)
+    then-walked (l .walked) (λ e. judgeLogged is e (leafLogged ws start total (frameOf e) is)) (λ e. judge is e (leaf ws start total (frameOf e) is))
+    (λ e. judge-walked is e (leafLogged ws start total (frameOf e) is) ∙ ap (judge is e) (walk-logged ws start total (frameOf e) is))
+    ∙ ap (λ (o : Outcome). andThen o NoLeaf (λ e. judge is e (leaf ws start total (frameOf e) is))) (entry-walked ws start total t i)
 
 module _ (ws : List ℕ) (start total t : ℕ) {p : List ℕ} {i : ℕ} {is : List ℕ} (c : p ≡ i ∷ is) {rs : List Read} where
   logged-stop : (n : ℕ) → entryLogged ws start total t i ≡ logged (Stop n) rs → leafLogged ws start total t p .reads ≡ rs
   unfolding leafLogged
-  logged-stop n h = rw (c, h)
+  logged-stop n h = rw (c, h) (append-nil rs)
 
   logged-on : (e : ℕ) → entryLogged ws start total t i ≡ logged (Value e) rs
       → leafLogged ws start total t p .reads ≡ rs ++ judgeLogged is e (leafLogged ws start total (frameOf e) is) .reads
@@ -209,12 +217,13 @@ module _ (ws : List ℕ) (start total f : ℕ) (h : inside start total f ≡ fal
 -- ---- the rows are right: they end where the walk ends, and are its reads
 
 pub record Right (ws : List ℕ) (start total t : ℕ) (p : List ℕ) : Type 0 where
-  pub ends : endOf (working ws start total t p) ≡ leaf ws start total t p
-  pub reads : map readOf (working ws start total t p) ≡ leafLogged ws start total t p .reads
-  pub down : map (λ (r : Row). r .level) (working ws start total t p) ≡ take (length (working ws start total t p)) (countdown (length p))
-  pub end : OneEnd (working ws start total t p)
-  pub most : length (working ws start total t p) ≤ length p
-  pub least : 1 ≤ length (working ws start total t p)
+  pub ends : endOf (rowsBelow ws start total t p) ≡ leaf ws start total t p
+  pub reads : map readOf (rowsBelow ws start total t p) ≡ leafLogged ws start total t p .reads
+  pub down : map (λ (r : Row). r .level) (rowsBelow ws start total t p) ≡ take (length (rowsBelow ws start total t p)) (countdown (length p))
+  pub verdicts : map (λ (r : Row). r .verdict) (rowsBelow ws start total t p)
+      ≡ replicate (length (rowsBelow ws start total t p) - 1) Followed ++ endVerdict (leaf ws start total t p) ∷ []
+  pub most : length (rowsBelow ws start total t p) ≤ length p
+  pub least : 1 ≤ length (rowsBelow ws start total t p)
 
 module _ (ws : List ℕ) (start total t i : ℕ) (is : List ℕ) (h : inside start total t ≡ true) (k : i < 512) where
   abbrev here : ℕ
@@ -234,36 +243,43 @@ module _ (ws : List ℕ) (start total t i : ℕ) (is : List ℕ) (h : inside sta
   right-end : (v : Verdict) → verdictOf start total below here ≡ v → goesOn v ≡ false → byVerdict v here ≡ leaf ws start total t (i ∷ is)
       → leafLogged ws start total t (i ∷ is) .reads ≡ readAt ws start total t i ∷ [] → Right ws start total t (i ∷ is)
   right-end v j g l r =
-      let w = working-ends ws start total t refl (ap goesOn j ∙ g) in
+      let w = rows-end ws start total t refl (ap goesOn j ∙ g) in
       record {
         ends = ap endOf w ∙ ap (λ (x : Verdict). byVerdict x here) j ∙ l;
         reads = ap (map readOf) w ∙ sym r;
         down = rw w;
-        end = rw w (ap goesOn j ∙ g);
+        verdicts = rw w (ap (λ (x : Verdict). x ∷ []) (j ∙ sym (ap endVerdict (sym l) ∙ end-verdict v here g)));
         most = rw w (omega arith);
         least = rw w (lit≤ tt);
       }
 
   -- a row that is followed, where what follows is right
-  right-on : Names below here → inside start total (frameOf here) ≡ true → Right ws start total (frameOf here) is → Right ws start total t (i ∷ is)
+  right-on : NamesTable below here → inside start total (frameOf here) ≡ true → Right ws start total (frameOf here) is → Right ws start total t (i ∷ is)
   right-on n j r =
       let g = ap goesOn (verdict-followed start total below here n j) in
-      let w = working-on ws start total t refl g in
+      let w = rows-on ws start total t refl g in
       let row : Row = rowOf start total below t i here in
-      let rest : List Row = working ws start total (frameOf here) is in
+      let rest : List Row = rowsBelow ws start total (frameOf here) is in
+      let less : length rest ≡ length (row ∷ rest) - 1 = omega arith in
       record {
         ends = ap endOf w ∙ end-more row rest (r .least) ∙ r .ends ∙ sym (leaf-on ws start total t refl here (value (n .0)) ∙ judge-names is here _ n);
         reads =
             ap (map readOf) w ∙ ap (λ rs. readAt ws start total t i ∷ rs) (r .reads)
             ∙ sym (logged-on ws start total t refl here (value-logged (n .0)) ∙ ap (λ (l : Logged Leaf). readAt ws start total t i ∷ l .reads) (judge-logged-names is here _ n));
         down = rw w (ap (λ ls. suc below ∷ ls) (r .down));
-        end = rw w (end-on row rest g (r .end));
+        verdicts =
+            rw w
+            (ap (λ (x : Verdict). x ∷ map (λ (q : Row). q .verdict) rest) (verdict-followed start total below here n j)
+            ∙ ap (λ vs. Followed ∷ vs) (r .verdicts)
+            ∙ one-more (length rest) (r .least) Followed (endVerdict (leaf ws start total (frameOf here) is) ∷ [])
+            ∙ ap (λ k. replicate k Followed ++ endVerdict (leaf ws start total (frameOf here) is) ∷ []) less
+            ∙ ap (λ (l : Leaf). replicate (length (row ∷ rest) - 1) Followed ++ endVerdict l ∷ []) (sym (leaf-on ws start total t refl here (value (n .0)) ∙ judge-names is here _ n)));
         most = rw w (omega (arith, r .most));
         least = rw w (omega arith);
       }
 
   -- .. or names no lent table
-  right-out : Names below here → inside start total (frameOf here) ≡ false → Right ws start total t (i ∷ is)
+  right-out : NamesTable below here → inside start total (frameOf here) ≡ false → Right ws start total t (i ∷ is)
   right-out n j =
       right-end Outside (verdict-outside start total below here n j) refl
       (sym (leaf-on ws start total t refl here (value (n .0)) ∙ judge-names is here _ n ∙ leaf-out ws start total (frameOf here) j is (n .1)))
@@ -274,7 +290,7 @@ module _ (ws : List ℕ) (start total t i : ℕ) (is : List ℕ) (h : inside sta
   right-by : (0 < below → inside start total (frameOf here) ≡ true → Right ws start total (frameOf here) is) → Right ws start total t (i ∷ is)
   right-by on = by (case below here)
     where
-      follow : Names below here → (b : Bool) → inside start total (frameOf here) ≡ b → Right ws start total t (i ∷ is)
+      follow : NamesTable below here → (b : Bool) → inside start total (frameOf here) ≡ b → Right ws start total t (i ∷ is)
       follow n true j = right-on n j (on (n .1) j)
       follow n false j = right-out n j
 
@@ -303,7 +319,7 @@ module _ (levels : ℕ) (ws : List ℕ) (start total root v : ℕ) where
   show-broken h = rw h
 
   pub show-is : lentWalk levels (length ws) start total root ≡ true
-      → showTranslate levels ws start total root v ≡ byRows v (working ws start total root (indices levels v))
+      → showTranslate levels ws start total root v ≡ byRows v (rowsBelow ws start total root (indices levels v))
   unfolding showTranslate
   show-is h = rw h
 
@@ -316,7 +332,7 @@ module _ (levels : ℕ) (ws : List ℕ) (start total root v : ℕ) where
       by (suc n) l k = right ws start total v n root k
 
   -- by the test of the record
-  tested : (P : Working → Type 0) → (lentWalk levels (length ws) start total root ≡ true → P (byRows v (working ws start total root (indices levels v))))
+  tested : (P : Working → Type 0) → (lentWalk levels (length ws) start total root ≡ true → P (byRows v (rowsBelow ws start total root (indices levels v))))
       → (lentWalk levels (length ws) start total root ≡ false → P noWorking) → P (showTranslate levels ws start total root v)
   unfolding showTranslate
   tested P met broken = pick-cases P (lentWalk levels (length ws) start total root) _ _ met broken
@@ -334,18 +350,7 @@ module _ (levels : ℕ) (ws : List ℕ) (start total root v : ℕ) where
   show-down : let rows = showTranslate levels ws start total root v .rows in map (λ (r : Row). r .level) rows ≡ take (length rows) (countdown levels)
   show-down =
       tested (λ w. map (λ (r : Row). r .level) (w .rows) ≡ take (length (w .rows)) (countdown levels))
-      (λ h. right-lent h .down ∙ ap (λ n. take (length (working ws start total root (indices levels v))) (countdown n)) (length-indices levels v)) (λ h. refl)
-
-  -- so they fit into five
-  show-few : length (showTranslate levels ws start total root v .rows) ≤ 5
-  show-few =
-      tested (λ w. length (w .rows) ≤ 5)
-      (λ h. omega (arith, right-lent h .most, length-indices levels v, levels-most levels (walk-levels _ _ _ _ _ h))) (λ h. omega arith)
-
-  pub show-five : length (fiveRows (showTranslate levels ws start total root v .rows)) ≡ 5
-  show-five =
-      let rows = showTranslate levels ws start total root v .rows in
-      length-append rows (replicate (5 - length rows) noRow) ∙ omega (arith, length-replicate (5 - length rows) noRow, show-few)
+      (λ h. right-lent h .down ∙ ap (λ n. take (length (rowsBelow ws start total root (indices levels v))) (countdown n)) (length-indices levels v)) (λ h. refl)
 
 pub shows : Shows
 shows =
@@ -354,7 +359,7 @@ shows =
       walk = walk-logged;
       reads = λ levels ws start total root v h. ap (λ (w : Working). map readOf (w .rows)) (show-is levels ws start total root v h) ∙ right-lent levels ws start total root v h .reads;
       down = show-down;
-      end = λ levels ws start total root v h. rw (show-is levels ws start total root v h) (right-lent levels ws start total root v h .end);
+      verdicts = λ levels ws start total root v h. rw (show-is levels ws start total root v h) (right-lent levels ws start total root v h .verdicts);
       most = show-most;
       least = λ levels ws start total root v h. rw (show-is levels ws start total root v h) (right-lent levels ws start total root v h .least);
       none = λ levels ws start total root v h. ap (λ (w : Working). w .rows) (show-broken levels ws start total root v h);

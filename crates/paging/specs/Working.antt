@@ -8,9 +8,9 @@ use lib.Dec.{eqb, ltb}
 use lib.ListN.{length, getD, take, replicate}
 use Rattle.bits.specs.Bit.{pick, unless, both, flag}
 use Rattle.answer.specs.Numbers.{brokenRecord, notMapped, outside}
+use Rattle.answer.specs.Outcomes.{andThen}
 use Rattle.answer.specs.declared.Outcome.{Outcome}
-use Rattle.answer.specs.declared.Outcome.the-variants.{Value, Stop}
-use Rattle.address.specs.Address.{asPhys}
+use Rattle.answer.specs.declared.Outcome.the-variants.{Stop}
 use Rattle.entry.specs.Entry.{frameOf, indices}
 use Rattle.frame.specs.Frames.{inside}
 use Rattle.paging.specs.declared.Leaf.{Leaf}
@@ -18,10 +18,8 @@ use Rattle.paging.specs.declared.Leaf.the-variants.{Page, Large, NoLeaf}
 use Rattle.paging.specs.declared.Verdict.{Verdict}
 use Rattle.paging.specs.declared.Verdict.the-variants.{Absent, Outside, Followed, LargePage, Last}
 use Rattle.paging.specs.declared.Row.{Row}
-use Rattle.paging.specs.declared.Shown.{Shown}
 use Rattle.paging.specs.Walk.{place, present, leaf, address}
 use Rattle.paging.specs.Calls.{lentWalk, translate}
-use Rattle.paging.specs.Levels.{mostLevels}
 
 -- ---- the rows
 
@@ -47,12 +45,12 @@ goesOn LargePage = false
 goesOn Last = false
 
 -- the entries read below a lent table t along a path
-unfoldable pub working : List ℕ → ℕ → ℕ → ℕ → List ℕ → List Row
-working ws start total t [] = []
-working ws start total t (i ∷ is) =
+unfoldable pub rowsBelow : List ℕ → ℕ → ℕ → ℕ → List ℕ → List Row
+rowsBelow ws start total t [] = []
+rowsBelow ws start total t (i ∷ is) =
     let e = getD ws (place start t i) 0 in
     let r = rowOf start total (length is) t i e in
-    r ∷ pick (goesOn (r .verdict)) (working ws start total (frameOf e) is) []
+    r ∷ pick (goesOn (r .verdict)) (rowsBelow ws start total (frameOf e) is) []
 
 -- ---- the rule that gave the result
 
@@ -64,7 +62,7 @@ byVerdict Followed e = NoLeaf notMapped
 byVerdict LargePage e = Large e
 byVerdict Last e = Page e
 
--- by the last row alone
+-- by the last row alone; no walk has no row (`least`)
 abbrev pub endOf : List Row → Leaf
 endOf [] = NoLeaf notMapped
 endOf (r ∷ []) = byVerdict (r .verdict) (r .word)
@@ -84,17 +82,7 @@ noWorking = record { answer = Stop brokenRecord; rows = [] }
 unfoldable pub showTranslate : ℕ → List ℕ → ℕ → ℕ → ℕ → ℕ → Working
 showTranslate levels ws start total root v =
     unless (lentWalk levels (length ws) start total root) noWorking
-    (byRows v (working ws start total root (indices levels v)))
-
--- as code hands it back: five rows, those past the count blank
-abbrev pub noRow : Row
-noRow = record { level = 0; frame = record { 0 = 0 }; index = 0; word = 0; verdict = Absent }
-
-abbrev pub fiveRows : List Row → List Row
-fiveRows rows = rows ++ replicate (mostLevels - length rows) noRow
-
-abbrev pub shown : Working → Shown
-shown w = record { answer = asPhys (w .answer); rows = fiveRows (w .rows); count = length (w .rows) }
+    (byRows v (rowsBelow ws start total root (indices levels v)))
 
 -- ---- 'The list is exactly the reads of the definition's walk': the walk that `translate` has, clause for clause, with a log of the words that it reads
 
@@ -104,11 +92,11 @@ pub record Read : Type 0 where
   pub word : ℕ
 
 pub record Logged (A : Type 0) : Type 0 where
-  pub came : A
+  pub walked : A
   pub reads : List Read
 
 abbrev pub logged : {A : Type 0} → A → List Read → Logged A
-logged a rs = record { came = a; reads = rs }
+logged a rs = record { walked = a; reads = rs }
 
 -- `entryAt`: the word is read where the table is lent and the index is below 512
 unfoldable pub entryLogged : List ℕ → ℕ → ℕ → ℕ → ℕ → Logged Outcome
@@ -125,17 +113,16 @@ judgeLogged [] e on = logged (Page e) []
 judgeLogged (j ∷ []) e on = pick (flag 7 e) (logged (Large e) []) on
 judgeLogged (j ∷ k ∷ is) e on = on
 
--- what follows an entry, behind what was read for it
-abbrev pub behind : Outcome → List Read → (ℕ → Logged Leaf) → Logged Leaf
-behind (Value e) rs k = logged (k e .came) (rs ++ k e .reads)
-behind (Stop n) rs k = logged (NoLeaf n) rs
+-- what was read before, then what is read after it
+abbrev pub readFirst : {A : Type 0} → List Read → Logged A → Logged A
+readFirst rs l = logged (l .walked) (rs ++ l .reads)
 
 -- `leaf`
 unfoldable pub leafLogged : List ℕ → ℕ → ℕ → ℕ → List ℕ → Logged Leaf
 leafLogged ws start total t [] = logged (NoLeaf notMapped) []
 leafLogged ws start total t (i ∷ is) =
     let l = entryLogged ws start total t i in
-    behind (l .came) (l .reads) (λ e. judgeLogged is e (leafLogged ws start total (frameOf e) is))
+    readFirst (l .reads) (andThen (l .walked) (λ n. logged (NoLeaf n) []) (λ e. judgeLogged is e (leafLogged ws start total (frameOf e) is)))
 
 -- what a row says was read
 abbrev pub readOf : Row → Read
@@ -148,29 +135,31 @@ abbrev pub countdown : ℕ → List ℕ
 countdown zero = []
 countdown (suc n) = suc n ∷ countdown n
 
--- every row but the last is followed, and the last is not
-abbrev pub OneEnd : List Row → Type 0
-OneEnd [] = ⊥
-OneEnd (r ∷ []) = goesOn (r .verdict) ≡ false
-OneEnd (r ∷ s ∷ rs) = (goesOn (r .verdict) ≡ true) × OneEnd (s ∷ rs)
+-- the verdict on the entry that a walk ends at
+abbrev pub endVerdict : Leaf → Verdict
+endVerdict (Page e) = Last
+endVerdict (Large e) = LargePage
+endVerdict (NoLeaf n) = pick (eqb n outside) Outside Absent
 
 pub record Shows : Type 0 where
   -- 'The address and number equal translate's for every address and board'
   pub same : (levels : ℕ) (ws : List ℕ) (start total root v : ℕ) → showTranslate levels ws start total root v .answer ≡ translate levels ws start total root v
   -- with its log the walk comes where it comes without
-  pub walk : (ws : List ℕ) (start total t : ℕ) (path : List ℕ) → leafLogged ws start total t path .came ≡ leaf ws start total t path
+  pub walk : (ws : List ℕ) (start total t : ℕ) (path : List ℕ) → leafLogged ws start total t path .walked ≡ leaf ws start total t path
   -- 'The list is exactly the reads of the definition's walk'
   pub reads : (levels : ℕ) (ws : List ℕ) (start total root v : ℕ) → lentWalk levels (length ws) start total root ≡ true
       → map readOf (showTranslate levels ws start total root v .rows) ≡ leafLogged ws start total root (indices levels v) .reads
-  -- from the root's level down, one after the other; 'with the rule that gave it': one row ends the walk, the last
+  -- from the root's level down, one after the other
   pub down : (levels : ℕ) (ws : List ℕ) (start total root v : ℕ) → let rows = showTranslate levels ws start total root v .rows in
       map (λ (r : Row). r .level) rows ≡ take (length rows) (countdown levels)
-  pub end : (levels : ℕ) (ws : List ℕ) (start total root v : ℕ) → lentWalk levels (length ws) start total root ≡ true
-      → OneEnd (showTranslate levels ws start total root v .rows)
+  -- 'with the rule that gave it': every row but the last is followed, and the last tells what the walk comes to
+  pub verdicts : (levels : ℕ) (ws : List ℕ) (start total root v : ℕ) → lentWalk levels (length ws) start total root ≡ true
+      → let rows = showTranslate levels ws start total root v .rows in
+      map (λ (r : Row). r .verdict) rows ≡ replicate (length rows - 1) Followed ++ endVerdict (leaf ws start total root (indices levels v)) ∷ []
   -- 'The result lists the entries read, at most' as many as the board has levels; and the root's at least
   pub most : (levels : ℕ) (ws : List ℕ) (start total root v : ℕ) → length (showTranslate levels ws start total root v .rows) ≤ levels
   pub least : (levels : ℕ) (ws : List ℕ) (start total root v : ℕ) → lentWalk levels (length ws) start total root ≡ true
       → 1 ≤ length (showTranslate levels ws start total root v .rows)
-  -- a broken record: 10, and no word is read
+  -- a broken record, 10 by `same`: no word is read
   pub none : (levels : ℕ) (ws : List ℕ) (start total root v : ℕ) → lentWalk levels (length ws) start total root ≡ false
       → showTranslate levels ws start total root v .rows ≡ []

@@ -1,7 +1,6 @@
 // Page tables: the types that walks give, above the definitions of walks, mappings and the mapper's calls in specs/. The code is in `walk`, `working`, `tables` and
 // `mapper`.
 use address::Frame;
-use address::PhysAnswer;
 use answer::Outcome;
 use frame::FrameAllocator;
 ghost use mathlib.Core.Path.{_≡_};
@@ -36,13 +35,6 @@ pub struct Row {
     pub index: usize,
     pub word: u64,
     pub verdict: Verdict,
-}
-
-// A translation with its working: the first `count` rows are the entries read, in the order read.
-pub struct Shown {
-    pub answer: PhysAnswer,
-    pub rows: [Row; 5],
-    pub count: usize,
 }
 
 pub enum HugePageSize {

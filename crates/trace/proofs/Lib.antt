@@ -1,3 +1,4 @@
 pub mod Faults
 pub mod Theorem
 pub mod Levels
+pub mod Shown

@@ -1,3 +1,4 @@
 pub mod Trace
 pub mod Untouched
 pub mod Levels
+pub mod Shown

@@ -5,17 +5,22 @@ use address::VirtAddr;
 use entry::paging::PageTableEntry;
 use paging::Leaf;
 use paging::Row;
-use paging::Shown;
 use paging::Verdict;
 ghost use mathlib.Core.Path.{_≡_};
 ghost use mathlib.Core.Bool.{true};
-ghost use Prim.Native.Nat.{_+_, _^_, _<_, _≤_};
-ghost use lib.ListN.{replicate};
+ghost use Prim.Native.Nat.{_+_, _*_, _^_, _<_, _≤_};
+ghost use mathlib.Core.List.{[]};
+ghost use lib.Seq.{sets};
+ghost use Rattle.address.specs.Address.{asPhys};
 ghost use Rattle.entry.specs.Entry.{indices as indicesOf};
 ghost use Rattle.frame.specs.Frames.{inside};
-ghost use Rattle.paging.specs.Walk.{WordsLent};
+ghost use Rattle.paging.specs.Walk.{address, WordsLent};
 ghost use Rattle.paging.specs.Levels.{mostLevels};
-ghost use Rattle.paging.specs.Working.{verdictOf, goesOn, working, byVerdict, byRows, showTranslate, noRow, shown};
+ghost use Rattle.paging.specs.Working.{verdictOf, goesOn, rowsBelow, byVerdict, endOf, showTranslate};
+ghost use Rattle.working.specs.Rows.{verdictNumber, rowNumbers, shownNumbers};
+
+// The count, and five numbers for each of at most five rows.
+pub const SHOWN_NUMBERS: usize = 26;
 
 // The verdict on an entry with so many levels below it.
 fn entry_verdict(start: u64, total: u64, below: u64, e: PageTableEntry) -> Verdict
@@ -63,18 +68,30 @@ fn leaf_by(verdict: Verdict, e: u64) -> Leaf
     }
 }
 
-// Five blank rows.
-fn no_rows() -> [Row; 5]
-    ensures { λ r. ⌜ r ≡ replicate 5 noRow ⌝ }
+fn verdict_number(verdict: Verdict) -> u64
+    ensures { λ r. ⌜ r ≡ verdictNumber verdict ⌝ }
 {
-    let blank = Row {
-        level: 0,
-        frame: Frame(0),
-        index: 0,
-        word: 0,
-        verdict: Verdict::Absent,
-    };
-    [blank; 5]
+    match verdict {
+        Verdict::Absent => 0,
+        Verdict::Outside => 1,
+        Verdict::Followed => 2,
+        Verdict::LargePage => 3,
+        Verdict::Last => 4,
+    }
+}
+
+// The numbers of row k.
+fn put_row(out: &mut [u64; SHOWN_NUMBERS], k: usize, row: Row)
+    requires { ⌜ k < 5 ⌝ }
+    ensures { λ _. ⌜ now (out .exit) ≡ sets (now (out .entry)) (1 + k * 5) (rowNumbers row) ⌝ }
+{
+    let at = 1 + k * 5;
+    out[at] = row.level;
+    out[at + 1] = row.frame.0;
+    out[at + 2] = row.index as u64;
+    out[at + 3] = row.word;
+    let verdict = row.verdict;
+    out[at + 4] = verdict_number(verdict);
 }
 
 // The rows from the root on, and the result. No walk comes past the last level: no entry there is followed.
@@ -85,14 +102,16 @@ fn show_rows(
     levels: u64,
     root: Frame,
     virt: VirtAddr,
-) -> Shown
+    out: &mut [u64; SHOWN_NUMBERS],
+) -> PhysAnswer
     requires { ⌜ WordsLent (now words) start total ⌝ }
     requires { ⌜ 0 < levels ⌝ }
     requires { ⌜ levels ≤ mostLevels ⌝ }
     requires { ⌜ inside start total (root .0) ≡ true ⌝ }
-    ensures { λ r. ⌜ r ≡ shown (byRows (virt .0) (working (now (words .entry)) start total (root .0) (indicesOf levels (virt .0)))) ⌝ }
+    requires { ⌜ now out ≡ shownNumbers [] ⌝ }
+    ensures { λ r. ⌜ r ≡ asPhys (address (virt .0) (endOf (rowsBelow (now (words .entry)) start total (root .0) (indicesOf levels (virt .0))))) ⌝ }
+    ensures { λ _. ⌜ now (out .exit) ≡ shownNumbers (rowsBelow (now (words .entry)) start total (root .0) (indicesOf levels (virt .0))) ⌝ }
 {
-    let mut rows = no_rows();
     let mut t = root.0;
     let mut level = levels;
     let mut at: usize = 0;
@@ -100,32 +119,29 @@ fn show_rows(
         let i = entry::page_index(virt, level - 1);
         let e = words[walk::entry_place(start, t, i)];
         let verdict = entry_verdict(start, total, level - 1, PageTableEntry(e));
-        rows[at] = Row {
-            level,
-            frame: Frame(t),
-            index: i,
-            word: e,
-            verdict,
-        };
+        put_row(
+            out,
+            at,
+            Row {
+                level,
+                frame: Frame(t),
+                index: i,
+                word: e,
+                verdict,
+            },
+        );
         if !goes_on(verdict) {
-            return Shown {
-                answer: walk::phys_at(leaf_by(verdict, e), virt),
-                rows,
-                count: at + 1,
-            };
+            out[0] = at as u64 + 1;
+            return walk::phys_at(leaf_by(verdict, e), virt);
         }
         t = PageTableEntry(e).addr().0 >> 12;
         at = at + 1;
         level = level - 1;
     }
-    Shown {
-        answer: PhysAnswer::NoPhys(answer::NOT_MAPPED),
-        rows,
-        count: at,
-    }
+    PhysAnswer::NoPhys(answer::NOT_MAPPED)
 }
 
-// `translate` with its working.
+// `translate` with its working, whose numbers are all written.
 pub fn show_translate(
     words: &[u64],
     start: u64,
@@ -133,15 +149,14 @@ pub fn show_translate(
     levels: u64,
     root: Frame,
     virt: VirtAddr,
-) -> Shown
-    ensures { λ r. ⌜ r ≡ shown (showTranslate levels (now (words .entry)) start total (root .0) (virt .0)) ⌝ }
+    out: &mut [u64; SHOWN_NUMBERS],
+) -> PhysAnswer
+    ensures { λ r. ⌜ r ≡ asPhys (showTranslate levels (now (words .entry)) start total (root .0) (virt .0) .answer) ⌝ }
+    ensures { λ _. ⌜ now (out .exit) ≡ shownNumbers (showTranslate levels (now (words .entry)) start total (root .0) (virt .0) .rows) ⌝ }
 {
+    *out = [0; SHOWN_NUMBERS];
     if !walk::may_walk(words.len(), start, total, levels, root) {
-        return Shown {
-            answer: PhysAnswer::NoPhys(answer::BROKEN_RECORD),
-            rows: no_rows(),
-            count: 0,
-        };
+        return PhysAnswer::NoPhys(answer::BROKEN_RECORD);
     }
-    show_rows(words, start, total, levels, root, virt)
+    show_rows(words, start, total, levels, root, virt, out)
 }

@@ -19,6 +19,7 @@ mod packed;
 mod start;
 mod tables;
 mod user;
+mod working;
 
 pub use faults::{handle_page_fault, handle_page_fault_second, is_cow, mark_cow, unmark_cow};
 pub use frames::{
@@ -29,6 +30,7 @@ pub use kernel::{vfree, vmalloc};
 pub use start::{start, start_levels};
 pub use tables::{map_huge_page, map_page, translate, unmap_page, user_may};
 pub use user::{find_free_region, mmap, munmap};
+pub use working::show_translate;
 
 use gadulnos::{Line, LEVELS, MOST_LEVELS};
 

@@ -7,8 +7,8 @@ use gadulnos::{Line, Marks};
 pub const PRESENT: u64 = 1;
 const WRITABLE: u64 = 2;
 const USER: u64 = 4;
-const HUGE: u64 = 128;
-const ADDR_MASK: u64 = 0x000F_FFFF_FFFF_F000;
+pub const HUGE: u64 = 128;
+pub const ADDR_MASK: u64 = 0x000F_FFFF_FFFF_F000;
 
 /// The lent frames, the levels and the root, by their numbers.
 #[derive(Clone, Copy)]
@@ -30,7 +30,7 @@ impl Tables {
 
     /// Whether a call that is lent the numbers may walk.
     #[inline]
-    fn may_walk(&self, words: &[u64]) -> bool {
+    pub fn may_walk(&self, words: &[u64]) -> bool {
         is_levels(self.levels) && !self.are_broken(words)
     }
 

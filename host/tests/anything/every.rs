@@ -4,10 +4,11 @@
 
 use crate::boards::{self, any_levels, Base};
 use crate::guard::{self, Against, Guarded};
+use crate::model::Model;
 use crate::report::{equal, holds, Checked};
 use crate::table::{Answer, Arg, Row, TABLE};
 use crate::PATIENCE;
-use gadulnos::{Frames, Kernel, Line, Marked, User};
+use gadulnos::{Board, Frames, Kernel, Line, Marked, User, SHOWN_NUMBERS};
 use paper::generate::Random;
 use paper::{KERNEL_WINDOW, LAST, PAGE, TEMPORARY, USER_WINDOW};
 
@@ -122,7 +123,8 @@ pub fn run(random: &mut Random, rounds: u64) -> Checked {
     Ok(calls)
 }
 
-fn call(random: &mut Random, base: &Base, row: &Row) -> Result<(), String> {
+/// What a function is lent, and its arguments as C hands them over.
+fn arguments(random: &mut Random, base: &Base, row: &Row) -> (Vec<(Arg, Lent)>, [u64; ARGS]) {
     let mut lent: Vec<(Arg, Lent)> = Vec::new();
     let mut args: Vec<u64> = Vec::new();
     for &arg in row.args {
@@ -138,16 +140,13 @@ fn call(random: &mut Random, base: &Base, row: &Row) -> Result<(), String> {
         }
     }
     args.resize(ARGS, random.word());
-    let a: [u64; ARGS] = args.try_into().expect("no more arguments than there is room for");
-    // SAFETY: all arguments and both results are integers or pointers, which go through the same
-    // registers and places on the stack whatever their types; arguments past the last are not looked at.
-    let Registers(first, second) = unsafe {
-        let function = std::mem::transmute::<unsafe extern "C" fn(), Function>(row.function);
-        function(
-            a[0], a[1], a[2], a[3], a[4], a[5], a[6], a[7], a[8], a[9], a[10], a[11], a[12], a[13],
-            a[14], a[15],
-        )
-    };
+    (lent, args.try_into().expect("no more arguments than there is room for"))
+}
+
+fn call(random: &mut Random, base: &Base, row: &Row) -> Result<(), String> {
+    let (lent, args) = arguments(random, base, row);
+    // SAFETY: each pointer lends what the table says.
+    let Registers(first, second) = unsafe { enter(row, args) };
     let changes_nothing = match row.answer {
         Answer::Nothing | Answer::Word => false,
         Answer::Bool => {
@@ -165,7 +164,41 @@ fn call(random: &mut Random, base: &Base, row: &Row) -> Result<(), String> {
             holds(part.is_same(), &format!("{arg:?} as it was, with {first:x}"))?;
         }
     }
-    Ok(())
+    match &lent[..] {
+        [(Arg::Words, words), (Arg::Working, out)] => {
+            shown(words, out, &args, Line { number: first, value: second })
+        }
+        _ => Ok(()),
+    }
+}
+
+/// Calls a row's function. All arguments and both results are integers or pointers, which go through the
+/// same registers and places on the stack whatever their types; arguments past the last are not looked at.
+///
+/// # Safety
+///
+/// The pointers must lend what the function asks.
+unsafe fn enter(row: &Row, a: [u64; ARGS]) -> Registers {
+    let function = std::mem::transmute::<unsafe extern "C" fn(), Function>(row.function);
+    function(
+        a[0], a[1], a[2], a[3], a[4], a[5], a[6], a[7], a[8], a[9], a[10], a[11], a[12], a[13],
+        a[14], a[15],
+    )
+}
+
+/// That an answer and every number of its working are the model's.
+fn shown(words: &Lent, out: &Lent, args: &[u64; ARGS], line: Line) -> Result<(), String> {
+    let (words, numbers) = match (words, out) {
+        (Lent::Words { before, .. }, Lent::Words { memory, .. }) => (before, memory),
+        _ => return Err("no words".to_string()),
+    };
+    // Behind the pointer to the words and their number.
+    let [start_frame, total, levels, root, virt]: [u64; 5] =
+        args[2..7].try_into().expect("five numbers");
+    let frames = Frames { start_frame, total, allocated: 0, levels };
+    let board = Board { words: words.clone(), fields: frames.pack(), root, ..Board::lend(0) };
+    let (wanted, working) = Model::of(&board).show_translate(virt);
+    equal((line, &numbers[..]), (wanted, &working[..]))
 }
 
 fn is_read(arg: Arg) -> bool {
@@ -199,6 +232,10 @@ fn part(random: &mut Random, base: &Base, arg: Arg) -> Option<Lent> {
         }
         Arg::Compared => return Some(Lent::words(random, &[7])),
         Arg::Indices => return Some(Lent::words(random, &[7; 4])),
+        Arg::Working => {
+            let numbers: Vec<u64> = (0..SHOWN_NUMBERS).map(|_| random.word()).collect();
+            return Some(Lent::words(random, &numbers));
+        }
         _ => return None,
     };
     let bytes = damaged(random, bytes, arg.has_no_length());
@@ -255,10 +292,9 @@ fn any_number(random: &mut Random, base: &Base) -> u64 {
 /// That the two registers of an answer are its number and its value, by a call with a known answer.
 pub fn registers() -> Result<(), String> {
     let row = TABLE.iter().find(|row| row.name == "gadulnos_page_align_up").ok_or("no such row")?;
-    // SAFETY: as above.
-    let answer = unsafe {
-        let function = std::mem::transmute::<unsafe extern "C" fn(), Function>(row.function);
-        function(4097, 0, 0, 0, 0, 0, 0, 0, 0, 0, 0, 0, 0, 0, 0, 0)
-    };
+    let mut args = [0; ARGS];
+    args[0] = 4097;
+    // SAFETY: it is lent nothing.
+    let answer = unsafe { enter(row, args) };
     equal((answer.0, answer.1), (0, 8192))
 }

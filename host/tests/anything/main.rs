@@ -26,6 +26,7 @@ mod port;
 mod report;
 mod shot;
 mod table;
+mod working;
 mod worst;
 
 use options::Options;
@@ -50,6 +51,7 @@ fn main() {
     let rounds = options.amount / 30 + 1;
     report.tell("anything: every C function", every::run(&mut options.random(20), rounds));
     table::check(&mut report, &seen, options.amount);
+    working::check(&mut report, &seen, options.amount);
     worst::check(&mut report);
     report.finish();
 }

@@ -7,6 +7,7 @@ use crate::model::Model;
 use crate::port::{self, Port};
 use crate::report::{equal, holds};
 use crate::table;
+use crate::working::{self, Verdicts};
 use gadulnos::{Board, Frames, Kernel, Line, Marked, User, LEVELS, MOST_LEVELS};
 use paper::call::Call;
 use paper::generate::Random;
@@ -22,6 +23,7 @@ pub struct Seen {
     pub on_five: BTreeMap<(&'static str, u64), u64>,
     /// How often a translation was answered so, by the levels that it was lent: 4, 5, or 0 for others.
     pub walks: BTreeMap<(u64, u64), u64>,
+    pub verdicts: Verdicts,
     /// Calls whose words were compared with the model's, those of them that walk five levels, and releases
     /// in whose midst the model gave up.
     pub compared: u64,
@@ -37,6 +39,8 @@ pub enum Shot {
     /// A start, of so many levels if they are named.
     Start(u64, u64, Option<u64>),
     Walk(Walk),
+    /// A translation of an address with its working.
+    Show(u64),
     /// mmap's search by itself, for so many bytes.
     Search(u64),
 }
@@ -59,6 +63,7 @@ impl Shot {
             Shot::Start(_, _, None) => "start",
             Shot::Start(_, _, Some(_)) => "start_levels",
             Shot::Walk(..) => "walk",
+            Shot::Show(..) => "show_translate",
             Shot::Search(..) => "find_free_region",
         }
     }
@@ -71,6 +76,7 @@ impl Shot {
                 format!("start from={from:x} to={to:x} levels={levels:x?}\n")
             }
             Shot::Walk(walk) => format!("{walk:x?}\n"),
+            Shot::Show(virt) => format!("show_translate virt={virt:x}\n"),
             Shot::Search(size) => format!("find_free_region size={size:x}\n"),
         }
     }
@@ -78,7 +84,7 @@ impl Shot {
     /// The levels of the board that it is made on, or makes.
     fn levels(&self, board: &Board) -> u64 {
         match self {
-            Shot::Call(_) | Shot::Search(_) => board.frames().levels,
+            Shot::Call(_) | Shot::Show(_) | Shot::Search(_) => board.frames().levels,
             Shot::Init(..) | Shot::Start(_, _, None) => LEVELS,
             Shot::Start(_, _, Some(levels)) => *levels,
             Shot::Walk(walk) => walk.levels,
@@ -106,7 +112,7 @@ pub fn round(random: &mut Random, kind: Kind, seen: &mut Seen) -> Result<u64, St
 
 /// Mostly calls drawn to what stood before the change, and releases of what is listed now.
 fn draw(random: &mut Random, base: &Base, port: &Port) -> Shot {
-    match random.below(21) {
+    match random.below(23) {
         0 => Shot::Init(memory(random).0, memory(random).1),
         1 => {
             let (from, to) = memory(random);
@@ -120,7 +126,8 @@ fn draw(random: &mut Random, base: &Base, port: &Port) -> Shot {
             let few = random.one_of(&sizes);
             Shot::Search(random.one_of(&[few, any[0], any[1], any[2]]))
         }
-        4..=7 => listed(random, port).map_or_else(|| drawn(random, base), Shot::Call),
+        4 | 5 => Shot::Show(working::address(random, port)),
+        6..=9 => listed(random, port).map_or_else(|| drawn(random, base), Shot::Call),
         _ => drawn(random, base),
     }
 }
@@ -193,11 +200,8 @@ fn fire(port: &mut Port, shot: &Shot, seen: &mut Seen) -> Result<(), String> {
             (line, model.start(has_lengths(&before), from, to, levels.unwrap_or(LEVELS)))
         }
         Shot::Walk(lent) => return walk(port, model, lent, seen),
-        Shot::Search(size) => {
-            let (wanted, compared) = model.find_free_region(size);
-            let line = search(port, size, compared)?;
-            (line, wanted.map_or_else(Line::refused, Line::met))
-        }
+        Shot::Show(virt) => working::show(&port.words, port.frames(), &mut model, virt, seen)?,
+        Shot::Search(size) => search(port, &model, size)?,
     };
     *seen.numbers.entry((shot.name(), line.number)).or_default() += 1;
     let on_five = shot.levels(&before) == MOST_LEVELS;
@@ -217,34 +221,54 @@ fn fire(port: &mut Port, shot: &Shot, seen: &mut Seen) -> Result<(), String> {
     seen.walked_five += u64::from(on_five && table::walks(shot.name()) && line.number != 10);
     compare(port, &before, &model)?;
     match *shot {
-        Shot::Call(Call::Counts) => equal(port::counts(port), model.counts()),
-        Shot::Call(Call::Translate { addr }) => {
-            equal(port::user_may(port, addr), model.user_may(addr))
+        Shot::Call(call) => ask(port, &mut model, &call, line, seen),
+        _ => Ok(()),
+    }
+}
+
+/// The questions beside a call: the three counts, and of an address that was translated its working and what
+/// user code may.
+fn ask(
+    port: &Port,
+    model: &mut Model,
+    call: &Call,
+    line: Line,
+    seen: &mut Seen,
+) -> Result<(), String> {
+    match *call {
+        Call::Counts => equal(port::counts(port), model.counts()),
+        Call::Translate { addr } => {
+            equal(port::user_may(port, addr), model.user_may(addr))?;
+            let shown = working::show(&port.words, port.frames(), model, addr, seen)?;
+            equal(shown, (line, line))
         }
         _ => Ok(()),
     }
 }
 
-/// The search, with the number of regions that it is to have compared, if it runs.
-fn search(port: &Port, size: u64, wanted: Option<u64>) -> Result<Line, String> {
+/// The search and the model's answer. Both have compared as many regions; where it does not run, the number
+/// stays.
+fn search(port: &Port, model: &Model, size: u64) -> Result<(Line, Line), String> {
     let old = u64::MAX;
     let mut compared = old;
     let line = gadulnos::find_free_region(&port.user, size, &mut compared);
-    equal(compared, wanted.unwrap_or(old))?;
-    Ok(line)
+    let (wanted, counted) = model.find_free_region(size);
+    equal(compared, counted.unwrap_or(old))?;
+    Ok((line, wanted.map_or_else(Line::refused, Line::met)))
 }
 
-/// translate, the user question and unmap_page on any numbers.
+/// translate and its working, the user question and unmap_page on any numbers.
 fn walk(port: &mut Port, mut model: Model, lent: Walk, seen: &mut Seen) -> Result<(), String> {
     let Walk { start, total, levels, root, virt } = lent;
-    model.frames = Some(Frames { start_frame: start, total, allocated: 0, levels });
+    let frames = Frames { start_frame: start, total, allocated: 0, levels };
+    model.frames = Some(frames);
     model.root = root;
     let words = &mut port.words;
     let may = [false, true]
         .map(|write| gadulnos::user_may(words, start, total, levels, root, virt, write));
     equal(may, model.user_may(virt))?;
-    let line = gadulnos::translate(words, start, total, levels, root, virt);
-    equal(line, model.play(&Call::Translate { addr: virt }))?;
+    let (line, wanted) = working::show(words, frames, &mut model, virt, seen)?;
+    equal(line, wanted)?;
     let known = if (LEVELS..=MOST_LEVELS).contains(&levels) { levels } else { 0 };
     *seen.walks.entry((known, line.number)).or_default() += 1;
     let line = gadulnos::unmap_page(words, start, total, levels, root, virt);

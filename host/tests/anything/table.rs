@@ -25,6 +25,8 @@ pub enum Arg {
     Table,
     /// A pointer to four indices, which are written.
     Indices,
+    /// A pointer to the 26 numbers of a working, which are written, whatever the answer.
+    Working,
     /// Parts that are read, and parts that may be written.
     Words,
     WordsMut,
@@ -50,7 +52,7 @@ impl Arg {
 
     /// Whether it is a pointer alone, to as many items as its type says.
     pub fn has_no_length(self) -> bool {
-        matches!(self, RootOut | Compared | Table | Indices | Bits | BitsMut)
+        matches!(self, RootOut | Compared | Table | Indices | Working | Bits | BitsMut)
     }
 }
 
@@ -148,6 +150,7 @@ rows! {
         gadulnos_allocated_frames(Fields, Bits) [10] [];
         gadulnos_total_frames(Fields, Bits) [10] [];
         gadulnos_translate(Words, Start, Total, Levels, Root, Number) [10 14 19] [];
+        gadulnos_show_translate(Words, Start, Total, Levels, Root, Number, Working) [] [10 14 19];
         gadulnos_user_may(Words, Start, Total, Levels, Root, Number, Flag) [10] [];
         gadulnos_map_page(WordsMut, FieldsMut, BitsMut, Root, Number, Number, Flag, Flag) [10] [11 12 19];
         gadulnos_map_huge_page(WordsMut, FieldsMut, BitsMut, Root, Number, Number, Flag, Flag, Flag)
@@ -249,7 +252,7 @@ pub fn check(report: &mut Report, seen: &Seen, rounds: u64) {
     let told = many.and_then(|()| holds(*walked_five > 0, "a call that walks five levels"));
     report.check(&format!("anything: {walked_five} of them walked five levels"), told);
     if rounds >= 2000 {
-        let count = holds(calls.len() == 24, "all 24 kinds of calls");
+        let count = holds(calls.len() == 25, "all 25 kinds of calls");
         let every = count.and_then(|()| all(&seen.numbers, &calls));
         report.check("anything: every number of every call was met with", every);
         let on_five = calls.into_iter().filter(|call| walks(call)).chain(["start_levels"]);

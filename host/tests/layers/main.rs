@@ -1,6 +1,6 @@
 //! The compiled calls on numbers and on the frame record, and mmap's search, beside the original Rust, on
-//! limits and on random inputs; the walks on tables made by hand, of four and of five levels; examples on
-//! boards of five levels. All that is lent to them stands between guard pages.
+//! limits and on random inputs; the walks on tables made by hand, of four and of five levels, and their
+//! working; examples on boards of five levels. All that is lent to them stands between guard pages.
 //!
 //! Prints `ok NAME` or `FAILED NAME: why` for each check and ends with the two counts.
 //! Where a sequence of calls differs, the shortest one found is printed.
@@ -21,11 +21,13 @@ mod model;
 mod options;
 #[path = "../shared/port.rs"]
 mod port;
+mod reader;
 #[path = "../shared/report.rs"]
 mod report;
 mod rounding;
 mod search;
 mod walks;
+mod working;
 
 use options::Options;
 use report::Report;
@@ -41,6 +43,7 @@ fn main() {
     entries::check(&mut report, &options);
     frames::check(&mut report, &options);
     walks::check(&mut report, &options);
+    working::check(&mut report, &options);
     five::check(&mut report);
     differences::check(&mut report);
     search::check(&mut report, &options);

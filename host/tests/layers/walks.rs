@@ -1,10 +1,13 @@
 //! The calls that are lent the number of levels, on a chain of tables that leads to one page: which bits of
-//! an address they look at, on which level HUGE counts, and which numbers of levels they refuse.
+//! an address they look at, on which level HUGE counts, and which numbers of levels they refuse. The working
+//! of each translation is read again.
 
 use crate::guard::{Against, Guarded};
 use crate::options::Options;
+use crate::port;
+use crate::reader::{self, Tables};
 use crate::report::{equal_at, holds, Checked, Report};
-use gadulnos::{Line, LEVELS, MOST_LEVELS};
+use gadulnos::{Frames, Line, LEVELS, MOST_LEVELS};
 use paper::generate::Random;
 use paper::PAGE;
 
@@ -54,9 +57,18 @@ impl Chain {
         Chain { words, start, total, levels, root: start + table(levels), virt, frame, places }
     }
 
-    fn translate(&self, virt: u64) -> Line {
+    /// A translation. Its working has the same answer, and rows that give it.
+    fn translate(&self, virt: u64) -> Result<Line, String> {
         let Chain { words, start, total, levels, root, .. } = self;
-        gadulnos::translate(words, *start, *total, *levels, *root, virt)
+        let line = gadulnos::translate(words, *start, *total, *levels, *root, virt);
+        let frames = Frames { start_frame: *start, total: *total, allocated: 0, levels: *levels };
+        let (shown, working) = port::show_translate(words, frames, *root, virt);
+        equal_at("the working's answer", shown, line)?;
+        match line.number {
+            10 => reader::is_broken(line, &working)?,
+            _ => Tables { words, frames, root: *root }.read_again(virt, line, &working)?,
+        }
+        Ok(line)
     }
 
     fn user_may(&self, virt: u64) -> [Line; 2] {
@@ -99,7 +111,7 @@ fn each(
 fn bits(options: &Options) -> Checked {
     each(options, 40, |_, chain| {
         let (virt, page) = (chain.virt, chain.frame * PAGE);
-        equal_at(virt, chain.translate(virt), Line::met(page + virt % PAGE))?;
+        equal_at(virt, chain.translate(virt)?, Line::met(page + virt % PAGE))?;
         for bit in 0..64 {
             let other = virt ^ 1 << bit;
             let leads_elsewhere = (12..12 + 9 * chain.levels).contains(&bit);
@@ -107,7 +119,7 @@ fn bits(options: &Options) -> Checked {
                 true => (Line::refused(14), Line::met(0)),
                 false => (Line::met(page + other % PAGE), Line::met(1)),
             };
-            equal_at(other, chain.translate(other), wanted)?;
+            equal_at(other, chain.translate(other)?, wanted)?;
             equal_at(other, chain.user_may(other), [may; 2])?;
             if leads_elsewhere {
                 equal_at(other, chain.unmap(other), (wanted, true))?;
@@ -115,7 +127,7 @@ fn bits(options: &Options) -> Checked {
         }
         let alias = virt ^ u64::MAX << (12 + 9 * chain.levels);
         equal_at(alias, chain.unmap(alias), (Line::met(chain.frame), true))?;
-        equal_at(virt, chain.translate(virt), Line::refused(14))?;
+        equal_at(virt, chain.translate(virt)?, Line::refused(14))?;
         Ok(66)
     })
 }
@@ -133,7 +145,7 @@ fn huge(options: &Options) -> Checked {
                 2 => (large, 0),
                 _ => (page + virt % PAGE, 1),
             };
-            equal_at(level, chain.translate(virt), Line::met(wanted))?;
+            equal_at(level, chain.translate(virt)?, Line::met(wanted))?;
             equal_at(level, chain.user_may(virt), [Line::met(may); 2])?;
             let leaf = chain.words[chain.places[0]];
             equal_at(level, chain.unmap(virt), (Line::met(chain.frame), true))?;
@@ -156,7 +168,7 @@ fn ends(options: &Options) -> Checked {
                     continue;
                 }
                 chain.words[place] = other;
-                equal_at((level, other), chain.translate(chain.virt), Line::refused(number))?;
+                equal_at((level, other), chain.translate(chain.virt)?, Line::refused(number))?;
                 equal_at((level, other), chain.user_may(chain.virt), [Line::met(0); 2])?;
                 equal_at((level, other), chain.unmap(chain.virt), (Line::refused(number), true))?;
             }
@@ -173,7 +185,7 @@ fn other_levels(options: &Options) -> Checked {
         let any = [random.word() | 8, known << 8, known | 1 << 32, known | 1 << 63, u64::MAX];
         for levels in (0..LEVELS).chain([6, 7, 8, 12]).chain(any) {
             chain.levels = levels;
-            equal_at(levels, chain.translate(chain.virt), Line::refused(10))?;
+            equal_at(levels, chain.translate(chain.virt)?, Line::refused(10))?;
             equal_at(levels, chain.user_may(chain.virt), [Line::refused(10); 2])?;
             equal_at(levels, chain.unmap(chain.virt), (Line::refused(10), true))?;
         }

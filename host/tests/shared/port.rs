@@ -3,12 +3,18 @@
 #![allow(dead_code)] // no program uses all of it
 
 use crate::guard::{self, Against, Guarded, GuardedArray};
-use gadulnos::{Board, Frames, Kernel, Line, Marked, User, BITMAP_BYTES};
+use gadulnos::{Board, Frames, Kernel, Line, Marked, User, BITMAP_BYTES, SHOWN_NUMBERS};
 use paper::call::{user, writable, Call};
 use paper::generate::Random;
 use paper::state::{Region, Slot, State, SLOTS};
 
 pub type Port = Board<Guarded<u64>, Guarded<u8>, GuardedArray<u8, BITMAP_BYTES>>;
+
+/// The numbers that a translation's working is.
+pub type Working = [u64; SHOWN_NUMBERS];
+
+/// What they hold before a call.
+const OLD: u64 = 0xA5A5_A5A5_A5A5_A5A5;
 
 /// A copy of lent parts between guards.
 pub fn guarded(board: &Board, against: Against) -> Port {
@@ -112,6 +118,14 @@ pub fn counts(port: &Port) -> [Line; 3] {
 /// Whether user code may read an address, and write it.
 pub fn user_may(port: &Port, virt: u64) -> [Line; 2] {
     [false, true].map(|write| port.user_may(virt, write))
+}
+
+/// A translation on lent words and numbers, and its working, which is written between guards.
+pub fn show_translate(words: &[u64], frames: Frames, root: u64, virt: u64) -> (Line, Working) {
+    let Frames { start_frame, total, levels, .. } = frames;
+    let mut out = GuardedArray::copy(&[OLD; SHOWN_NUMBERS], Against::Behind);
+    let line = gadulnos::show_translate(words, start_frame, total, levels, root, virt, &mut out);
+    (line, *out)
 }
 
 /// The state that the parts stand for, or which part stands for none, has too large a count, or has

@@ -11,7 +11,7 @@ use Rattle.bits.proofs.Choice.{both-false}
 use Rattle.frame.specs.Frames.{inside}
 use Rattle.frame.proofs.Laws.{passed, failed}
 use Rattle.walk.proofs.Laws.{shifted}
-use Rattle.paging.proofs.Working.{Names, verdict-absent, verdict-last, verdict-large, verdict-followed, verdict-outside}
+use Rattle.paging.proofs.Working.{NamesTable, verdict-absent, verdict-last, verdict-large, verdict-followed, verdict-outside}
 use Rattle.working.proofs.entry_verdict.Statement.{statement}
 use Rattle.working.proofs.entry_verdict.Tie as tie
 
@@ -43,7 +43,7 @@ is-inside-requires : tie.Need-is-inside-requires
 is-inside-requires c κs = c .before .before .before .before .before .before .pre
 
 -- it names a table
-named : (c : tie.After-struct-known) → let a = c .before .before .before .before .before .before .args in Names (a .below) (a .e .0)
+named : (c : tie.After-struct-known) → let a = c .before .before .before .before .before .before .args in NamesTable (a .below) (a .e .0)
 named c =
     let j = c .before .before in
     let a = j .before .before .before .before .args in (

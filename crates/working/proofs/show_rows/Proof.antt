@@ -1,39 +1,36 @@
--- `show_rows`: the loop writes a row at each turn. The invariant is `Turn`.
+-- `show_rows`: the loop writes a row at each turn. The invariant is `Written`.
 use Prim.Native.Nat.{_<_, _≤_}
 use mathlib.Core.Path.{_∙_, ap}
 use native.Mathlib.Omega.{arith}
 use lib.ListN.{length}
 use borrow.Author.Needs.{needs}
-use Rattle.frame.proofs.Laws.{passed, failed}
 use Rattle.address.specs.Address.{asPhys}
+use Rattle.frame.proofs.Laws.{passed, failed}
 use Rattle.paging.specs.declared.Leaf.{Leaf}
 use Rattle.paging.specs.Walk.{address}
 use Rattle.paging.proofs.Walk.{place-lent}
 use Rattle.walk.proofs.Laws.{place-asks, shifted}
-use Rattle.working.proofs.Rows.{Turn, turn-first, turn-end, turn-on}
+use Rattle.working.proofs.Rows.{Written, written-none, end-answer, end-numbers, written-more}
 use Rattle.working.proofs.show_rows.Statement.{statement}
 use Rattle.working.proofs.show_rows.Tie as tie
 
 abbrev Inv-loop : tie.InvT-loop
-Inv-loop words start total levels virt rows₀ t₀ level₀ at₀ rows t level at = Turn words start total t₀ (virt .0) levels rows t level at
+Inv-loop words start total levels virt out₀ t₀ level₀ at₀ out t level at = Written words start total t₀ (virt .0) levels out t level at
 
 abbrev μ-loop : tie.MeasureT-loop
-μ-loop words start total levels virt rows₀ t₀ level₀ at₀ rows t level at = level
-
-no-rows-requires : tie.Need-no-rows-requires Inv-loop μ-loop
-no-rows-requires c κs = search needs
+μ-loop words start total levels virt out₀ t₀ level₀ at₀ out t level at = level
 
 loop-holds : tie.Need-loop-holds Inv-loop μ-loop
 loop-holds c =
-    let s = c .before .before in
-    turn-first (s .args .words .now) (s .args .start) (s .args .total) (s .args .root .0) (s .args .virt .0) (s .args .levels) _ (c .no-rows .ensures) (s .pre .1 .1 .1) (s .pre .1 .0)
+    let s = c .before in
+    written-none (s .args .words .now) (s .args .start) (s .args .total) (s .args .root .0) (s .args .virt .0) (s .args .levels) _ (s .pre .1 .1 .1 .1) (s .pre .1 .1 .1 .0) (s .pre .1 .0)
 
 sub-page-index : tie.Need-sub-page-index Inv-loop μ-loop
 sub-page-index c = c .before .loop .inv .some
 
 -- at most five levels
-few : (l : tie.At-loop Inv-loop μ-loop) → l .before .before .before .args .levels ≤ 5
-few l = l .before .before .before .pre .1 .1 .0
+few : (l : tie.At-loop Inv-loop μ-loop) → l .before .before .args .levels ≤ 5
+few l = l .before .before .pre .1 .1 .0
 
 page-index-requires : tie.Need-page-index-requires Inv-loop μ-loop
 page-index-requires c κs = let l = c .before in omega (arith, l .loop .inv .sum, few l)
@@ -41,14 +38,14 @@ page-index-requires c κs = let l = c .before in omega (arith, l .loop .inv .sum
 entry-place-requires : tie.Need-entry-place-requires Inv-loop μ-loop
 entry-place-requires c κs =
     let l = c .before .before in
-    let s = l .before .before .before in
+    let s = l .before .before in
     place-asks (s .args .start) (s .args .total) (l .loop .t) (c .page-index .result) (s .pre .0 .few) (l .loop .inv .lent) (c .page-index .ensures .1)
 
 -- the entry is a lent word
-under : (c : tie.After-entry-place Inv-loop μ-loop) → c .entry-place .result < length (c .before .before .before .before .before .before .args .words .now)
+under : (c : tie.After-entry-place Inv-loop μ-loop) → c .entry-place .result < length (c .before .before .before .before .before .args .words .now)
 under c =
     let l = c .before .before .before in
-    let s = l .before .before .before in
+    let s = l .before .before in
     rw (c .entry-place .ensures) (place-lent _ _ (s .pre .0) (l .loop .inv .lent) (c .before .page-index .ensures .1))
 
 mul-e : tie.Need-mul-e Inv-loop μ-loop
@@ -61,16 +58,19 @@ sub-entry-verdict : tie.Need-sub-entry-verdict Inv-loop μ-loop
 sub-entry-verdict c = c .before .before .before .before .loop .inv .some
 
 entry-verdict-requires : tie.Need-entry-verdict-requires Inv-loop μ-loop
-entry-verdict-requires c κs = let s = c .before .before .before .before .before .before .before in omega (arith, s .pre .0 .low)
+entry-verdict-requires c κs = let s = c .before .before .before .before .before .before in omega (arith, s .pre .0 .low)
 
-mul-rows : tie.Need-mul-rows Inv-loop μ-loop
-mul-rows c = let l = c .before .before .before .before .before in omega (arith, l .loop .inv .sum, few l)
-
-array-set-from-rows : tie.Need-array-set-from-rows Inv-loop μ-loop
-array-set-from-rows c = let l = c .before .before .before .before .before in omega (arith, l .loop .inv .sum, l .loop .inv .some, few l)
+put-row-requires : tie.Need-put-row-requires Inv-loop μ-loop
+put-row-requires c κs = let l = c .before .before .before .before .before .before in omega (arith, l .loop .inv .sum, l .loop .inv .some, few l)
 
 goes-on-requires : tie.Need-goes-on-requires Inv-loop μ-loop
 goes-on-requires c κs = search needs
+
+add-out : tie.Need-add-out Inv-loop μ-loop
+add-out c = let l = c .before .before .before .before .before .before .before .before .before in omega (arith, l .loop .inv .sum, few l)
+
+element-write-out : tie.Need-element-write-out Inv-loop μ-loop
+element-write-out c = search needs
 
 leaf-by-requires : tie.Need-leaf-by-requires Inv-loop μ-loop
 leaf-by-requires c κs = search needs
@@ -78,37 +78,39 @@ leaf-by-requires c κs = search needs
 phys-at-requires : tie.Need-phys-at-requires Inv-loop μ-loop
 phys-at-requires c κs = search needs
 
-add-t29 : tie.Need-add-t29 Inv-loop μ-loop
-add-t29 c = let l = c .before .before .before .before .before .before .before .before .before in omega (arith, l .loop .inv .sum, few l)
-
 returns : tie.Need-returns Inv-loop μ-loop
 returns c =
-    let v = c .before .before .before .before in
+    let g = c .before .before .before in
+    let v = g .before .before .before in
     let p = v .before .before in
     let l = p .before .before .before in
-    turn-end (l .loop .inv) (few l) (p .before .page-index .ensures .0) (p .entry-place .ensures) (v .entry-verdict .ensures)
-    (failed (c .before .before .before .goes-on .ensures) (c .before .before .if1 .taken))
-    (c .phys-at .ensures ∙ ap (λ (e : Leaf). asPhys (address (l .before .before .before .args .virt .0) e)) (c .before .leaf-by .ensures))
+    let end = failed (g .goes-on .ensures) (c .before .before .if1 .taken) in (
+      c .phys-at .ensures
+          ∙ ap (λ (e : Leaf). asPhys (address (l .before .before .args .virt .0) e)) (c .before .leaf-by .ensures
+          ∙ end-answer (l .loop .inv) (few l) (p .before .page-index .ensures .0) (p .entry-place .ensures) (v .entry-verdict .ensures) (g .before .put-row .ensures) end),
+      end-numbers (l .loop .inv) (few l) (p .before .page-index .ensures .0) (p .entry-place .ensures) (v .entry-verdict .ensures) (g .before .put-row .ensures) end,
+    )
 
 addr-requires : tie.Need-addr-requires Inv-loop μ-loop
 addr-requires c κs = search needs
 
 add-at : tie.Need-add-at Inv-loop μ-loop
-add-at c = let l = c .before .before .before .before .before .before .before .before .before in omega (arith, l .loop .inv .sum, few l)
+add-at c = let l = c .before .before .before .before .before .before .before .before .before .before .before in omega (arith, l .loop .inv .sum, few l)
 
 sub-level : tie.Need-sub-level Inv-loop μ-loop
-sub-level c = let l = c .before .before .before .before .before .before .before .before .before in l .loop .inv .some
+sub-level c = let l = c .before .before .before .before .before .before .before .before .before .before .before in l .loop .inv .some
 
 loop-less : tie.Need-loop-less Inv-loop μ-loop
-loop-less c = let l = c .before .before .before .before .before .before .before .before .before in omega (arith, l .loop .inv .some)
+loop-less c = let l = c .before .before .before .before .before .before .before .before .before .before .before in omega (arith, l .loop .inv .some)
 
 loop-again : tie.Need-loop-again Inv-loop μ-loop
 loop-again c =
-    let v = c .before .before .before .before in
+    let g = c .before .before .before in
+    let v = g .before .before .before in
     let p = v .before .before in
     let l = p .before .before .before in
-    turn-on (l .loop .inv) (few l) (p .before .page-index .ensures .0) (p .entry-place .ensures) (v .entry-verdict .ensures)
-    (passed (c .before .before .before .goes-on .ensures) (c .before .before .if1 .left)) (shifted _ (c .before .addr .ensures))
+    written-more (l .loop .inv) (few l) (p .before .page-index .ensures .0) (p .entry-place .ensures) (v .entry-verdict .ensures) (g .before .put-row .ensures)
+    (passed (g .goes-on .ensures) (c .before .before .if1 .left)) (shifted _ (c .before .addr .ensures))
 
 returns-2 : tie.Need-returns-2 Inv-loop μ-loop
 returns-2 c = absurd (omega (arith, c .before .loop .inv .some, c .loop-test .left))
@@ -119,7 +121,6 @@ show-rows-spec =
     (tie.spec
     Inv-loop
     μ-loop
-    no-rows-requires
     loop-holds
     sub-page-index
     page-index-requires
@@ -128,12 +129,12 @@ show-rows-spec =
     shared-slice-read-e
     sub-entry-verdict
     entry-verdict-requires
-    mul-rows
-    array-set-from-rows
+    put-row-requires
     goes-on-requires
+    add-out
+    element-write-out
     leaf-by-requires
     phys-at-requires
-    add-t29
     returns
     addr-requires
     add-at

@@ -146,7 +146,7 @@ impl Memory<'_> {
     }
 
     pub fn translate(&self, virt: u64) -> Answer {
-        let (leaf, is_huge) = self.leaf(virt)?;
+        let (leaf, is_huge) = self.leaf(virt, &mut Vec::new())?;
         let low = if is_huge { 21 } else { 12 };
         Ok((leaf & ADDR_MASK) + virt % (1 << low))
     }
@@ -154,14 +154,18 @@ impl Memory<'_> {
     /// Whether user code may, by these bits of a page's entry: 'no where nothing translates' or a HUGE
     /// entry of the last level but one does.
     pub fn user_may(&self, virt: u64, bits: u64) -> bool {
-        self.leaf(virt).map_or(false, |(leaf, is_huge)| !is_huge && leaf & bits == bits)
+        let leaf = self.leaf(virt, &mut Vec::new());
+        leaf.map_or(false, |(leaf, is_huge)| !is_huge && leaf & bits == bits)
     }
 
-    /// The entry that a translation ends at, and whether it is a HUGE one of the last level but one.
-    fn leaf(&self, virt: u64) -> Result<(u64, bool), u64> {
+    /// The entry that a translation ends at, and whether it is a HUGE one of the last level but one. What it
+    /// reads on the way is noted: level, table, index and word.
+    pub fn leaf(&self, virt: u64, reads: &mut Vec<[u64; 4]>) -> Result<(u64, bool), u64> {
         let mut table = self.root;
         for level in (LAST_LEVEL..=self.frames.levels).rev() {
-            let word = self.words[self.place(table, index(virt, level))?];
+            let index = index(virt, level);
+            let word = self.words[self.place(table, index)?];
+            reads.push([level, table, index as u64, word]);
             if word & PRESENT == 0 {
                 return Err(14);
             }

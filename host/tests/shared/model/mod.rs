@@ -1,12 +1,13 @@
 //! Document 01, written a second time and in the plainest way, on copies of what is lent, for boards of
 //! four and of five levels: the frame record has their number. It knows also what lies outside the domain
-//! of equality: 10, 19, 20 and the leftovers.
+//! of equality: 10, 19, 20 and the leftovers, and the working of a translation (document 02).
 
 #![allow(dead_code)] // no program uses all of it
 
 mod faults;
 mod memory;
 mod regions;
+mod working;
 
 use gadulnos::{Bitmap, Board, Frames, Kernel, Line, Marked, Marks, User, SLOTS};
 use memory::Memory;

@@ -3,10 +3,10 @@ use Prim.Native.Nat.{_+_, _*_}
 use mathlib.Core.Path.{_∙_, ap}
 use mathlib.Core.List.{[], _∷_}
 use lib.Seq.{sets}
-use Rattle.desk_memory.proofs.RowNumbers.{five-stores}
+use Rattle.working.proofs.RowNumbers.{five-stores}
 use borrow.Author.Needs.{needs}
-use Rattle.desk_memory.proofs.rows.put_row.Statement.{statement}
-use Rattle.desk_memory.proofs.rows.put_row.Tie as tie
+use Rattle.working.proofs.put_row.Statement.{statement}
+use Rattle.working.proofs.put_row.Tie as tie
 
 mul-at : tie.Need-mul-at
 mul-at c = search needs

@@ -1,13 +1,10 @@
--- The working of a translation as numbers: the count, then five numbers for each of the five rows.
-use Prim.Native.Nat.{ℕ}
+-- The working of a translation as numbers, as code hands it back: the count, then five numbers a row, then 0 up to the room of five rows.
+use Prim.Native.Nat.{ℕ, _-_, _*_}
 use mathlib.Core.List.{List, [], _∷_, _++_}
-use Rattle.address.specs.Address.{physLine}
+use lib.ListN.{length, replicate}
 use Rattle.paging.specs.declared.Verdict.{Verdict}
 use Rattle.paging.specs.declared.Verdict.the-variants.{Absent, Outside, Followed, LargePage, Last}
 use Rattle.paging.specs.declared.Row.{Row}
-use Rattle.paging.specs.declared.Shown.{Shown}
-use Rattle.paging.specs.Working.{showTranslate, shown}
-use Rattle.layout.specs.Left.{Left, left}
 
 -- 'absent, outside, followed, large page .. or last'
 abbrev pub verdictNumber : Verdict → ℕ
@@ -25,11 +22,5 @@ unfoldable pub rowsNumbers : List Row → List ℕ
 rowsNumbers [] = []
 rowsNumbers (r ∷ rs) = rowNumbers r ++ rowsNumbers rs
 
-abbrev pub shownNumbers : Shown → List ℕ
-shownNumbers s = s .count ∷ rowsNumbers (s .rows)
-
--- the line is translate's; all numbers are written, whatever stood there
-abbrev pub leftShow : List ℕ → ℕ → ℕ → ℕ → ℕ → ℕ → Left (List ℕ)
-leftShow words start total levels root virt =
-    let s = shown (showTranslate levels words start total root virt) in
-    left (physLine (s .answer)) (shownNumbers s)
+abbrev pub shownNumbers : List Row → List ℕ
+shownNumbers rows = length rows ∷ (rowsNumbers rows ++ replicate (25 - length rows * 5) 0)
