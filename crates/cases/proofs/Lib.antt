@@ -1,1 +1,4 @@
 pub mod KeyCases
+pub mod Entered
+pub mod Mapped
+pub mod UserCase

@@ -1,1 +1,2 @@
 pub mod KeyCases
+pub mod UserCase

@@ -11,8 +11,9 @@ use Rattle.frame.specs.Frames.{Frames, FramesDid, init, isAllocated, markAlloca
 use Rattle.paging.specs.declared.HugePageSize.{HugePageSize}
 use Rattle.paging.specs.declared.HugePageSize.the-variants.{Size2MB, Size1GB}
 use Rattle.paging.specs.Map.{Memory}
-use Rattle.paging.specs.Calls.{translate, userMay, mapPageOf, mapHugeOf, unmapPage}
+use Rattle.paging.specs.Calls.{translate, mapPageOf, mapHugeOf, unmapPage}
 use Rattle.paging.specs.Working.{showTranslate}
+use Rattle.paging.specs.User.{userMay}
 use Rattle.working.specs.Rows.{shownNumbers}
 use Rattle.layout.specs.Parts.{framesIn, fieldsFit, fieldsOut}
 use Rattle.layout.specs.Left.{Left, left, brokenLine, unlessFit}

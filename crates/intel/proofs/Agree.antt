@@ -1,4 +1,4 @@
--- The statements of specs/Agreement.antt hold, but for the last, which is in Entries.antt.
+-- The statements of specs/Agreement.antt hold, but for the last two, which are in Entries.antt and Rights.antt.
 use Prim.Native.Nat.{ℕ, zero, suc, _+_, _-_, _*_, _%_, _^_, _<_}
 use mathlib.Core.Path.{_≡_, refl, sym, _∙_, ap}
 use mathlib.Core.Bool.{Bool, true, false, true≢false}

@@ -12,7 +12,7 @@ use Rattle.entry.specs.Entry.{frameOf, index, indices}
 use Rattle.frame.specs.Frames.{inside, isLevels}
 use Rattle.answer.specs.declared.Outcome.the-variants.{Value, Stop}
 use Rattle.paging.specs.Walk.{place, entryAt, judge, leaf, address, mayWalk}
-use Rattle.paging.specs.Calls.{translate}
+use Rattle.paging.specs.Calls.{lentWalk, translate}
 use Rattle.paging.proofs.Walk.{no-value, present-yes, present-no, entry-out, entry-in, leaf-stop, leaf-on}
 use Rattle.paging.proofs.Calls.{walk-by-lent, translate-is}
 use Rattle.intel.specs.Sdm.{Paging, fourLevel, fiveLevel, bits, Memory, choose, p, ps, tableOf, reading, readPte, readPde, readPdpte, readPml4e, readPml5e, readCr3, entriesRead}
@@ -23,18 +23,22 @@ use Rattle.intel.proofs.Steps.{not-outside, judge-plain, plain-here, pl
 pub same-table : (e : ℕ) → tableOf e ≡ frameOf e
 same-table e = omega arith
 
--- the walk that a translation is, on a record that is not broken: both numbers of levels are a board's
-pub walk-is : (paging : Paging) (ws : List ℕ) (start total root v : ℕ) → mayWalk (length ws) start total root ≡ true
-    → translate (pagingLevels paging) ws start total root v ≡ address v (leaf ws start total root (indices (pagingLevels paging) v))
-walk-is paging ws start total root v h =
-    translate-is (pagingLevels paging) ws start total root v (walk-by-lent (pagingLevels paging) (length ws) start total root (known paging) ∙ h)
+-- a record that is not broken may be walked: both numbers of levels are a board's
+pub lent-is : (paging : Paging) (ws : List ℕ) (start total root : ℕ) → mayWalk (length ws) start total root ≡ true
+    → lentWalk (pagingLevels paging) (length ws) start total root ≡ true
+lent-is paging ws start total root h = walk-by-lent (pagingLevels paging) (length ws) start total root (known paging) ∙ h
   where
     known : (p : Paging) → isLevels (pagingLevels p) ≡ true
     known fourLevel = refl
     known fiveLevel = refl
 
+-- the walk that a translation is there
+pub walk-is : (paging : Paging) (ws : List ℕ) (start total root v : ℕ) → mayWalk (length ws) start total root ≡ true
+    → translate (pagingLevels paging) ws start total root v ≡ address v (leaf ws start total root (indices (pagingLevels paging) v))
+walk-is paging ws start total root v h = translate-is (pagingLevels paging) ws start total root v (lent-is paging ws start total root h)
+
 -- the address of entry i of table t
-abbrev at : ℕ → ℕ → ℕ
+abbrev pub at : ℕ → ℕ → ℕ
 at t i = t * 2 ^ 12 + i * 2 ^ 3
 
 module _ (mem : Memory) (ws : List ℕ) (start total v : ℕ) (holds : Holds mem ws start total) where

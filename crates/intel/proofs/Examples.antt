@@ -1,9 +1,9 @@
--- The statements of specs/Agreement.antt are not empty. Any lent words can stand in physical memory, and words without bit 7 have no HUGE entry. The canonical addresses are
--- the lowest and the highest 2^47 with four levels, 2^56 with five. On a board of one frame, of either kind, both sides map an address, to the same one, and both find
--- another absent.
+-- The statements of specs/Agreement.antt are not empty. Any lent words can stand in physical memory, and words without bit 7 have no HUGE entry. The canonical addresses
+-- are the lowest and the highest 2^47 with four levels, 2^56 with five. On a board of one frame, of either kind, both sides map an address, to the same one, and both find
+-- another absent; by the flags of its entry the user may write the page, only read it, or neither.
 use Prim.Native.Nat.{ℕ, zero, suc, _+_, _-_, _*_, _/_, _%_, _^_, _<_, _≤_}
-use mathlib.Core.Path.{_≡_, refl, sym, ap₂, subst}
-use mathlib.Core.Bool.{Bool, true, false}
+use mathlib.Core.Path.{_≡_, refl, sym, _∙_, ap₂, subst}
+use mathlib.Core.Bool.{Bool, true, false, false≢true}
 use mathlib.Core.List.{List, [], _∷_}
 use mathlib.Core.Logic.{_⊎_, inl, inr, ⊎-elim}
 use native.Mathlib.Omega.{arith}
@@ -11,16 +11,23 @@ use lib.Dec.{eqb}
 use lib.ListN.{getD, replicate}
 use borrow.Author.Tests.{eqb-true, eq-eqb, ne-eqb}
 use Rattle.bits.specs.Bit.{flag}
+use Rattle.answer.specs.Numbers.{outside}
 use Rattle.entry.specs.Entry.{entryOf}
 use Rattle.answer.specs.declared.Outcome.{Outcome}
-use Rattle.answer.specs.declared.Outcome.the-variants.{Value}
+use Rattle.answer.specs.declared.Outcome.the-variants.{Value, Stop}
+use Rattle.answer.specs.declared.FlagAnswer.the-variants.{Flag}
 use Rattle.paging.specs.Walk.{place, present, entryAt, leaf, mayWalk}
 use Rattle.paging.specs.Calls.{lentWalk, translate}
+use Rattle.paging.specs.Working.{verdictOf, rowsBelow}
+use Rattle.paging.specs.User.{userRows, userMay}
 use Rattle.paging.proofs.Walk.{no-value}
-use Rattle.intel.specs.Sdm.{Paging, fourLevel, fiveLevel, bits, Memory, physical, notPresent, notCanonical, widthOf, or, canonical, linear, readPte, readPde, readPdpte, readPml4e, readPml5e, entriesRead}
+use Rattle.intel.specs.Sdm.{Paging, fourLevel, fiveLevel, bits, Memory, physical, notPresent, notCanonical, widthOf, or, canonical, linear}
+use Rattle.intel.specs.Sdm.{throughPte, throughPde, throughPdpte, throughPml4e, throughPml5e, readPte, readPde, readPdpte, readPml4e, readPml5e, entriesRead}
+use Rattle.intel.specs.Sdm.{Access, dataRead, dataWrite, Accessed, permitted, pageFault, generalProtection, largePage, userAccess}
 use Rattle.intel.proofs.Steps.{not-outside, entry-outcomes}
-use Rattle.intel.specs.Agreement.{pagingLevels, Holds, NoHuge, Setting}
+use Rattle.intel.specs.Agreement.{pagingLevels, Holds, NoHuge, isWrite, isPermitted, Setting}
 use Rattle.intel.proofs.Agree.{same-pages, same-absent}
+use Rattle.intel.proofs.Rights.{user-agrees}
 
 -- a physical memory that holds the words from frame `start` on
 abbrev pub memoryOf : List ℕ → ℕ → Memory
@@ -69,32 +76,46 @@ canonical-high fiveLevel v l h = rw (ne-eqb (bits 63 56 v) 0 (λ e. omega arith)
 
 -- ---- a board of one frame, 0x100, which is its own table at every level: entry 0 names the frame itself
 
+-- its words, by WRITABLE and USER of that entry
+abbrev wordsOf : Bool → Bool → List ℕ
+wordsOf w u = entryOf 0x10_0000 w u ∷ replicate 511 0
+
+-- a supervisor's
 abbrev words : List ℕ
-words = entryOf 0x10_0000 true false ∷ replicate 511 0
+words = wordsOf true false
 
 alike : (n i a : ℕ) → getD (replicate n a) i a ≡ a
 alike zero i a = refl
 alike (suc n) zero a = refl
 alike (suc n) (suc i) a = alike n i a
 
-words-plain : (n : ℕ) → flag 7 (getD words n 0) ≡ false
-words-plain zero = refl
-words-plain (suc n) = rw (alike 511 n 0)
+words-plain : (w u : Bool) (n : ℕ) → flag 7 (getD (wordsOf w u) n 0) ≡ false
+words-plain true true zero = refl
+words-plain true false zero = refl
+words-plain false true zero = refl
+words-plain false false zero = refl
+words-plain w u (suc n) = rw (alike 511 n 0)
 
-setting : (paging : Paging) (v : ℕ) → canonical (widthOf paging) v ≡ true → Setting paging (memoryOf words 0x100) 0x10_0000 words 0x100 1 0x100 v
+setting : (w u : Bool) (paging : Paging) (v : ℕ) → canonical (widthOf paging) v ≡ true
+    → Setting paging (memoryOf (wordsOf w u) 0x100) 0x10_0000 (wordsOf w u) 0x100 1 0x100 v
 unfolding mayWalk
-setting paging v h =
-    record { whole = refl; base = refl; holds = memory-holds words 0x100 1; noHuge = no-bit-7 words 0x100 1 (pagingLevels paging - 1) 0x100 words-plain; form = h }
+setting w u paging v h = record {
+  whole = refl;
+  base = refl;
+  holds = memory-holds (wordsOf w u) 0x100 1;
+  noHuge = no-bit-7 (wordsOf w u) 0x100 1 (pagingLevels paging - 1) 0x100 (words-plain w u);
+  form = h;
+}
 
 pub mapped : (paging : Paging) → linear paging (memoryOf words 0x100) 0x10_0000 0x123 ≡ physical 0x10_0123
 unfolding translate lentWalk leaf entryAt present mayWalk
-mapped fourLevel = same-pages fourLevel _ _ _ _ _ _ _ (setting fourLevel 0x123 refl) no-value 0x10_0123 .0 refl
-mapped fiveLevel = same-pages fiveLevel _ _ _ _ _ _ _ (setting fiveLevel 0x123 refl) no-value 0x10_0123 .0 refl
+mapped fourLevel = same-pages fourLevel _ _ _ _ _ _ _ (setting true false fourLevel 0x123 refl) no-value 0x10_0123 .0 refl
+mapped fiveLevel = same-pages fiveLevel _ _ _ _ _ _ _ (setting true false fiveLevel 0x123 refl) no-value 0x10_0123 .0 refl
 
 pub absent : (paging : Paging) → linear paging (memoryOf words 0x100) 0x10_0000 0x1123 ≡ notPresent
 unfolding translate lentWalk leaf entryAt present mayWalk
-absent fourLevel = same-absent fourLevel _ _ _ _ _ _ _ (setting fourLevel 0x1123 refl) not-outside .0 refl
-absent fiveLevel = same-absent fiveLevel _ _ _ _ _ _ _ (setting fiveLevel 0x1123 refl) not-outside .0 refl
+absent fourLevel = same-absent fourLevel _ _ _ _ _ _ _ (setting true false fourLevel 0x1123 refl) not-outside .0 refl
+absent fiveLevel = same-absent fiveLevel _ _ _ _ _ _ _ (setting true false fiveLevel 0x1123 refl) not-outside .0 refl
 
 -- the entries that the first reads are one and the same, four times or five; the second's last is another one
 abbrev firsts : Paging → List ℕ → List ℕ
@@ -117,3 +138,50 @@ pub first-other :
     × (linear fourLevel (memoryOf words 0x100) 0x10_0000 (2 ^ 48) ≡ notCanonical)
 unfolding entriesRead readPml5e linear
 first-other = (refl, refl)
+
+-- ---- access rights of that page
+
+-- permitted where our answer is yes
+by-ours : (access : Access) (paging : Paging) (w u : Bool) → canonical (widthOf paging) 0x123 ≡ true
+    → (translate (pagingLevels paging) (wordsOf w u) 0x100 1 0x100 0x123 ≡ Stop outside → ⊥)
+    → userMay (pagingLevels paging) (wordsOf w u) 0x100 1 0x100 0x123 (isWrite access) ≡ Flag true
+    → userAccess access paging (memoryOf (wordsOf w u) 0x100) 0x10_0000 0x123 ≡ permitted
+by-ours access paging w u c stays ours =
+    let same : Flag true ≡ Flag (isPermitted (userAccess access paging (memoryOf (wordsOf w u) 0x100) 0x10_0000 0x123)) =
+    sym ours ∙ user-agrees access paging _ _ _ _ _ _ _ (setting w u paging 0x123 c) stays in
+    only (userAccess access paging (memoryOf (wordsOf w u) 0x100) 0x10_0000 0x123) cc
+  where
+    only : (x : Accessed) → isPermitted x ≡ true → x ≡ permitted
+    only permitted e = refl
+    only pageFault e = absurd (false≢true e)
+    only generalProtection e = absurd (false≢true e)
+    only largePage e = absurd (false≢true e)
+
+-- the user's, and writable
+pub writable : (access : Access) (paging : Paging) → userAccess access paging (memoryOf (wordsOf true true) 0x100) 0x10_0000 0x123 ≡ permitted
+unfolding translate lentWalk leaf entryAt present mayWalk userMay userRows rowsBelow verdictOf
+writable dataRead fourLevel = by-ours dataRead fourLevel true true refl no-value refl
+writable dataRead fiveLevel = by-ours dataRead fiveLevel true true refl no-value refl
+writable dataWrite fourLevel = by-ours dataWrite fourLevel true true refl no-value refl
+writable dataWrite fiveLevel = by-ours dataWrite fiveLevel true true refl no-value refl
+
+-- the user's, and not writable
+pub read-only : (paging : Paging) → let mem = memoryOf (wordsOf false true) 0x100 in
+    (userAccess dataRead paging mem 0x10_0000 0x123 ≡ permitted) × (userAccess dataWrite paging mem 0x10_0000 0x123 ≡ pageFault)
+unfolding userAccess linear throughPml5e throughPml4e throughPdpte throughPde throughPte entriesRead readPml5e readPml4e readPdpte readPde readPte
+read-only fourLevel = (refl, refl)
+read-only fiveLevel = (refl, refl)
+
+-- a supervisor's
+pub supervisor : (access : Access) (paging : Paging) → userAccess access paging (memoryOf words 0x100) 0x10_0000 0x123 ≡ pageFault
+unfolding userAccess linear throughPml5e throughPml4e throughPdpte throughPde throughPte entriesRead readPml5e readPml4e readPdpte readPde readPte
+supervisor dataRead fourLevel = refl
+supervisor dataRead fiveLevel = refl
+supervisor dataWrite fourLevel = refl
+supervisor dataWrite fiveLevel = refl
+
+-- and the next page, which no entry maps
+pub unmapped : (access : Access) (paging : Paging) → userAccess access paging (memoryOf (wordsOf true true) 0x100) 0x10_0000 0x1123 ≡ pageFault
+unfolding userAccess linear throughPml5e throughPml4e throughPdpte throughPde throughPte
+unmapped access fourLevel = refl
+unmapped access fiveLevel = refl

@@ -1,4 +1,5 @@
 pub mod Steps
 pub mod Entries
 pub mod Agree
+pub mod Rights
 pub mod Examples

@@ -1,9 +1,10 @@
 -- This project's `translate` is Intel's paging, 4-level on a board of four levels and 5-level on one of five: for canonical addresses, over tables with no HUGE entry,
--- while the walk stays in lent frames; and it leaves them exactly where the manual's translation reads an entry outside. The statements, with what they name;
--- proofs/Agree.antt and proofs/Entries.antt prove them, and proofs/Examples.antt shows that they are not empty.
+-- while the walk stays in lent frames; and it leaves them exactly where the manual's translation reads an entry outside. There the user question is the manual's access
+-- rights. The statements, with what they name; proofs/Agree.antt, proofs/Entries.antt and proofs/Rights.antt prove them, and proofs/Examples.antt shows that they are not
+-- empty.
 use Prim.Native.Nat.{ℕ, _+_, _-_, _*_, _/_, _^_, _<_}
 use mathlib.Core.Path.{_≡_}
-use mathlib.Core.Bool.{true, false}
+use mathlib.Core.Bool.{Bool, true, false}
 use mathlib.Core.List.{List, List·Memᴰ}
 use mathlib.Core.Logic.{_⊎_, _↔_}
 use lib.ListN.{length, getD, take}
@@ -13,9 +14,12 @@ use Rattle.entry.specs.Entry.{indices}
 use Rattle.frame.specs.Frames.{inside}
 use Rattle.answer.specs.declared.Outcome.{Outcome}
 use Rattle.answer.specs.declared.Outcome.the-variants.{Value, Stop}
+use Rattle.answer.specs.declared.FlagAnswer.the-variants.{Flag}
 use Rattle.paging.specs.Walk.{place, entryAt, reach, mayWalk}
 use Rattle.paging.specs.Calls.{translate}
+use Rattle.paging.specs.User.{userMay}
 use Rattle.intel.specs.Sdm.{Paging, fourLevel, fiveLevel, Memory, Translation, physical, notPresent, tableOf, widthOf, canonical, linear, entriesRead}
+use Rattle.intel.specs.Sdm.{Access, dataRead, dataWrite, Accessed, permitted, pageFault, generalProtection, largePage, userAccess}
 
 -- ---- what the statements name
 
@@ -37,6 +41,17 @@ pub record NoHuge (ws : List ℕ) (start total up root : ℕ) : Type 0 where
 abbrev pub asTranslation : Outcome → Translation
 asTranslation (Value a) = physical a
 asTranslation (Stop n) = notPresent
+
+-- The question that an access is, and its answer: yes where the access is permitted.
+abbrev pub isWrite : Access → Bool
+isWrite dataRead = false
+isWrite dataWrite = true
+
+abbrev pub isPermitted : Accessed → Bool
+isPermitted permitted = true
+isPermitted pageFault = false
+isPermitted generalProtection = false
+isPermitted largePage = false
 
 -- What the statements ask: a record that is not broken (10), CR3 that names the root, memory that holds the words, no HUGE entry, and a canonical address.
 pub record Setting (paging : Paging) (mem : Memory) (cr3 : ℕ) (ws : List ℕ) (start total root v : ℕ) : Type 0 where
@@ -90,3 +105,10 @@ ReadsOff =
     (paging : Paging) (mem : Memory) (cr3 : ℕ) (ws : List ℕ) (start total root v : ℕ) → Setting paging mem cr3 ws start total root v
     → (translate (pagingLevels paging) ws start total root v ≡ Stop outside)
     ↔ ((a : ℕ) × List·Memᴰ a (entriesRead paging mem cr3 v) × (inside start total (a / 2 ^ 12) ≡ false))
+
+-- ---- the user question: while the walk stays in lent frames, it is yes exactly where the manual permits the access
+abbrev pub UserAgrees : Type 0
+UserAgrees =
+    (access : Access) (paging : Paging) (mem : Memory) (cr3 : ℕ) (ws : List ℕ) (start total root v : ℕ) → Setting paging mem cr3 ws start total root v
+    → (translate (pagingLevels paging) ws start total root v ≡ Stop outside → ⊥)
+    → userMay (pagingLevels paging) ws start total root v (isWrite access) ≡ Flag (isPermitted (userAccess access paging mem cr3 v))

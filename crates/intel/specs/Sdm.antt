@@ -1,9 +1,11 @@
--- 4-level and 5-level paging for 4-KByte pages, from the Intel SDM, volume 3A, chapter 'Paging': 'Linear-Address Translation with 4-Level Paging and 5-Level Paging'
--- and the tables of entry formats. It speaks of physical memory, CR3 and a linear address, and of nothing else in this project. MAXPHYADDR is 52 and IA32_EFER.NXE
--- is 1, so that no address bit of an entry is reserved, nor bit 63. Access rights and cached translations are the manual's next sections, and not part of this.
+-- 4-level and 5-level paging for 4-KByte pages, from the Intel SDM, volume 3A, chapter 'Paging': 'Linear-Address Translation with 4-Level Paging and 5-Level Paging',
+-- the tables of entry formats, and of 'Access Rights' the explicit data accesses in user mode. It speaks of physical memory, CR3 and a linear address, and of nothing
+-- else in this project. MAXPHYADDR is 52 and IA32_EFER.NXE is 1, so that no address bit of an entry is reserved, nor bit 63. CR4.PKE, CR4.CET and CR4.LASS are 0, and no
+-- address bit is masked (LAM): no protection key, no shadow stack, no other test before the translation. Cached translations, and the accessed and dirty flags, are the
+-- manual's next sections, and not part of this.
 use Prim.Native.Nat.{ℕ, _+_, _-_, _*_, _/_, _%_, _^_}
 use mathlib.Core.Bool.{Bool, true, false}
-use mathlib.Core.List.{List, [], _∷_}
+use mathlib.Core.List.{List, [], _∷_, map}
 use lib.Dec.{eqb}
 
 -- 'bits hi:lo' of x
@@ -145,3 +147,51 @@ readCr3 fiveLevel mem v cr3 = readPml5e mem v (pml5eAt cr3 v)
 -- the physical addresses of the entries that the translation of linear address v reads, in order
 unfoldable pub entriesRead : Paging → Memory → ℕ → ℕ → List ℕ
 entriesRead paging mem cr3 v = choose (canonical (widthOf paging) v) (readCr3 paging mem v cr3) []
+
+-- ---- access rights of explicit data accesses in user mode, which is 'while CPL = 3'
+
+pub data Access : Type 0 where
+  dataRead dataWrite : Access
+
+-- bit 1 (R/W) of every paging-structure entry, 'Read/write; if 0, writes may not be allowed' to what it controls
+abbrev pub readWrite : ℕ → Bool
+readWrite e = eqb (bits 1 1 e) 1
+
+-- bit 2 (U/S), 'User/supervisor; if 0, user-mode accesses are not allowed' there
+abbrev pub userSupervisor : ℕ → Bool
+userSupervisor e = eqb (bits 2 2 e) 1
+
+-- a flag that is 1 in every entry
+abbrev pub inEvery : (ℕ → Bool) → List ℕ → Bool
+inEvery f [] = true
+inEvery f (e ∷ es) = choose (f e) (inEvery f es) false
+
+-- 'the paging-structure entries controlling the translation of the linear address': those that it reads
+abbrev pub controlling : Paging → Memory → ℕ → ℕ → List ℕ
+controlling paging mem cr3 v = map mem (entriesRead paging mem cr3 v)
+
+-- 'If the U/S flag (bit 2) is 0 in at least one of the paging-structure entries, the address is a supervisor-mode address. Otherwise, the address is a user-mode address.'
+abbrev pub userModeAddress : List ℕ → Bool
+userModeAddress entries = inEvery userSupervisor entries
+
+-- 'Data may be read from any user-mode address', and 'written to any user-mode address with a translation for which the R/W flag is 1 in every paging-structure entry
+-- controlling the translation', protection keys aside; neither from nor to a supervisor-mode address
+abbrev pub permits : Access → List ℕ → Bool
+permits dataRead entries = userModeAddress entries
+permits dataWrite entries = choose (userModeAddress entries) (inEvery readWrite entries) false
+
+-- What an access comes to. As above this definition goes no further at a 1-GByte or a 2-MByte page.
+pub data Accessed : Type 0 where
+  permitted pageFault generalProtection largePage : Accessed
+
+-- a page fault where 'there is no translation for the linear address', or 'there is a translation for the linear address, but its access rights do not permit the access'
+abbrev pub accessTo : Translation → Bool → Accessed
+accessTo (physical a) may = choose may permitted pageFault
+accessTo notPresent may = pageFault
+accessTo reserved may = pageFault
+accessTo large may = largePage
+accessTo notCanonical may = generalProtection
+
+-- the access to linear address v
+unfoldable pub userAccess : Access → Paging → Memory → ℕ → ℕ → Accessed
+userAccess access paging mem cr3 v = accessTo (linear paging mem cr3 v) (permits access (controlling paging mem cr3 v))

@@ -7,7 +7,6 @@ use native.Mathlib.Omega.{arith}
 use lib.ListN.{length}
 use Rattle.bits.proofs.Choice.{both-true}
 use Rattle.answer.specs.Numbers.{brokenRecord, hugeUnaligned}
-use Rattle.answer.specs.declared.FlagAnswer.the-variants.{Flag, NoFlag}
 use Rattle.address.specs.Address.{aligned}
 use Rattle.entry.specs.Entry.{entryOf, hugeEntryOf, indices}
 use Rattle.frame.specs.Frames.{isLevels, sound}
@@ -18,7 +17,7 @@ use Rattle.paging.specs.declared.HugePageSize.{HugePageSize}
 use Rattle.paging.specs.declared.HugePageSize.the-variants.{Size2MB, Size1GB}
 use Rattle.paging.specs.Walk.{leaf, address, mayWalk}
 use Rattle.paging.specs.Map.{Memory, startFrame, totalOf, Out, out, Left, left, RoomToTake}
-use Rattle.paging.specs.Calls.{asChanged, whole, translate, userLeaf, lentWalk, userMay, mapAt, mapPage, sizeOf, tablesAbove, mapHuge, unmapAt, unmapPage}
+use Rattle.paging.specs.Calls.{asChanged, whole, translate, lentWalk, mapAt, mapPage, sizeOf, tablesAbove, mapHuge, unmapAt, unmapPage}
 use Rattle.paging.specs.Levels.{levelsOf, aboveLast, mostAbove}
 use Rattle.paging.proofs.Walk.{lent-enough}
 
@@ -94,15 +93,6 @@ module _ (levels : ℕ) (ws : List ℕ) (start total root v : ℕ) where
       → translate levels ws start total root v ≡ address v (leaf ws start total root (indices levels v))
   unfolding translate
   translate-is h = rw h
-
-  pub may-broken : (write : Bool) → lentWalk levels (length ws) start total root ≡ false → userMay levels ws start total root v write ≡ NoFlag brokenRecord
-  unfolding userMay
-  may-broken write h = rw h
-
-  pub may-is : (write : Bool) → lentWalk levels (length ws) start total root ≡ true
-      → userMay levels ws start total root v write ≡ Flag (userLeaf write (leaf ws start total root (indices levels v)))
-  unfolding userMay
-  may-is write h = rw h
 
   pub unmap-broken : lentWalk levels (length ws) start total root ≡ false → unmapPage levels ws start total root v ≡ left (Stop brokenRecord) ws
   unfolding unmapPage

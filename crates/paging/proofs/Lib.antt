@@ -4,3 +4,4 @@ pub mod Calls
 pub mod Pages
 pub mod Past
 pub mod Working
+pub mod User

@@ -324,7 +324,7 @@ module _ (levels : ℕ) (ws : List ℕ) (start total root v : ℕ) where
   show-is h = rw h
 
   -- the rows of a record that is not broken
-  right-lent : lentWalk levels (length ws) start total root ≡ true → Right ws start total root (indices levels v)
+  pub right-lent : lentWalk levels (length ws) start total root ≡ true → Right ws start total root (indices levels v)
   right-lent h = by levels (levels-least levels (walk-levels _ _ _ _ _ h)) (lent-root _ _ _ _ (walk-lent _ _ _ _ _ h))
     where
       by : (n : ℕ) → 4 ≤ n → inside start total root ≡ true → Right ws start total root (indices n v)

@@ -1,21 +1,17 @@
 -- The mapper's calls, in document 01's order of checks: 10 first. A board has `up` levels above the last. The calls that are lent no frame record are lent its levels.
 use Prim.Native.Nat.{ℕ, suc, _-_, _^_}
-use mathlib.Core.Bool.{Bool, true, false}
+use mathlib.Core.Bool.{Bool}
 use mathlib.Core.List.{List}
 use lib.ListN.{length, getD, take}
-use Rattle.bits.specs.Bit.{pick, unless, both, flag}
+use Rattle.bits.specs.Bit.{unless, both}
 use Rattle.answer.specs.Numbers.{brokenRecord, hugeUnaligned}
 use Rattle.answer.specs.Outcomes.{asAnswer}
-use Rattle.answer.specs.declared.FlagAnswer.{FlagAnswer}
-use Rattle.answer.specs.declared.FlagAnswer.the-variants.{Flag, NoFlag}
 use Rattle.address.specs.Address.{aligned}
 use Rattle.entry.specs.Entry.{entryOf, hugeEntryOf, indices}
 use Rattle.frame.specs.Frames.{isLevels, sound}
 use Rattle.frame.specs.declared.Changed.{Changed}
 use Rattle.answer.specs.declared.Outcome.{Outcome}
 use Rattle.answer.specs.declared.Outcome.the-variants.{Stop}
-use Rattle.paging.specs.declared.Leaf.{Leaf}
-use Rattle.paging.specs.declared.Leaf.the-variants.{Page, Large, NoLeaf}
 use Rattle.paging.specs.declared.HugePageSize.{HugePageSize}
 use Rattle.paging.specs.declared.HugePageSize.the-variants.{Size2MB, Size1GB}
 use Rattle.paging.specs.Walk.{leaf, address, mayWalk}
@@ -38,17 +34,6 @@ unfoldable pub translate : ℕ → List ℕ → ℕ → ℕ → ℕ → ℕ → 
 translate levels ws start total root v =
     unless (lentWalk levels (length ws) start total root) (Stop brokenRecord)
     (address v (leaf ws start total root (indices levels v)))
-
--- 'read if the leaf has USER, write if it has USER and WRITABLE; no where nothing translates or a HUGE entry' of the last level but one does
-abbrev pub userLeaf : Bool → Leaf → Bool
-userLeaf write (Page e) = both (flag 2 e) (pick write (flag 1 e) true)
-userLeaf write (Large e) = false
-userLeaf write (NoLeaf n) = false
-
-unfoldable pub userMay : ℕ → List ℕ → ℕ → ℕ → ℕ → ℕ → Bool → FlagAnswer
-userMay levels ws start total root v write =
-    unless (lentWalk levels (length ws) start total root) (NoFlag brokenRecord)
-    (Flag (userLeaf write (leaf ws start total root (indices levels v))))
 
 -- the entry e of address v, k steps below the root
 abbrev pub mapAt : ℕ → ℕ → Bool → Memory → ℕ → ℕ → ℕ → Out

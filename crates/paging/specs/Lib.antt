@@ -5,3 +5,4 @@ pub mod Pages
 pub mod Levels
 pub mod Kept
 pub mod Working
+pub mod User

@@ -13,9 +13,10 @@ use Rattle.frame.proofs.Laws.{sound-levels, init-cases}
 use Rattle.frame.proofs.Steps.{span-take, span-give, span-mark, span-with}
 use Rattle.bits.proofs.Choice.{pick-cases}
 use Rattle.paging.specs.Map.{Memory, startFrame, totalOf}
-use Rattle.paging.specs.Calls.{whole, lentWalk, translate, userMay, mapPage, mapHuge, unmapPage}
+use Rattle.paging.specs.Calls.{whole, lentWalk, translate, mapPage, mapHuge, unmapPage}
 use Rattle.paging.specs.Levels.{levelsOf}
 use Rattle.paging.specs.Working.{showTranslate}
+use Rattle.paging.specs.User.{userMay}
 use Rattle.paging.proofs.Calls.{whole-levels, walk-other}
 use Rattle.vmalloc.specs.Calls.{vmalloc, vfree}
 use Rattle.mmap.specs.Calls.{mmap, munmap}

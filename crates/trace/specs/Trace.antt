@@ -13,9 +13,10 @@ use Rattle.frame.specs.Frames.{FramesDid}
 use Rattle.answer.specs.declared.Outcome.{Outcome}
 use Rattle.paging.specs.declared.HugePageSize.{HugePageSize}
 use Rattle.paging.specs.Map.{Memory, memory, startFrame, totalOf, Out, Left}
-use Rattle.paging.specs.Calls.{translate, userMay, mapPageOf, mapHugeOf, unmapPage}
+use Rattle.paging.specs.Calls.{translate, mapPageOf, mapHugeOf, unmapPage}
 use Rattle.paging.specs.Levels.{levelsOf}
 use Rattle.paging.specs.Working.{showTranslate}
+use Rattle.paging.specs.User.{userMay}
 use Rattle.slots.specs.Slots.{Slots}
 use Rattle.mmap.specs.Calls.{mprotect}
 use Rattle.cow.specs.Marked.{MarkedDid, markCow, unmarkCow, isCow}

@@ -8,13 +8,17 @@ use answer::Outcome;
 use entry::paging::PageTableEntry;
 use paging::Leaf;
 ghost use mathlib.Core.Path.{_≡_};
+ghost use mathlib.Core.Bool.{true};
 ghost use Prim.Native.Nat.{suc, _-_, _%_, _^_, _<_, _≤_};
 ghost use lib.ListN.{take};
 ghost use Rattle.entry.specs.Entry.{indices as indicesOf};
 ghost use Rattle.paging.specs.Walk.{place, entryAt, reach, leaf, address, mayWalk, WordsLent};
-ghost use Rattle.paging.specs.Calls.{lentWalk, userLeaf, translate as translated, userMay};
+ghost use Rattle.paging.specs.Calls.{lentWalk, translate as translated};
+ghost use Rattle.paging.specs.Working.{rowsBelow};
+ghost use Rattle.paging.specs.User.{userEntry, userRows, userMay};
 ghost use Rattle.paging.specs.Levels.{mostAbove, mostLevels};
 ghost use Rattle.address.specs.Address.{asPhys};
+ghost use Rattle.frame.specs.Frames.{inside};
 
 // The word number of entry i of table t, which is lent.
 pub fn entry_place(start: u64, t: u64, i: usize) -> usize
@@ -135,9 +139,9 @@ pub fn walk(
     phys_at(leaf_below(words, start, total, levels, root, virt), virt)
 }
 
-// Whether a leaf lets user code read, or write.
-pub fn user_entry(e: PageTableEntry, write: bool) -> bool
-    ensures { λ r. ⌜ r ≡ userLeaf write (Leaf.Page (e .0)) ⌝ }
+// Whether an entry lets user code read, or write.
+fn user_entry(e: PageTableEntry, write: bool) -> bool
+    ensures { λ r. ⌜ r ≡ userEntry write (e .0) ⌝ }
 {
     if !e.is_user() {
         return false;
@@ -148,15 +152,45 @@ pub fn user_entry(e: PageTableEntry, write: bool) -> bool
     true
 }
 
-// Whether the entry that a translation ends at lets user code read, or write.
-fn user_leaf(end: Leaf, write: bool) -> bool
-    ensures { λ r. ⌜ r ≡ userLeaf write end ⌝ }
+// Whether every entry from a lent table on lets user code read, or write, down to a 4 KiB page.
+fn user_below(
+    words: &[u64],
+    start: u64,
+    total: u64,
+    levels: u64,
+    root: Frame,
+    virt: VirtAddr,
+    write: bool,
+) -> bool
+    requires { ⌜ WordsLent (now words) start total ⌝ }
+    requires { ⌜ levels ≤ mostLevels ⌝ }
+    requires { ⌜ inside start total (root .0) ≡ true ⌝ }
+    ensures { λ r. ⌜ r ≡ userRows write (rowsBelow (now (words .entry)) start total (root .0) (indicesOf levels (virt .0))) ⌝ }
 {
-    match end {
-        Leaf::Page(e) => user_entry(PageTableEntry(e), write),
-        Leaf::Large(_) => false,
-        Leaf::NoLeaf(_) => false,
+    let mut t = root.0;
+    let mut level = levels;
+    while level > 0 {
+        let word = words[entry_place(start, t, entry::page_index(virt, level - 1))];
+        let e = PageTableEntry(word);
+        if !e.is_present() {
+            return false;
+        }
+        if !user_entry(e, write) {
+            return false;
+        }
+        if level == 1 {
+            return true;
+        }
+        if level == 2 && e.is_huge() {
+            return false;
+        }
+        t = e.addr().0 >> 12;
+        if !frame::inner::is_inside(start, total, t) {
+            return false;
+        }
+        level = level - 1;
     }
+    false
 }
 
 // The last table on the way to a page, below `up` levels.
@@ -250,7 +284,7 @@ pub fn translate(
     }
 }
 
-// Whether user code may read an address, or write it.
+// Whether user code may read an address, or write it. Where there are four levels the loop's length is written out, for the compiler.
 pub fn user_may(
     words: &[u64],
     start: u64,
@@ -265,11 +299,8 @@ pub fn user_may(
     if !may_walk(words.len(), start, total, levels, root) {
         return FlagAnswer::NoFlag(answer::BROKEN_RECORD);
     }
-    match fourth_table(words, start, total, levels, root, virt) {
-        Outcome::Stop(_) => FlagAnswer::Flag(false),
-        Outcome::Value(t) => {
-            let end = leaf_below(words, start, total, 4, Frame(t), virt);
-            FlagAnswer::Flag(user_leaf(end, write))
-        }
+    if levels == 4 {
+        return FlagAnswer::Flag(user_below(words, start, total, 4, root, virt, write));
     }
+    FlagAnswer::Flag(user_below(words, start, total, levels, root, virt, write))
 }

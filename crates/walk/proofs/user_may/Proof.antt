@@ -1,15 +1,17 @@
--- `user_may`: 10, or what the leaf lets user code do.
+-- `user_may`: 10, or what the entries of the walk let user code do; the loop of four turns, or of as many as there are levels.
 use mathlib.Core.Path.{_≡_, sym, _∙_, ap}
 use mathlib.Core.Bool.{true}
 use lib.Dec.{lit≤}
 use lib.ListN.{length}
 use Rattle.answer.specs.declared.FlagAnswer.the-variants.{Flag}
-use Rattle.paging.specs.declared.Leaf.{Leaf}
-use Rattle.paging.specs.Calls.{lentWalk, userLeaf}
-use Rattle.paging.proofs.Walk.{lent-words}
-use Rattle.paging.proofs.Calls.{walk-levels, walk-lent, may-broken, may-is}
+use Rattle.entry.specs.Entry.{indices as indicesOf}
+use Rattle.paging.specs.Calls.{lentWalk}
+use Rattle.paging.specs.Working.{rowsBelow}
+use Rattle.paging.specs.User.{userRows}
+use Rattle.paging.proofs.Walk.{lent-words, lent-root}
+use Rattle.paging.proofs.Calls.{walk-levels, walk-lent}
+use Rattle.paging.proofs.User.{may-broken, may-is}
 use Rattle.frame.proofs.Laws.{passed, failed, levels-most}
-use Rattle.walk.proofs.Laws.{fourth-on, fourth-none}
 use borrow.Author.Needs.{needs}
 use Rattle.walk.proofs.user_may.Statement.{statement}
 use Rattle.walk.proofs.user_may.Tie as tie
@@ -24,42 +26,25 @@ returns c = sym (may-broken _ _ _ _ _ _ _ (failed (c .before .may-walk .ensures)
 good : (c : tie.Else1) → let a = c .before .before .before .args in lentWalk (a .levels) (length (a .words .now)) (a .start) (a .total) (a .root .0) ≡ true
 good c = passed (c .before .may-walk .ensures) (c .if1 .left)
 
-fourth-table-requires : tie.Need-fourth-table-requires
-fourth-table-requires c κs =
-    let a = c .before .before .before .args in
-    (lent-words _ _ _ _ (walk-lent _ _ _ _ _ (good c)), levels-most (a .levels) (walk-levels _ _ _ _ _ (good c)))
-
-enum-told : tie.Need-enum-told
-enum-told c = c .match .keys1
-
-enum-known-t : tie.Need-enum-known-t
-enum-known-t c = c .match .keys2
-
-leaf-below-requires : tie.Need-leaf-below-requires
-leaf-below-requires c κs = (lent-words _ _ _ _ (walk-lent _ _ _ _ _ (good (c .before .before .before .before))), lit≤ tt)
-
-user-leaf-requires : tie.Need-user-leaf-requires
-user-leaf-requires c κs = search needs
+user-below-requires : tie.Need-user-below-requires
+user-below-requires c κs = let l = walk-lent _ _ _ _ _ (good (c .before)) in (lent-words _ _ _ _ l, (lit≤ tt, lent-root _ _ _ _ l))
 
 returns-2 : tie.Need-returns-2
 returns-2 c =
-    let f = c .before .before in
-    let e = f .before in
+    let e = c .before .before in
     let a = e .before .before .before .args in
-    sym
-    (may-is _ _ _ _ _ _ _ (good e) ∙ ap (λ (l : Leaf). Flag (userLeaf (a .write) l))
-    (fourth-none (a .words .now) (a .start) (a .total) (a .root .0) (a .virt .0) (a .levels) (walk-levels _ _ _ _ _ (good e)) _ (sym (f .fourth-table .ensures) ∙ c .enum-told .given .1)))
+    ap Flag (c .user-below .ensures
+    ∙ ap (λ n. userRows (a .write) (rowsBelow (a .words .now) (a .start) (a .total) (a .root .0) (indicesOf n (a .virt .0)))) (sym (c .before .if2 .taken)))
+    ∙ sym (may-is _ _ _ _ _ _ _ (good e))
+
+user-below-requires-2 : tie.Need-user-below-requires-2
+user-below-requires-2 c κs =
+    let e = c .before in
+    let l = walk-lent _ _ _ _ _ (good e) in
+    (lent-words _ _ _ _ l, (levels-most (e .before .before .before .args .levels) (walk-levels _ _ _ _ _ (good e)), lent-root _ _ _ _ l))
 
 returns-3 : tie.Need-returns-3
-returns-3 c =
-    let t = c .before .before .before in
-    let f = t .before .before in
-    let e = f .before in
-    let a = e .before .before .before .args in
-    ap Flag (c .user-leaf .ensures)
-    ∙ ap (λ (l : Leaf). Flag (userLeaf (a .write) l)) (c .before .leaf-below .ensures
-    ∙ sym (fourth-on (a .words .now) (a .start) (a .total) (a .root .0) (a .virt .0) (a .levels) (walk-levels _ _ _ _ _ (good e)) _ (sym (f .fourth-table .ensures) ∙ t .t .given .1)))
-    ∙ sym (may-is _ _ _ _ _ _ _ (good e))
+returns-3 c = ap Flag (c .user-below2 .ensures) ∙ sym (may-is _ _ _ _ _ _ _ (good (c .before .before)))
 
 pub user-may-spec : {M : Type 1} → statement M
 user-may-spec =
@@ -67,10 +52,7 @@ user-may-spec =
     (tie.spec
     may-walk-requires
     returns
-    fourth-table-requires
-    enum-told
-    enum-known-t
-    leaf-below-requires
-    user-leaf-requires
+    user-below-requires
     returns-2
+    user-below-requires-2
     returns-3)
