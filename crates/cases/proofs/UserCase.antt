@@ -51,7 +51,9 @@ module _ {m : Memory} {root k : ℕ} (o : Ordered m root (suc (suc k))) (bare : 
       by false e = e
       by true e =
           let w = getD (m .words) (place (startFrame m) root i) 0 in
-          let there : reachIn m root (i ∷ []) ≡ Value (frameOf w) = reach-on (m .words) (startFrame m) (totalOf m) root refl w (entry-in _ _ _ root i (root-inside o) small ∙ present-yes w e) ∙ reach-end (m .words) (startFrame m) (totalOf m) (frameOf w) refl in
+          let there : reachIn m root (i ∷ []) ≡ Value (frameOf w) =
+          reach-on (m .words) (startFrame m) (totalOf m) root refl w (entry-in _ _ _ root i (root-inside o) small ∙ present-yes w e)
+          ∙ reach-end (m .words) (startFrame m) (totalOf m) (frameOf w) refl in
           absurd (List·Memᴰ·not-nil (bare .tables (i ∷ []) (frameOf w) (omega arith) (omega arith) there .1))
 
   -- a page that is mapped for the kernel makes its first entry the kernel's
@@ -59,7 +61,8 @@ module _ {m : Memory} {root k : ℕ} (o : Ordered m root (suc (suc k))) (bare : 
   first-made v p w x h =
       let e = map-is (suc k) m root v p w false (page-whole (suc k) m root v p w false x h) in
       subst (λ (q : Out). MadeFor false (q .mem) root (index (suc k) v)) (sym e)
-      (map-makes false m root (index (suc k) v) (root-inside o) (o .tree .kept [] root (omega arith) (reach-end _ _ _ root refl)) (o .sizes) (omega arith) (none-entered (index (suc k) v) (omega arith))
+      (map-makes false m root (index (suc k) v) (root-inside o) (o .tree .kept [] root (omega arith) (reach-end _ _ _ root refl)) (o .sizes) (omega arith)
+      (none-entered (index (suc k) v) (omega arith))
       (take k (indices (suc k) v)) _ _ x (ap (λ (q : Out). q .walked) (sym e) ∙ h))
 
 -- ---- the question
@@ -100,7 +103,8 @@ module _ (old fresh : Board) (from to k : ℕ) (h : start old from to (suc (suc 
       let a = page-kept (aboveLast (fresh .mem)) (fresh .mem) (fresh .root) v p w false in
       let b = page-kept (aboveLast one) one (fresh .root) v′ p′ w′ true in
       walk-by-lent _ _ _ _ _ known
-      ∙ rw (b .words ∙ a .words, b .start ∙ a .start, b .total ∙ a .total) (whole-lent (fresh .mem) (fresh .root) (page-whole (aboveLast (fresh .mem)) (fresh .mem) (fresh .root) v p w false 0 met))
+      ∙ rw (b .words ∙ a .words, b .start ∙ a .start, b .total ∙ a .total)
+      (whole-lent (fresh .mem) (fresh .root) (page-whole (aboveLast (fresh .mem)) (fresh .mem) (fresh .root) v p w false 0 met))
 
   unreached-by : (write : Bool) → userMay (suc (suc k)) (two .words) (startFrame two) (totalOf two) (fresh .root) v′ write ≡ Flag false
   unreached-by write = no-by-first (suc k) two (fresh .root) v′ _ write two-lent kernel-first (maps-entry (made .names * 2 ^ 12) true false .user)

@@ -2,8 +2,8 @@
 -- are the lowest and the highest 2^47 with four levels, 2^56 with five. On a board of one frame, of either kind, both sides map an address, to the same one, and both find
 -- another absent; by the flags of its entry the user may write the page, only read it, or neither.
 use Prim.Native.Nat.{ℕ, zero, suc, _+_, _-_, _*_, _/_, _%_, _^_, _<_, _≤_}
-use mathlib.Core.Path.{_≡_, refl, sym, _∙_, ap₂, subst}
-use mathlib.Core.Bool.{Bool, true, false, false≢true}
+use mathlib.Core.Path.{_≡_, refl, sym, ap₂, subst}
+use mathlib.Core.Bool.{Bool, true, false}
 use mathlib.Core.List.{List, [], _∷_}
 use mathlib.Core.Logic.{_⊎_, inl, inr, ⊎-elim}
 use native.Mathlib.Omega.{arith}
@@ -11,11 +11,9 @@ use lib.Dec.{eqb}
 use lib.ListN.{getD, replicate}
 use borrow.Author.Tests.{eqb-true, eq-eqb, ne-eqb}
 use Rattle.bits.specs.Bit.{flag}
-use Rattle.answer.specs.Numbers.{outside}
-use Rattle.entry.specs.Entry.{entryOf}
+use Rattle.entry.specs.Entry.{entryOf, hugeEntryOf}
 use Rattle.answer.specs.declared.Outcome.{Outcome}
-use Rattle.answer.specs.declared.Outcome.the-variants.{Value, Stop}
-use Rattle.answer.specs.declared.FlagAnswer.the-variants.{Flag}
+use Rattle.answer.specs.declared.Outcome.the-variants.{Value}
 use Rattle.paging.specs.Walk.{place, present, entryAt, leaf, mayWalk}
 use Rattle.paging.specs.Calls.{lentWalk, translate}
 use Rattle.paging.specs.Working.{verdictOf, rowsBelow}
@@ -23,11 +21,11 @@ use Rattle.paging.specs.User.{userRows, userMay}
 use Rattle.paging.proofs.Walk.{no-value}
 use Rattle.intel.specs.Sdm.{Paging, fourLevel, fiveLevel, bits, Memory, physical, notPresent, notCanonical, widthOf, or, canonical, linear}
 use Rattle.intel.specs.Sdm.{throughPte, throughPde, throughPdpte, throughPml4e, throughPml5e, readPte, readPde, readPdpte, readPml4e, readPml5e, entriesRead}
-use Rattle.intel.specs.Sdm.{Access, dataRead, dataWrite, Accessed, permitted, pageFault, generalProtection, largePage, userAccess}
+use Rattle.intel.specs.Sdm.{Access, dataRead, dataWrite, permitted, pageFault, generalProtection, largePage, userAccess}
 use Rattle.intel.proofs.Steps.{not-outside, entry-outcomes}
-use Rattle.intel.specs.Agreement.{pagingLevels, Holds, NoHuge, isWrite, isPermitted, Setting}
+use Rattle.intel.specs.Agreement.{pagingLevels, Holds, NoHuge, Setting}
 use Rattle.intel.proofs.Agree.{same-pages, same-absent}
-use Rattle.intel.proofs.Rights.{user-agrees}
+use Rattle.intel.proofs.Rights.{user-yes}
 
 -- a physical memory that holds the words from frame `start` on
 abbrev pub memoryOf : List ℕ → ℕ → Memory
@@ -141,29 +139,13 @@ first-other = (refl, refl)
 
 -- ---- access rights of that page
 
--- permitted where our answer is yes
-by-ours : (access : Access) (paging : Paging) (w u : Bool) → canonical (widthOf paging) 0x123 ≡ true
-    → (translate (pagingLevels paging) (wordsOf w u) 0x100 1 0x100 0x123 ≡ Stop outside → ⊥)
-    → userMay (pagingLevels paging) (wordsOf w u) 0x100 1 0x100 0x123 (isWrite access) ≡ Flag true
-    → userAccess access paging (memoryOf (wordsOf w u) 0x100) 0x10_0000 0x123 ≡ permitted
-by-ours access paging w u c stays ours =
-    let same : Flag true ≡ Flag (isPermitted (userAccess access paging (memoryOf (wordsOf w u) 0x100) 0x10_0000 0x123)) =
-    sym ours ∙ user-agrees access paging _ _ _ _ _ _ _ (setting w u paging 0x123 c) stays in
-    only (userAccess access paging (memoryOf (wordsOf w u) 0x100) 0x10_0000 0x123) cc
-  where
-    only : (x : Accessed) → isPermitted x ≡ true → x ≡ permitted
-    only permitted e = refl
-    only pageFault e = absurd (false≢true e)
-    only generalProtection e = absurd (false≢true e)
-    only largePage e = absurd (false≢true e)
-
--- the user's, and writable
+-- the user's, and writable: permitted where our answer is yes
 pub writable : (access : Access) (paging : Paging) → userAccess access paging (memoryOf (wordsOf true true) 0x100) 0x10_0000 0x123 ≡ permitted
-unfolding translate lentWalk leaf entryAt present mayWalk userMay userRows rowsBelow verdictOf
-writable dataRead fourLevel = by-ours dataRead fourLevel true true refl no-value refl
-writable dataRead fiveLevel = by-ours dataRead fiveLevel true true refl no-value refl
-writable dataWrite fourLevel = by-ours dataWrite fourLevel true true refl no-value refl
-writable dataWrite fiveLevel = by-ours dataWrite fiveLevel true true refl no-value refl
+unfolding lentWalk mayWalk userMay userRows rowsBelow verdictOf
+writable dataRead fourLevel = user-yes dataRead fourLevel _ _ _ _ _ _ _ (setting true true fourLevel 0x123 refl) refl
+writable dataRead fiveLevel = user-yes dataRead fiveLevel _ _ _ _ _ _ _ (setting true true fiveLevel 0x123 refl) refl
+writable dataWrite fourLevel = user-yes dataWrite fourLevel _ _ _ _ _ _ _ (setting true true fourLevel 0x123 refl) refl
+writable dataWrite fiveLevel = user-yes dataWrite fiveLevel _ _ _ _ _ _ _ (setting true true fiveLevel 0x123 refl) refl
 
 -- the user's, and not writable
 pub read-only : (paging : Paging) → let mem = memoryOf (wordsOf false true) 0x100 in
@@ -185,3 +167,14 @@ pub unmapped : (access : Access) (paging : Paging) → userAccess access paging 
 unfolding userAccess linear throughPml5e throughPml4e throughPdpte throughPde throughPte
 unmapped access fourLevel = refl
 unmapped access fiveLevel = refl
+
+-- and what the statements leave aside: an address that is not canonical, and a large page, by the second entry
+pub not-canonical : (access : Access) → userAccess access fourLevel (memoryOf words 0x100) 0x10_0000 (2 ^ 48) ≡ generalProtection
+unfolding userAccess linear
+not-canonical access = refl
+
+pub large-page : (access : Access) (paging : Paging)
+    → userAccess access paging (memoryOf (entryOf 0x10_0000 true true ∷ hugeEntryOf 0x10_0000 true true ∷ replicate 510 0) 0x100) 0x10_0000 (2 ^ 21) ≡ largePage
+unfolding userAccess linear throughPml5e throughPml4e throughPdpte throughPde
+large-page access fourLevel = refl
+large-page access fiveLevel = refl

@@ -1,7 +1,7 @@
--- The user question is the manual's access rights, while the walk stays in lent frames: `UserAgrees` of specs/Agreement.antt.
+-- The user question is the manual's access rights, while the walk stays in lent frames, and a yes is one everywhere: `UserAgrees` and `UserYes` of specs/Agreement.antt.
 use Prim.Native.Nat.{ℕ, suc, _-_, _<_}
-use mathlib.Core.Path.{_≡_, refl, _∙_, ap}
-use mathlib.Core.Bool.{Bool, true, false}
+use mathlib.Core.Path.{_≡_, refl, sym, _∙_, ap}
+use mathlib.Core.Bool.{Bool, true, false, false≢true}
 use mathlib.Core.List.{List, [], _∷_, map}
 use native.Mathlib.Omega.{arith}
 use lib.Dec.{eqb}
@@ -13,16 +13,17 @@ use Rattle.entry.specs.Entry.{frameOf, index, indices}
 use Rattle.frame.specs.Frames.{inside}
 use Rattle.answer.specs.declared.Outcome.the-variants.{Value, Stop}
 use Rattle.answer.specs.declared.FlagAnswer.the-variants.{Flag}
-use Rattle.paging.specs.Walk.{place, entryAt, leaf, address}
+use Rattle.paging.specs.Walk.{place, entryAt, leaf, address, mayWalk}
+use Rattle.paging.specs.Calls.{translate}
 use Rattle.paging.specs.Working.{rowsBelow}
-use Rattle.paging.specs.User.{userEntry, userRows}
-use Rattle.paging.proofs.Walk.{present-yes, entry-out, entry-in, leaf-stop}
-use Rattle.paging.proofs.User.{user-absent, user-none, user-last, user-on, may-is}
+use Rattle.paging.specs.User.{userEntry, userRows, userMay}
+use Rattle.paging.proofs.Walk.{no-value, present-yes, entry-out, entry-in, leaf-stop}
+use Rattle.paging.proofs.User.{user-absent, user-none, user-last, user-on, may-is, user-rule}
 use Rattle.intel.specs.Sdm.{Paging, fourLevel, fiveLevel, bits, Memory, Translation, physical, notPresent, reserved, large, notCanonical, choose, p, ps, tableOf}
 use Rattle.intel.specs.Sdm.{throughPte, throughPde, throughPdpte, throughPml4e, throughPml5e, throughCr3, linear}
 use Rattle.intel.specs.Sdm.{reading, readPte, readPde, readPdpte, readPml4e, readPml5e, readCr3, entriesRead}
-use Rattle.intel.specs.Sdm.{Access, dataRead, dataWrite, userSupervisor, readWrite, inEvery, permits, accessTo, userAccess}
-use Rattle.intel.specs.Agreement.{pagingLevels, Holds, NoHuge, isWrite, isPermitted, UserAgrees}
+use Rattle.intel.specs.Sdm.{Access, dataRead, dataWrite, userSupervisor, readWrite, inEvery, permits, Accessed, permitted, pageFault, generalProtection, largePage, accessTo, userAccess}
+use Rattle.intel.specs.Agreement.{pagingLevels, Holds, NoHuge, isWrite, isPermitted, UserAgrees, UserYes}
 use Rattle.intel.proofs.Steps.{leaf-plain, plain-here, plain-below}
 use Rattle.intel.proofs.Entries.{same-table, lent-is, walk-is, at}
 
@@ -167,3 +168,27 @@ user-agrees access paging mem cr3 ws start total root v h stays =
     may-is (pagingLevels paging) ws start total root v (isWrite access) (lent-is paging ws start total root (h .whole))
     ∙ ap Flag (rw (h .form)
     (first access mem ws start total v (h .holds) paging cr3 root (h .base) (h .noHuge) (λ z. stays (walk-is paging ws start total root v (h .whole) ∙ z))))
+
+-- a yes is one of a walk that comes to a page
+yes-stays : (access : Access) (paging : Paging) (ws : List ℕ) (start total root v : ℕ) → mayWalk (length ws) start total root ≡ true
+    → userMay (pagingLevels paging) ws start total root v (isWrite access) ≡ Flag true → translate (pagingLevels paging) ws start total root v ≡ Stop outside → ⊥
+yes-stays access paging ws start total root v h may z =
+    let l = lent-is paging ws start total root h in
+    let page = user-rule .read (pagingLevels paging) ws start total root v l .0 (reads access may) .0 in
+    no-value (sym (walk-is paging ws start total root v h ∙ ap (address v) (page .1)) ∙ z)
+  where
+    reads : (a : Access) → userMay (pagingLevels paging) ws start total root v (isWrite a) ≡ Flag true → userMay (pagingLevels paging) ws start total root v false ≡ Flag true
+    reads dataRead e = e
+    reads dataWrite e = user-rule .write (pagingLevels paging) ws start total root v (lent-is paging ws start total root h) .0 e .0
+
+pub user-yes : UserYes
+user-yes access paging mem cr3 ws start total root v h may =
+    let same : Flag true ≡ Flag (isPermitted (userAccess access paging mem cr3 v)) =
+    sym may ∙ user-agrees access paging mem cr3 ws start total root v h (yes-stays access paging ws start total root v (h .whole) may) in
+    only (userAccess access paging mem cr3 v) cc
+  where
+    only : (x : Accessed) → isPermitted x ≡ true → x ≡ permitted
+    only permitted e = refl
+    only pageFault e = absurd (false≢true e)
+    only generalProtection e = absurd (false≢true e)
+    only largePage e = absurd (false≢true e)

@@ -1,7 +1,7 @@
 -- This project's `translate` is Intel's paging, 4-level on a board of four levels and 5-level on one of five: for canonical addresses, over tables with no HUGE entry,
--- while the walk stays in lent frames; and it leaves them exactly where the manual's translation reads an entry outside. There the user question is the manual's access
--- rights. The statements, with what they name; proofs/Agree.antt, proofs/Entries.antt and proofs/Rights.antt prove them, and proofs/Examples.antt shows that they are not
--- empty.
+-- while the walk stays in lent frames; and it leaves them exactly where the manual's translation reads an entry outside. While it stays in
+-- them the user question is the manual's access rights. The statements, with what they name; proofs/Agree.antt, proofs/Entries.antt and proofs/Rights.antt prove them, and
+-- proofs/Examples.antt shows that they are not empty.
 use Prim.Native.Nat.{ℕ, _+_, _-_, _*_, _/_, _^_, _<_}
 use mathlib.Core.Path.{_≡_}
 use mathlib.Core.Bool.{Bool, true, false}
@@ -112,3 +112,9 @@ UserAgrees =
     (access : Access) (paging : Paging) (mem : Memory) (cr3 : ℕ) (ws : List ℕ) (start total root v : ℕ) → Setting paging mem cr3 ws start total root v
     → (translate (pagingLevels paging) ws start total root v ≡ Stop outside → ⊥)
     → userMay (pagingLevels paging) ws start total root v (isWrite access) ≡ Flag (isPermitted (userAccess access paging mem cr3 v))
+
+-- .. and wherever the walk goes, yes only where the manual permits the access.
+abbrev pub UserYes : Type 0
+UserYes =
+    (access : Access) (paging : Paging) (mem : Memory) (cr3 : ℕ) (ws : List ℕ) (start total root v : ℕ) → Setting paging mem cr3 ws start total root v
+    → userMay (pagingLevels paging) ws start total root v (isWrite access) ≡ Flag true → userAccess access paging mem cr3 v ≡ permitted

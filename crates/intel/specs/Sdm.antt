@@ -1,5 +1,5 @@
 -- 4-level and 5-level paging for 4-KByte pages, from the Intel SDM, volume 3A, chapter 'Paging': 'Linear-Address Translation with 4-Level Paging and 5-Level Paging',
--- the tables of entry formats, and of 'Access Rights' the explicit data accesses in user mode. It speaks of physical memory, CR3 and a linear address, and of nothing
+-- the tables of entry formats, and of 'Access Rights' the data accesses in user mode. It speaks of physical memory, CR3 and a linear address, and of nothing
 -- else in this project. MAXPHYADDR is 52 and IA32_EFER.NXE is 1, so that no address bit of an entry is reserved, nor bit 63. CR4.PKE, CR4.CET and CR4.LASS are 0, and no
 -- address bit is masked (LAM): no protection key, no shadow stack, no other test before the translation. Cached translations, and the accessed and dirty flags, are the
 -- manual's next sections, and not part of this.
@@ -148,7 +148,7 @@ readCr3 fiveLevel mem v cr3 = readPml5e mem v (pml5eAt cr3 v)
 unfoldable pub entriesRead : Paging → Memory → ℕ → ℕ → List ℕ
 entriesRead paging mem cr3 v = choose (canonical (widthOf paging) v) (readCr3 paging mem v cr3) []
 
--- ---- access rights of explicit data accesses in user mode, which is 'while CPL = 3'
+-- ---- access rights of data accesses in user mode: 'accesses made while CPL = 3', but for implicit ones to system structures, which are supervisor-mode. Of one byte, at v
 
 pub data Access : Type 0 where
   dataRead dataWrite : Access
@@ -180,7 +180,7 @@ abbrev pub permits : Access → List ℕ → Bool
 permits dataRead entries = userModeAddress entries
 permits dataWrite entries = choose (userModeAddress entries) (inEvery readWrite entries) false
 
--- What an access comes to. As above this definition goes no further at a 1-GByte or a 2-MByte page.
+-- What an access comes to; `generalProtection` is #GP, or #SS of an access to the stack. As above this definition goes no further at a 1-GByte or a 2-MByte page.
 pub data Accessed : Type 0 where
   permitted pageFault generalProtection largePage : Accessed
 

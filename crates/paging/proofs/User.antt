@@ -14,6 +14,8 @@ use Rattle.answer.specs.declared.FlagAnswer.the-variants.{Flag, NoFlag}
 use Rattle.entry.specs.Entry.{frameOf, indices}
 use Rattle.entry.proofs.Entry.{length-indices}
 use Rattle.frame.specs.Frames.{inside}
+use Rattle.paging.specs.declared.Leaf.{Leaf}
+use Rattle.paging.specs.declared.Leaf.the-variants.{Page, Large, NoLeaf}
 use Rattle.paging.specs.declared.Verdict.{Verdict}
 use Rattle.paging.specs.declared.Verdict.the-variants.{Absent, Outside, LargePage, Last}
 use Rattle.paging.specs.declared.Row.{Row}
@@ -21,7 +23,8 @@ use Rattle.paging.specs.Walk.{place, leaf}
 use Rattle.paging.specs.Calls.{lentWalk}
 use Rattle.paging.specs.Working.{verdictOf, rowOf, goesOn, rowsBelow, byVerdict, endOf, Working, showTranslate}
 use Rattle.paging.specs.User.{userEntry, allUser, isPage, userRows, userMay, UserRule}
-use Rattle.paging.proofs.Working.{NamesTable, verdict-absent, verdict-last, verdict-large, verdict-followed, verdict-outside, Case, absent, last, large, names, case, followed, rows-end, rows-on, end-more, show-is, right-lent}
+use Rattle.paging.proofs.Working.{NamesTable, verdict-absent, verdict-last, verdict-large, verdict-followed, verdict-outside, Case, absent, last, large, names, case, followed}
+use Rattle.paging.proofs.Working.{rows-end, rows-on, end-more, show-is, right-lent}
 
 -- two tests before a third, in either order
 swap : (a b c : Bool) → both a (both b c) ≡ both b (both a c)
@@ -87,7 +90,7 @@ module _ (write : Bool) (ws : List ℕ) (start total t : ℕ) {p : List ℕ} {i 
 
   -- yes, and on
   pub user-last : flag 0 here ≡ true → length is ≡ 0 → userEntry write here ≡ true → userRows write (rowsBelow ws start total t p) ≡ true
-  user-last h z u = user-end Last (verdict-last start total (length is) here h z) refl ∙ rw u
+  user-last h z u = user-end Last (verdict-last start total (length is) here h z) refl ∙ ap (λ (b : Bool). both b true) u
 
   pub user-on : NamesTable (length is) here → inside start total (frameOf here) ≡ true → userEntry write here ≡ true
       → userRows write (rowsBelow ws start total t p) ≡ userRows write (rowsBelow ws start total (frameOf here) is)
@@ -169,14 +172,18 @@ module _ (levels : ℕ) (ws : List ℕ) (start total root v : ℕ) where
     ends : isPage (endOf rows) ≡ isPage (leaf ws start total root (indices levels v))
     ends = ap isPage (right-lent levels ws start total root v h .ends)
 
+    -- each of some rows lets user code
+    abbrev Each : Bool → List Row → Type 0
+    Each write l = (r : Row) → List·Memᴰ r l → userEntry write (r .word) ≡ true
+
     -- yes, where it comes to a 4 KiB page and each entry lets
     yes-is : (write : Bool) → (userMay levels ws start total root v write ≡ Flag true)
-        ↔ ((isPage (leaf ws start total root (indices levels v)) ≡ true) × ((r : Row) → List·Memᴰ r (showTranslate levels ws start total root v .rows) → userEntry write (r .word) ≡ true))
+        ↔ ((isPage (leaf ws start total root (indices levels v)) ≡ true) × Each write (showTranslate levels ws start total root v .rows))
     unfolding userRows
     yes-is write = (
       λ e. let parts = both-true (isPage (endOf rows)) _ (flag-is (sym (may-is write h) ∙ e)) in
-          (sym ends ∙ parts .0, subst (λ (l : List Row). (r : Row) → List·Memᴰ r l → userEntry write (r .word) ≡ true) (sym shown) (all-user write rows .0 (parts .1))),
-      λ y. may-is write h ∙ ap Flag (rw (ends ∙ y .0) (all-user write rows .1 (subst (λ (l : List Row). (r : Row) → List·Memᴰ r l → userEntry write (r .word) ≡ true) shown (y .1)))),
+          (sym ends ∙ parts .0, subst (Each write) (sym shown) (all-user write rows .0 (parts .1))),
+      λ y. may-is write h ∙ ap Flag (rw (ends ∙ y .0) (all-user write rows .1 (subst (Each write) shown (y .1)))),
     )
 
 -- what one entry asks
@@ -187,12 +194,18 @@ reads-is e = by (flag 2 e)
     by true = refl
     by false = refl
 
+-- a page is one with an entry
+page-of : (l : Leaf) → isPage l ≡ true → (e : ℕ) × (l ≡ Page e)
+page-of (Page e) h = (e, refl)
+page-of (Large e) h = absurd (false≢true h)
+page-of (NoLeaf n) h = absurd (false≢true h)
+
 pub user-rule : UserRule
 user-rule =
     record {
       read = λ levels ws start total root v h. let y = yes-is levels ws start total root v h false in (
-        λ e. (y .0 e .0, λ r m. sym (reads-is (r .word)) ∙ y .0 e .1 r m),
-        λ q. y .1 (q .0, λ r m. reads-is (r .word) ∙ q .1 r m),
+        λ e. (page-of (leaf ws start total root (indices levels v)) (y .0 e .0), λ r m. sym (reads-is (r .word)) ∙ y .0 e .1 r m),
+        λ q. y .1 (ap isPage (q .0 .1), λ r m. reads-is (r .word) ∙ q .1 r m),
       );
       write = λ levels ws start total root v h. let y = yes-is levels ws start total root v h true in let n = yes-is levels ws start total root v h false in (
         λ e. (
@@ -201,8 +214,8 @@ user-rule =
         ),
         λ q. y .1 (n .0 (q .0) .0, λ r m. rw (sym (reads-is (r .word)) ∙ n .0 (q .0) .1 r m) (q .1 r m)),
       );
-      all = λ levels ws start total root v h p. ap length (shown levels ws start total root v h)
-          ∙ rows-all ws start total root (indices levels v) (ends levels ws start total root v h ∙ p) ∙ length-indices levels v;
+      all = λ levels ws start total root v h e p. ap length (shown levels ws start total root v h)
+          ∙ rows-all ws start total root (indices levels v) (ends levels ws start total root v h ∙ ap isPage p) ∙ length-indices levels v;
       answered = λ levels ws start total root v write h. told (userRows write (rowsBelow ws start total root (indices levels v))) (may-is levels ws start total root v write h);
       broken = may-broken;
     }

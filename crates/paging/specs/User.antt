@@ -1,5 +1,5 @@
 -- The user question, document 02's slip 2: 'Per SDM 3A, user code may read if and only if USER is set in all four entries, and write if and only if WRITABLE is set in
--- all four too .. for user accesses to 4 KiB pages.' The entries are those that a translation reads, the rows of its working: one for each level of the board.
+-- all four too .. for user accesses to 4 KiB pages.' The entries are those that a translation reads, the rows of its working: where it comes to a page, one for each level.
 use Prim.Native.Nat.{ℕ}
 use mathlib.Core.Path.{_≡_}
 use mathlib.Core.Bool.{Bool, true, false}
@@ -35,18 +35,19 @@ allUser write (r ∷ rs) = both (userEntry write (r .word)) (allUser write rs)
 unfoldable pub userRows : Bool → List Row → Bool
 userRows write rows = both (isPage (endOf rows)) (allUser write rows)
 
+-- 10 first, then yes or no
 unfoldable pub userMay : ℕ → List ℕ → ℕ → ℕ → ℕ → ℕ → Bool → FlagAnswer
 userMay levels ws start total root v write =
     unless (lentWalk levels (length ws) start total root) (NoFlag brokenRecord)
     (Flag (userRows write (rowsBelow ws start total root (indices levels v))))
 
--- ---- the rule beside the slip's words, whatever the words of the tables are
+-- ---- the rule beside the slip's sentence, whatever stands in the tables
 
 pub record UserRule : Type 0 where
   -- 'user code may read if and only if USER is set in all four entries', where a translation comes to a 4 KiB page
   pub read : (levels : ℕ) (ws : List ℕ) (start total root v : ℕ) → lentWalk levels (length ws) start total root ≡ true
       → (userMay levels ws start total root v false ≡ Flag true)
-      ↔ ((isPage (leaf ws start total root (indices levels v)) ≡ true)
+      ↔ (((e : ℕ) × (leaf ws start total root (indices levels v) ≡ Page e))
       × ((r : Row) → List·Memᴰ r (showTranslate levels ws start total root v .rows) → flag 2 (r .word) ≡ true))
   -- 'and write if and only if WRITABLE is set in all four too'
   pub write : (levels : ℕ) (ws : List ℕ) (start total root v : ℕ) → lentWalk levels (length ws) start total root ≡ true
@@ -55,7 +56,7 @@ pub record UserRule : Type 0 where
       × ((r : Row) → List·Memᴰ r (showTranslate levels ws start total root v .rows) → flag 1 (r .word) ≡ true))
   -- 'all four': an entry of each level
   pub all : (levels : ℕ) (ws : List ℕ) (start total root v : ℕ) → lentWalk levels (length ws) start total root ≡ true
-      → isPage (leaf ws start total root (indices levels v)) ≡ true → length (showTranslate levels ws start total root v .rows) ≡ levels
+      → (e : ℕ) → leaf ws start total root (indices levels v) ≡ Page e → length (showTranslate levels ws start total root v .rows) ≡ levels
   -- yes or no on a record that is not broken, and 10 on one that is
   pub answered : (levels : ℕ) (ws : List ℕ) (start total root v : ℕ) (write : Bool) → lentWalk levels (length ws) start total root ≡ true
       → (userMay levels ws start total root v write ≡ Flag true) ⊎ (userMay levels ws start total root v write ≡ Flag false)

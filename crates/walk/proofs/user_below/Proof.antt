@@ -129,7 +129,9 @@ addr-requires : tie.Need-addr-requires Inv-loop μ-loop
 addr-requires c κs = search needs
 
 is-inside-requires : tie.Need-is-inside-requires Inv-loop μ-loop
-is-inside-requires c κs = let s = c .before .before .before .before .before .before .before .before .before .before .before .before .before .before in omega (arith, s .pre .0 .low)
+is-inside-requires c κs =
+    let s = c .before .before .before .before .before .before .before .before .before .before .before .before .before .before in
+    omega (arith, s .pre .0 .low)
 
 -- the entry names a table: it is above the last level, and no large page
 names : (c : tie.After-is-inside Inv-loop μ-loop) → let l = c .before .before .before .before .before .before .before .before .before .before .before .before .before in
