@@ -107,15 +107,19 @@ if changed "$gadulnos" "$archive" host/gadulnos.rs host/gadulnos; then
     compile -o "$gadulnos" --crate-type rlib --crate-name gadulnos -L native="$(dirname "$archive")" host/gadulnos.rs
 fi
 
-# beside_rust NAME FOLDER: a program with the port and the original in it.
+# beside_rust NAME FOLDER [INPUT...]: a program with the port and the original in it. Further inputs are texts that it includes.
 beside_rust() {
-    if changed "$out/$1" "$gadulnos" "$lib/wrapping/librinux.rlib" "$lib/libpaper.rlib" host/tests/shared "$2"; then
-        compile -o "$out/$1" -L "$lib" --extern gadulnos="$gadulnos" --extern paper="$lib/libpaper.rlib" \
-            --extern rinux="$lib/wrapping/librinux.rlib" "$2/main.rs"
+    program=$1
+    folder=$2
+    shift 2
+    if changed "$out/$program" "$gadulnos" "$lib/wrapping/librinux.rlib" "$lib/libpaper.rlib" host/tests/shared "$folder" "$@"; then
+        compile -o "$out/$program" -L "$lib" --extern gadulnos="$gadulnos" --extern paper="$lib/libpaper.rlib" \
+            --extern rinux="$lib/wrapping/librinux.rlib" "$folder/main.rs"
     fi
 }
 
-for program in layers beside release anything keys; do
+beside_rust layers host/tests/layers examples
+for program in beside release anything keys; do
     beside_rust $program host/tests/$program
 done
 if changed "$out/header" "$archive" host/gadulnos.h host/tests/header.c; then

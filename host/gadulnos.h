@@ -157,7 +157,9 @@ struct gadulnos_line gadulnos_translate(const uint64_t *words, size_t words_len,
 struct gadulnos_line gadulnos_show_translate(const uint64_t *words, size_t words_len, uint64_t start,
                                              uint64_t total, uint64_t levels, uint64_t root, uint64_t virt,
                                              uint64_t out[GADULNOS_SHOWN_NUMBERS]);
-/* 1 if user code may read `virt`, or write it if `write`, else 0. */
+/* 1 if user code may read `virt`, or write it if `write`, else 0. It may read where gadulnos_translate ends on
+ * the last level and all entries that it reads, one on each level, have USER (bit 2), and write where all have
+ * WRITABLE (bit 1) too. */
 struct gadulnos_line gadulnos_user_may(const uint64_t *words, size_t words_len, uint64_t start,
                                        uint64_t total, uint64_t levels, uint64_t root, uint64_t virt,
                                        bool write);

@@ -155,7 +155,8 @@ functions! {
         words: &[u64], start: u64, total: u64, levels: u64, root: u64, virt: u64,
         out: &mut [u64; SHOWN_NUMBERS]
     ) -> Line;
-    /// Whether user code may read `virt`, or write it: 1 or 0.
+    /// Whether user code may read `virt`, or write it: 1 or 0. A translation then ends on the last level, and all
+    /// entries that it reads, one on each level, have USER, and for a write WRITABLE too.
     fn user_may = gadulnos_user_may(
         words: &[u64], start: u64, total: u64, levels: u64, root: u64, virt: u64, write: bool
     ) -> Line;

@@ -13,7 +13,7 @@ use paper::{KERNEL_WINDOW, PAGE, USER_WINDOW};
 
 const SEQUENCES: u64 = 1500;
 
-/// The answers of a call, of a translation also those of the user question, and of the counts all three.
+/// The answers of a call, and of the counts all three.
 macro_rules! player {
     ($name:ident, $calls:ident) => {
         pub fn $name(board: &mut Board, call: &Call) -> [Line; 3] {
@@ -36,11 +36,7 @@ macro_rules! player {
                     $calls::handle_page_fault_second(words, fields, bits, root, addr, code)
                 }
                 Call::Translate { addr } => {
-                    return [
-                        $calls::translate(words, first, total, levels, root, addr),
-                        $calls::user_may(words, first, total, levels, root, addr, false),
-                        $calls::user_may(words, first, total, levels, root, addr, true),
-                    ]
+                    $calls::translate(words, first, total, levels, root, addr)
                 }
                 Call::MapPage { virt, phys, flags } => {
                     let (w, u) = (writable(flags), user(flags));
@@ -116,7 +112,21 @@ fn show(port: &Board, same: &Board, virt: u64) -> Result<(), String> {
     }
 }
 
-/// A call on both, which must leave both alike.
+/// Whether user code may read an address, and write it, on both.
+fn question(port: &Board, same: &Board, virt: u64) -> Result<(), String> {
+    let Frames { start_frame: first, total, levels, .. } = port.frames();
+    for write in [false, true] {
+        let one = gadulnos::user_may(&port.words, first, total, levels, port.root, virt, write);
+        let other = same::user_may(&same.words, first, total, levels, same.root, virt, write);
+        if one != other {
+            return Err(format!("user_may {virt:x} {write}: {one:?} and {other:?}"));
+        }
+    }
+    Ok(())
+}
+
+/// A call on both, which must leave both alike. Of an address that it names to walk to the working is shown, and
+/// the user question asked.
 fn both(port: &mut Board, same: &mut Board, call: &Call) -> Result<(), String> {
     let (one, other) = (on_port(port, call), on_same(same, call));
     if one != other {
@@ -127,7 +137,14 @@ fn both(port: &mut Board, same: &mut Board, call: &Call) -> Result<(), String> {
         Call::Translate { addr: virt }
         | Call::UnmapPage { virt }
         | Call::MapPage { virt, .. }
-        | Call::MapHugePage { virt, .. } => show(port, same, virt),
+        | Call::MapHugePage { virt, .. }
+        | Call::Mmap { addr: virt, .. }
+        | Call::Munmap { addr: virt, .. }
+        | Call::Fault { addr: virt, .. }
+        | Call::SecondFault { addr: virt, .. } => {
+            show(port, same, virt)?;
+            question(port, same, virt)
+        }
         _ => Ok(()),
     }
 }

@@ -150,6 +150,35 @@ static void working(void)
     check("the working of 10", shows(3, 10, 0, none) && shows(6, 10, 0, none));
 }
 
+/* A kernel page, then a user page in the same 2 MiB: the tables are the kernel's, and keep user code out. In other
+ * tables, made for a user page, it may read and write. */
+static void user_question(void)
+{
+    const uint64_t other = UINT64_C(1) << 39;
+    const uint64_t other_of_five = UINT64_C(1) << 48;
+
+    check("a page the user could not reach",
+          start() && is(gadulnos_map_page(MEMORY, RECORD, root, 0, 0x200000, true, false), 0, 0)
+              && is(gadulnos_map_page(MEMORY, RECORD, root, 0x1000, 0x201000, true, true), 0, 0)
+              && is(gadulnos_translate(WALK, 0x1000), 0, 0x201000)
+              && is(gadulnos_user_may(WALK, 0x1000, false), 0, 0)
+              && is(gadulnos_user_may(WALK, 0x1000, true), 0, 0));
+    check("a page in the user's tables",
+          is(gadulnos_map_page(MEMORY, RECORD, root, other, 0x202000, true, true), 0, 0)
+              && is(gadulnos_user_may(WALK, other, false), 0, 1)
+              && is(gadulnos_user_may(WALK, other, true), 0, 1));
+    words[1] &= ~UINT64_C(2);
+    check("a page below an entry that is not writable",
+          is(gadulnos_user_may(WALK, other, false), 0, 1) && is(gadulnos_user_may(WALK, other, true), 0, 0));
+    check("the user question on five levels",
+          start_levels(5, 0) && is(gadulnos_map_page(MEMORY, RECORD, root, 0, 0x200000, true, false), 0, 0)
+              && is(gadulnos_map_page(MEMORY, RECORD, root, other, 0x201000, true, true), 0, 0)
+              && is(gadulnos_map_page(MEMORY, RECORD, root, other_of_five, 0x202000, false, true), 0, 0)
+              && is(gadulnos_user_may(WALK_FIVE, other, false), 0, 0)
+              && is(gadulnos_user_may(WALK_FIVE, other_of_five, false), 0, 1)
+              && is(gadulnos_user_may(WALK_FIVE, other_of_five, true), 0, 0));
+}
+
 /* The top index of five levels is bits 56 to 48; the bits above are ignored. */
 static void five_levels(void)
 {
@@ -210,6 +239,7 @@ int main(void)
     frames();
     tables();
     working();
+    user_question();
     five_levels();
     regions();
     faults();

@@ -65,6 +65,21 @@ impl Tables {
         Ok((entry & ADDR_MASK) + virt % (1 << low))
     }
 
+    /// Whether all entries on the way to a 4 KiB page, its own too, have these bits.
+    #[inline]
+    fn all_have(&self, words: &[u64], virt: u64, bits: u64) -> bool {
+        let mut table = self.root;
+        for level in down(self.levels, 1) {
+            let Some(first) = self.place(table) else { return false };
+            let entry = words[first + index(virt, level)];
+            if entry & bits != bits || level == 2 && entry & HUGE != 0 {
+                return false;
+            }
+            table = frame_of(entry);
+        }
+        true
+    }
+
     /// Takes a page out of its table, and gives the frame that it was mapped to.
     #[inline]
     pub fn unmap(&self, words: &mut [u64], virt: u64) -> Answer {
@@ -133,9 +148,8 @@ pub fn user_may(
     if !tables.may_walk(words) {
         return Line::refused(BROKEN);
     }
-    let need = if write { USER | WRITABLE } else { USER };
-    let leaf = tables.leaf(words, virt);
-    Line::met(leaf.map_or(0, |(entry, level)| u64::from(level == 1 && entry & need == need)))
+    let bits = PRESENT | USER | if write { WRITABLE } else { 0 };
+    Line::met(tables.all_have(words, virt, bits).into())
 }
 
 #[inline(never)]

@@ -1,8 +1,8 @@
 //! States that stand beside those that calls lead to: tables that loop or leave the board,
-//! frames freed under a table, lists in any order, with overlaps.
+//! entries with other rights, frames freed under a table, lists in any order, with overlaps.
 
 use super::pick::Picker;
-use crate::state::{Region, Slot, BITMAP_WORDS};
+use crate::state::{Region, Slot, State, BITMAP_WORDS};
 use crate::PAGE;
 
 /// What to set on a board.
@@ -46,7 +46,7 @@ pub fn perturb(p: &mut Picker) -> Parts {
 
 /// New entries, most of them in frames that are marked, pointing mostly to lent frames.
 fn perturb_words(p: &mut Picker) -> Vec<(usize, u64)> {
-    let mut words = Vec::new();
+    let mut words = other_rights(p);
     for _ in 0..p.random.below(12) {
         let frame = p.random.below(p.state.allocated.max(1)).min(p.state.total - 1) as usize;
         let low = [0, 0, 1, 511, 32, 256];
@@ -55,11 +55,38 @@ fn perturb_words(p: &mut Picker) -> Vec<(usize, u64)> {
         } else {
             p.random.below(512) as usize
         };
-        let flags = p.random.one_of(&[0, 1, 1, 3, 7, 7, 0x81, 0x87, 0xFF]);
+        let flags = p.random.one_of(&[0, 1, 1, 3, 5, 5, 7, 7, 0x81, 0x87, 0xFF]);
         let top = if p.random.chance(1, 8) { p.random.word() & 0xFFF0_0000_0000_0F00 } else { 0 };
         words.push((frame * 512 + index, p.phys() & 0x000F_FFFF_FFFF_F000 | flags | top));
     }
     words
+}
+
+/// Entries on the way to some address, with USER or WRITABLE turned over.
+fn other_rights(p: &mut Picker) -> Vec<(usize, u64)> {
+    let mut words = Vec::new();
+    for _ in 0..p.random.below(8) {
+        let addr = p.address();
+        let present = present_entries(p.state, addr);
+        if !present.is_empty() {
+            let (index, word) = p.random.one_of(&present);
+            words.push((index, word ^ p.random.one_of(&[2, 2, 4, 6])));
+        }
+    }
+    words
+}
+
+/// The present entries on the way to an address, by their words' indices.
+fn present_entries(state: &State, addr: u64) -> Vec<(usize, u64)> {
+    let mut present = Vec::new();
+    let mut table = state.lent(state.root);
+    for shift in (12..state.width()).step_by(9).rev() {
+        let index = table.map(|table| table * 512 + (addr >> shift) as usize % 512);
+        let entry = index.map(|index| (index, state.words[index])).filter(|entry| entry.1 & 1 == 1);
+        present.extend(entry);
+        table = entry.and_then(|(_, word)| state.lent((word & 0x000F_FFFF_FFFF_F000) / PAGE));
+    }
+    present
 }
 
 /// Other marks, at times a frame free under a table, at times another root. The counter

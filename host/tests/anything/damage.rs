@@ -7,6 +7,9 @@ use paper::generate::Random;
 use paper::state::bit;
 use paper::{KERNEL_WINDOW, LAST, PAGE, TEMPORARY, USER_WINDOW};
 
+const WRITABLE: u64 = 2;
+const USER: u64 = 4;
+
 /// What is done to a board.
 #[derive(Clone, Copy, PartialEq, Eq)]
 pub enum Kind {
@@ -60,8 +63,9 @@ impl Kind {
 
 /// A change that leaves every record sound.
 fn odd(random: &mut Random, board: &mut Board) {
-    match random.below(10) {
+    match random.below(12) {
         0..=2 => entries(random, board),
+        10 | 11 => rights(random, board),
         3 => marks(random, board),
         4 => {
             let Frames { start_frame, total, .. } = board.frames();
@@ -110,6 +114,37 @@ fn entries(random: &mut Random, board: &mut Board) {
             }
         }
     }
+}
+
+/// USER and WRITABLE in every entry that is present, but for a few on the way to a page, so that one of them
+/// decides what user code may.
+fn rights(random: &mut Random, board: &mut Board) {
+    let (frames, root) = (board.frames(), board.root);
+    let lent = frames.total as usize * 512;
+    for word in board.words[..lent].iter_mut().filter(|word| **word & 1 == 1) {
+        *word |= USER | WRITABLE;
+    }
+    for _ in 0..1 + random.below(2) {
+        let virt = walked(random, &board.words, frames, root);
+        let level = 1 + random.below(frames.levels);
+        if let Some(place) = place(&board.words, frames, root, virt, level) {
+            board.words[place] &= !random.one_of(&[USER, WRITABLE, WRITABLE, USER | WRITABLE]);
+        }
+    }
+}
+
+/// The word of an address's entry on a level, if its way leads there.
+fn place(words: &[u64], frames: Frames, root: u64, virt: u64, to: u64) -> Option<usize> {
+    let mut table = root;
+    for level in (to..=frames.levels).rev() {
+        let frame = table.checked_sub(frames.start_frame).filter(|frame| *frame < frames.total)?;
+        let place = frame as usize * 512 + (virt >> (3 + 9 * level)) as usize % 512;
+        if level == to {
+            return Some(place);
+        }
+        table = (words[place] & 0x000F_FFFF_FFFF_F000) >> 12;
+    }
+    None
 }
 
 /// An entry once in so many words, else an absent one. Most entries lead to lent frames.

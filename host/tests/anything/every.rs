@@ -164,10 +164,10 @@ fn call(random: &mut Random, base: &Base, row: &Row) -> Result<(), String> {
             holds(part.is_same(), &format!("{arg:?} as it was, with {first:x}"))?;
         }
     }
+    let line = Line { number: first, value: second };
     match &lent[..] {
-        [(Arg::Words, words), (Arg::Working, out)] => {
-            shown(words, out, &args, Line { number: first, value: second })
-        }
+        [(Arg::Words, words), (Arg::Working, out)] => shown(words, out, &args, line),
+        [(Arg::Words, words)] if row.name == "gadulnos_user_may" => asked(words, &args, line),
         _ => Ok(()),
     }
 }
@@ -186,19 +186,35 @@ unsafe fn enter(row: &Row, a: [u64; ARGS]) -> Registers {
     )
 }
 
-/// That an answer and every number of its working are the model's.
-fn shown(words: &Lent, out: &Lent, args: &[u64; ARGS], line: Line) -> Result<(), String> {
-    let (words, numbers) = match (words, out) {
-        (Lent::Words { before, .. }, Lent::Words { memory, .. }) => (before, memory),
-        _ => return Err("no words".to_string()),
+/// The model of a walk's board, and the address: words, then behind their pointer and number start_frame,
+/// total, levels, root and the address.
+fn model(words: &Lent, args: &[u64; ARGS]) -> Result<(Model, u64), String> {
+    let words = match words {
+        Lent::Words { before, .. } => before.clone(),
+        Lent::Bytes { .. } => return Err("no words".to_string()),
     };
-    // Behind the pointer to the words and their number.
     let [start_frame, total, levels, root, virt]: [u64; 5] =
         args[2..7].try_into().expect("five numbers");
     let frames = Frames { start_frame, total, allocated: 0, levels };
-    let board = Board { words: words.clone(), fields: frames.pack(), root, ..Board::lend(0) };
-    let (wanted, working) = Model::of(&board).show_translate(virt);
+    let board = Board { words, fields: frames.pack(), root, ..Board::lend(0) };
+    Ok((Model::of(&board), virt))
+}
+
+/// That an answer and every number of its working are the model's.
+fn shown(words: &Lent, out: &Lent, args: &[u64; ARGS], line: Line) -> Result<(), String> {
+    let numbers = match out {
+        Lent::Words { memory, .. } => memory,
+        Lent::Bytes { .. } => return Err("no numbers".to_string()),
+    };
+    let (mut model, virt) = model(words, args)?;
+    let (wanted, working) = model.show_translate(virt);
     equal((line, &numbers[..]), (wanted, &working[..]))
+}
+
+/// That the user question's answer is the model's. Behind the address stands whether it is to write.
+fn asked(words: &Lent, args: &[u64; ARGS], line: Line) -> Result<(), String> {
+    let (mut model, virt) = model(words, args)?;
+    equal(line, model.user_may(virt)[args[7] as usize])
 }
 
 fn is_read(arg: Arg) -> bool {

@@ -22,8 +22,11 @@ mod model;
 mod options;
 #[path = "../shared/port.rs"]
 mod port;
+mod question;
 #[path = "../shared/report.rs"]
 mod report;
+#[path = "../shared/rights.rs"]
+mod rights;
 mod shot;
 mod table;
 mod working;
@@ -52,6 +55,7 @@ fn main() {
     report.tell("anything: every C function", every::run(&mut options.random(20), rounds));
     table::check(&mut report, &seen, options.amount);
     working::check(&mut report, &seen, options.amount);
+    question::check(&mut report, &seen, options.amount);
     worst::check(&mut report);
     report.finish();
 }

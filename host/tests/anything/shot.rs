@@ -5,7 +5,9 @@ use crate::damage::{walked, Kind};
 use crate::guard::Against;
 use crate::model::Model;
 use crate::port::{self, Port};
+use crate::question;
 use crate::report::{equal, holds};
+use crate::rights::Cases;
 use crate::table;
 use crate::working::{self, Verdicts};
 use gadulnos::{Board, Frames, Kernel, Line, Marked, User, LEVELS, MOST_LEVELS};
@@ -24,6 +26,7 @@ pub struct Seen {
     /// How often a translation was answered so, by the levels that it was lent: 4, 5, or 0 for others.
     pub walks: BTreeMap<(u64, u64), u64>,
     pub verdicts: Verdicts,
+    pub cases: Cases,
     /// Calls whose words were compared with the model's, those of them that walk five levels, and releases
     /// in whose midst the model gave up.
     pub compared: u64,
@@ -101,6 +104,7 @@ pub fn round(random: &mut Random, kind: Kind, seen: &mut Seen) -> Result<u64, St
         kind.apply(random, &mut board);
         let against = random.one_of(&[Against::Before, Against::Behind]);
         let mut port = port::guarded(&board, against);
+        question::on_board(random, &port, seen)?;
         for _ in 0..8 {
             let shot = draw(random, &base, &port);
             fire(&mut port, &shot, seen).map_err(|why| format!("{}{why}", shot.describe()))?;
@@ -238,7 +242,7 @@ fn ask(
     match *call {
         Call::Counts => equal(port::counts(port), model.counts()),
         Call::Translate { addr } => {
-            equal(port::user_may(port, addr), model.user_may(addr))?;
+            question::ask(&port.words, port.frames(), model, addr, seen)?;
             let shown = working::show(&port.words, port.frames(), model, addr, seen)?;
             equal(shown, (line, line))
         }
@@ -264,9 +268,7 @@ fn walk(port: &mut Port, mut model: Model, lent: Walk, seen: &mut Seen) -> Resul
     model.frames = Some(frames);
     model.root = root;
     let words = &mut port.words;
-    let may = [false, true]
-        .map(|write| gadulnos::user_may(words, start, total, levels, root, virt, write));
-    equal(may, model.user_may(virt))?;
+    question::ask(words, frames, &mut model, virt, seen)?;
     let (line, wanted) = working::show(words, frames, &mut model, virt, seen)?;
     equal(line, wanted)?;
     let known = if (LEVELS..=MOST_LEVELS).contains(&levels) { levels } else { 0 };

@@ -20,6 +20,8 @@ mod port;
 mod rare;
 #[path = "../shared/report.rs"]
 mod report;
+#[path = "../shared/rights.rs"]
+mod rights;
 mod seen;
 mod starts;
 

@@ -4,7 +4,8 @@ use crate::boards::{self, Kind, Setting};
 use crate::port::{self, Port};
 use crate::rare::{self, leaf};
 use crate::report::{equal, holds, Checked};
-use gadulnos::Line;
+use crate::rights::Case;
+use gadulnos::{Line, LEVELS};
 use paper::call::Call;
 use paper::domain::{self, Verdict};
 use paper::generate::Random;
@@ -133,19 +134,18 @@ fn play_one(
     Ok(line)
 }
 
-/// The questions beside a call: after a translation whether user code may read or write there, which the
-/// Rust does not have, and the three counts.
+/// The questions beside a call: of the address that it names whether user code may read or write there, which
+/// the Rust does not have, and the three counts.
 fn ask(state: &State, port: &Port, call: &Call, seen: &mut Seen) -> Result<(), String> {
+    if let Some(virt) = rare::walked(call) {
+        question(state, port, virt, seen)?;
+    }
     match *call {
         Call::Translate { addr } => {
             let leaf = leaf(state, addr);
             let level = leaf.map_or("nowhere".to_string(), |(_, level)| format!("level {level}"));
             count(seen, &format!("translate to {level}"));
-            let answers = user_may(leaf);
-            for (answer, what) in answers.iter().zip(["read", "write"]) {
-                count(seen, &format!("user may {what}: {}", answer.value));
-            }
-            equal(port::user_may(port, addr), answers)
+            Ok(())
         }
         Call::Counts => {
             let counts = [state.total - state.allocated, state.allocated, state.total];
@@ -155,8 +155,27 @@ fn ask(state: &State, port: &Port, call: &Call, seen: &mut Seen) -> Result<(), S
     }
 }
 
-/// Whether user code may read an address, and write it: the last level's entry alone decides.
-fn user_may(leaf: Option<(u64, usize)>) -> [Line; 2] {
-    let word = leaf.filter(|(_, level)| *level == 1).map_or(0, |(word, _)| word);
-    [4, 6].map(|bits| Line::met((word & bits == bits).into()))
+/// The user question, beside a direct reading of all entries.
+fn question(state: &State, port: &Port, virt: u64, seen: &mut Seen) -> Result<(), String> {
+    let entries = rare::entries(state, virt);
+    let answers = user_may(&entries);
+    for (answer, what) in answers.iter().zip(["read", "write"]) {
+        count(seen, &format!("user may {what}: {}", answer.value));
+    }
+    let case = Case::of(LEVELS, &entries);
+    count(seen, &format!("user question, {case}"));
+    if let Case::Writable(2..) = case {
+        count(seen, "user question, WRITABLE clear alone above the last level: 0");
+    }
+    equal(port::user_may(port, virt), answers)
+}
+
+/// Whether user code may read an address, and write it: each of the four entries has USER, and for a write
+/// WRITABLE too, and the fourth is present. Fewer were read where nothing translates or a large page does.
+fn user_may(entries: &[u64]) -> [Line; 2] {
+    let is_page = entries.len() == 4 && entries[3] & 1 != 0;
+    [4, 6].map(|bits| {
+        let all = entries.iter().all(|word| word & bits == bits);
+        Line::met((is_page && all).into())
+    })
 }

@@ -6,18 +6,29 @@ use paper::{PAGE, TEMPORARY};
 
 const HUGE: u64 = 128;
 
-/// The entry that a translation ends at on four levels, read directly, and its level from the bottom.
-pub fn leaf(state: &State, virt: u64) -> Option<(u64, usize)> {
-    let mut table = state.root;
-    for (level, shift) in (1..=4).rev().zip([39, 30, 21, 12]) {
-        let word = state.words[state.lent(table)? * 512 + (virt >> shift) as usize % 512];
-        match word & 1 {
-            0 => return None,
-            _ if level == 1 || level == 2 && word & HUGE != 0 => return Some((word, level)),
-            _ => table = (word & 0x000F_FFFF_FFFF_F000) / PAGE,
+/// The words that a translation reads on four levels, read directly, the root's first.
+pub fn entries(state: &State, virt: u64) -> Vec<u64> {
+    let (mut entries, mut table) = (Vec::new(), state.lent(state.root));
+    for shift in [39, 30, 21, 12] {
+        let word = match table {
+            Some(table) => state.words[table * 512 + (virt >> shift) as usize % 512],
+            None => break,
+        };
+        entries.push(word);
+        if word & 1 == 0 || shift == 21 && word & HUGE != 0 {
+            break;
         }
+        table = state.lent((word & 0x000F_FFFF_FFFF_F000) / PAGE);
     }
-    None
+    entries
+}
+
+/// The entry that a translation ends at on four levels, and its level from the bottom.
+pub fn leaf(state: &State, virt: u64) -> Option<(u64, usize)> {
+    let entries = entries(state, virt);
+    let (word, level) = (*entries.last()?, 5 - entries.len());
+    let is_leaf = word & 1 != 0 && (level == 1 || level == 2 && word & HUGE != 0);
+    is_leaf.then_some((word, level))
 }
 
 /// What is seldom about a call on this state, as names to count it under.
@@ -88,7 +99,7 @@ fn far(name: &str, state: &State, size: Option<u64>) -> Vec<String> {
 }
 
 /// The address that a call walks to first, where its arguments tell.
-fn walked(call: &Call) -> Option<u64> {
+pub fn walked(call: &Call) -> Option<u64> {
     match *call {
         Call::MapPage { virt, .. } | Call::UnmapPage { virt } => Some(virt),
         Call::MapHugePage { virt, .. } => Some(virt),

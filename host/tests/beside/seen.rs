@@ -22,8 +22,8 @@ const ANSWERS: [(&str, &[Least]); 24] = [
     ),
     ("translate ", &[(0, 1100), (14, 3500)]),
     ("translate to level ", &[(1, 900), (2, 170)]),
-    ("user may read: ", &[(0, 4000), (1, 500)]),
-    ("user may write: ", &[(0, 4000), (1, 250)]),
+    ("user may read: ", &[(0, 30000), (1, 6000)]),
+    ("user may write: ", &[(0, 30000), (1, 3000)]),
     ("second_fault ", &[(0, 800), (5, 500), (7, 60), (8, 60), (11, 430), (17, 700)]),
     ("map_page ", &[(0, 2000), (11, 3000), (12, 1300)]),
     ("unmap_page ", &[(0, 1200), (14, 2700)]),
@@ -41,7 +41,7 @@ const ANSWERS: [(&str, &[Least]); 24] = [
 ];
 
 /// Each event by its name and answer.
-const EVENTS: [(&str, &[Least]); 21] = [
+const EVENTS: [(&str, &[Least]); 25] = [
     ("calls with a HUGE entry on the board: ", &[(1, 15000)]),
     ("vmalloc at 256 regions, ", &[(0, 10), (11, 1), (15, 30)]),
     ("vmalloc cuts at 256 regions, ", &[(0, 5)]),
@@ -51,6 +51,11 @@ const EVENTS: [(&str, &[Least]); 21] = [
     ("mark_cow at 255 pages, ", &[(0, 30)]),
     ("copy, ", &[(0, 230), (11, 450), (18, 30)]),
     ("copy with the temporary page mapped, ", &[(0, 40), (11, 20)]),
+    // What decides the user question: above the last level it is what the page's own entry does not tell.
+    ("user question, USER clear alone on level ", &[(1, 1000), (2, 30), (3, 30), (4, 600)]),
+    ("user question, WRITABLE clear alone on level ", &[(1, 3000), (4, 10)]),
+    ("user question, WRITABLE clear alone above the last level: ", &[(0, 25)]),
+    ("user question, a large page alone on level ", &[(2, 180)]),
     ("translate over a HUGE entry of the last level but one, ", &[(0, 170)]),
     ("map_page over a HUGE entry of the last level but one, ", &[(0, 5), (12, 35)]),
     ("unmap_page over a HUGE entry of the last level but one, ", &[(0, 12), (14, 2)]),

@@ -45,6 +45,13 @@ impl Example {
         Ok(())
     }
 
+    /// That user code may read an address, and write it, or not: 1 or 0.
+    pub fn may(&mut self, virt: u64, wanted: [u64; 2]) -> Result<(), String> {
+        let wanted = wanted.map(Line::met);
+        equal_at(virt, port::user_may(&self.port, virt), wanted)?;
+        equal_at(virt, self.model.user_may(virt), wanted)
+    }
+
     /// A start that is refused and changes nothing.
     pub fn refused_start(&mut self, to: u64, levels: u64, number: u64) -> Result<(), String> {
         let wanted = Line::refused(number);

@@ -19,11 +19,15 @@ mod guard;
 mod model;
 #[path = "../shared/options.rs"]
 mod options;
+mod papers;
 #[path = "../shared/port.rs"]
 mod port;
+mod question;
 mod reader;
 #[path = "../shared/report.rs"]
 mod report;
+#[path = "../shared/rights.rs"]
+mod rights;
 mod rounding;
 mod search;
 mod walks;
@@ -44,8 +48,10 @@ fn main() {
     frames::check(&mut report, &options);
     walks::check(&mut report, &options);
     working::check(&mut report, &options);
+    question::check(&mut report, &options);
     five::check(&mut report);
     differences::check(&mut report);
+    papers::check(&mut report);
     search::check(&mut report, &options);
     report.finish();
 }

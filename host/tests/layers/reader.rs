@@ -1,11 +1,13 @@
-//! A reader of workings: it reads the words of each row again, and says what answer the last row gives. Of the
-//! model and of the port it knows nothing.
+//! A reader of workings: it reads the words of each row again, and says what answer the last row gives. The user
+//! question it answers from the words alone. Of the model and of the port it knows nothing.
 
 use crate::port::Working;
 use crate::report::{equal, equal_at, holds};
 use gadulnos::{Frames, Line};
 
 const PRESENT: u64 = 1;
+const WRITABLE: u64 = 2;
+const USER: u64 = 4;
 const HUGE: u64 = 128;
 const ADDR_MASK: u64 = 0x000F_FFFF_FFFF_F000;
 
@@ -77,6 +79,39 @@ impl Tables<'_> {
         };
         equal_at(format!("verdict {verdict} on level {level}"), is_true, true)?;
         Ok(line)
+    }
+}
+
+/// The user question, from the words.
+impl Tables<'_> {
+    /// The words on the way of an address, the root's first: as far as they lead.
+    pub fn entries(&self, virt: u64) -> Vec<u64> {
+        let (mut entries, mut table) = (Vec::new(), self.root);
+        for level in (1..=self.frames.levels).rev() {
+            if !self.is_lent(table) {
+                break;
+            }
+            let index = virt >> (3 + 9 * level) & 511;
+            let word = self.words[((table - self.frames.start_frame) * 512 + index) as usize];
+            entries.push(word);
+            let row = [level, table, index, word, 0];
+            if !leads_on(&row) {
+                break;
+            }
+            table = table_of(&row);
+        }
+        entries
+    }
+
+    /// Whether user code may read an address, and write it: one entry on each level, the last present, all with
+    /// USER, and for a write all with WRITABLE.
+    pub fn user_may(&self, virt: u64) -> [Line; 2] {
+        let entries = self.entries(virt);
+        let is_present = entries.last().map_or(false, |word| word & PRESENT != 0);
+        let is_page = entries.len() as u64 == self.frames.levels && is_present;
+        let in_all = |bit: u64| entries.iter().all(|word| word & bit != 0);
+        let read = is_page && in_all(USER);
+        [read, read && in_all(WRITABLE)].map(|may| Line::met(may.into()))
     }
 }
 

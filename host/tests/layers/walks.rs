@@ -1,6 +1,6 @@
 //! The calls that are lent the number of levels, on a chain of tables that leads to one page: which bits of
-//! an address they look at, on which level HUGE counts, and which numbers of levels they refuse. The working
-//! of each translation is read again.
+//! an address they look at, on which level HUGE counts, which entries USER and WRITABLE count in, and which
+//! numbers of levels they refuse. The working of each translation is read again.
 
 use crate::guard::{Against, Guarded};
 use crate::options::Options;
@@ -11,14 +11,21 @@ use gadulnos::{Frames, Line, LEVELS, MOST_LEVELS};
 use paper::generate::Random;
 use paper::PAGE;
 
+const WRITABLE: u64 = 2;
+const USER: u64 = 4;
 const HUGE: u64 = 128;
 
 /// The user's, writable and present.
 const ENTRY: u64 = 7;
 
+/// The bits of an entry that nothing looks at: 3 to 6, 8 to 11, and 52 to 63.
+const OTHERS: u64 = 0xFFF0_0000_0000_0F78;
+
 pub fn check(report: &mut Report, options: &Options) {
     report.tell("walks: which bits of an address lead to a page", bits(options));
     report.tell("walks: HUGE on each level", huge(options));
+    report.tell("walks: USER and WRITABLE clear on each level", rights(options));
+    report.tell("walks: USER and WRITABLE clear in every combination", combinations(options));
     report.tell("walks: entries that are absent or lead outside", ends(options));
     report.tell("walks: other numbers of levels", other_levels(options));
 }
@@ -153,6 +160,52 @@ fn huge(options: &Options) -> Checked {
             chain.words[place] = word;
         }
         Ok(chain.levels)
+    })
+}
+
+/// Without USER on one level, whichever, user code may not; without WRITABLE it may read. A translation looks at
+/// neither.
+fn rights(options: &Options) -> Checked {
+    each(options, 48, |_, chain| {
+        let virt = chain.virt;
+        for (level, place) in (1..).zip(chain.places.clone()) {
+            let word = chain.words[place];
+            for (clear, may) in
+                [(USER, [0, 0]), (WRITABLE, [1, 0]), (USER | WRITABLE, [0, 0]), (0, [1, 1])]
+            {
+                chain.words[place] = word & !clear;
+                let at = (level, clear);
+                equal_at(at, chain.user_may(virt), may.map(Line::met))?;
+                let page = Line::met(chain.frame * PAGE + virt % PAGE);
+                equal_at(at, chain.translate(virt)?, page)?;
+            }
+            chain.words[place] = word;
+        }
+        Ok(4 * chain.levels)
+    })
+}
+
+/// Every choice of entries without USER and of entries without WRITABLE, whatever else the entries hold: HUGE too,
+/// but for the last level but one.
+fn combinations(options: &Options) -> Checked {
+    each(options, 49, |random, chain| {
+        let choices = 1 << chain.levels;
+        let words: Vec<u64> = chain.places.iter().map(|place| chain.words[*place]).collect();
+        for no_user in 0..choices {
+            for no_writable in 0..choices {
+                for (k, place) in chain.places.iter().enumerate() {
+                    let is_in = |choice: u64| choice >> k & 1;
+                    let clear = USER * is_in(no_user) + WRITABLE * is_in(no_writable);
+                    let others = if k == 1 { OTHERS } else { OTHERS | HUGE };
+                    chain.words[*place] = words[k] & !clear | random.word() & others;
+                }
+                let read = u64::from(no_user == 0);
+                let write = u64::from(no_user == 0 && no_writable == 0);
+                let at = (no_user, no_writable);
+                equal_at(at, chain.user_may(chain.virt), [read, write].map(Line::met))?;
+            }
+        }
+        Ok(choices * choices)
     })
 }
 

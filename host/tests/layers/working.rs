@@ -277,7 +277,7 @@ fn ignored_bits() -> Result<(), String> {
     Ok(())
 }
 
-/// 10, no rows, and 26 zeros, on a board where the address is mapped.
+/// 10, no rows, and 26 zeros, on a board where the address is mapped. The user question answers 10 there too.
 fn broken() -> Result<(), String> {
     let mut board = four()?;
     board.play(&[(map(0x1000, 0x20_0000), 0, 0)])?;
@@ -286,6 +286,10 @@ fn broken() -> Result<(), String> {
         let (line, working) = port::show_translate(words, frames, root, 0x1000);
         let Frames { start_frame, total, levels, .. } = frames;
         equal(line, gadulnos::translate(words, start_frame, total, levels, root, 0x1000))?;
+        for write in [false, true] {
+            let may = gadulnos::user_may(words, start_frame, total, levels, root, 0x1000, write);
+            equal(may, line)?;
+        }
         reader::is_broken(line, &working).map_err(|why| format!("{frames:x?}, {root:x}: {why}"))
     };
     for levels in [0, 1, 2, 3, 6, 7, 8, 1 << 32 | 4, 1 << 63 | 5, u64::MAX] {
@@ -367,7 +371,7 @@ fn random_words(options: &Options) -> Checked {
 }
 
 /// The words of a few lent frames, and a root among them.
-fn any_tables(random: &mut Random, levels: u64) -> (Guarded<u64>, Frames, u64) {
+pub fn any_tables(random: &mut Random, levels: u64) -> (Guarded<u64>, Frames, u64) {
     let total = 1 + random.below(8);
     let start_frame = random.one_of(&[0, 1, 0x100, 1 << 35, (1 << 40) - total]);
     let extra = random.one_of(&[0, 0, 1, 700]);

@@ -151,11 +151,12 @@ impl Memory<'_> {
         Ok((leaf & ADDR_MASK) + virt % (1 << low))
     }
 
-    /// Whether user code may, by these bits of a page's entry: 'no where nothing translates' or a HUGE
-    /// entry of the last level but one does.
+    /// Whether user code may: these bits are 'set in all four entries', those that a translation reads, and
+    /// they lead to a 4 KiB page. 'No where nothing translates' or a HUGE entry of the last level but one does.
     pub fn user_may(&self, virt: u64, bits: u64) -> bool {
-        let leaf = self.leaf(virt, &mut Vec::new());
-        leaf.map_or(false, |(leaf, is_huge)| !is_huge && leaf & bits == bits)
+        let mut reads = Vec::new();
+        let is_page = matches!(self.leaf(virt, &mut reads), Ok((_, false)));
+        is_page && reads.iter().all(|[_, _, _, word]| word & bits == bits)
     }
 
     /// The entry that a translation ends at, and whether it is a HUGE one of the last level but one. What it

@@ -1,6 +1,7 @@
 //! Document 01, written a second time and in the plainest way, on copies of what is lent, for boards of
 //! four and of five levels: the frame record has their number. It knows also what lies outside the domain
-//! of equality: 10, 19, 20 and the leftovers, and the working of a translation (document 02).
+//! of equality: 10, 19, 20 and the leftovers, and of document 02 the working of a translation and the rule of
+//! the user question.
 
 #![allow(dead_code)] // no program uses all of it
 

@@ -1,0 +1,148 @@
+//! The papers of examples/: each line is a call with its key, played on a fresh board through the C functions, the
+//! model beside; the last lines are the words that the calls left. A failure names file and line.
+
+use crate::example::{Example, FROM};
+use crate::report::{equal, equal_at, holds, Checked, Report};
+use gadulnos::{Frames, Line};
+use paper::call::Call;
+use paper::PAGE;
+use std::collections::BTreeSet;
+
+const PAPERS: [(&str, &str); 2] = [
+    ("examples/user-page.txt", include_str!("../../../examples/user-page.txt")),
+    ("examples/user-page-five.txt", include_str!("../../../examples/user-page-five.txt")),
+];
+
+pub fn check(report: &mut Report) {
+    for (file, text) in PAPERS {
+        report.tell(&format!("papers: {file}"), play(file, text));
+        report.tell(&format!("papers: {file} with one line changed"), changed(file, text));
+    }
+}
+
+/// The lines without their comments, by their number, if anything is left.
+fn lines(text: &str) -> impl Iterator<Item = (usize, &str)> + '_ {
+    let bare = text.lines().map(|line| line.split('#').next().unwrap_or_default().trim());
+    (1..).zip(bare).filter(|(_, line)| !line.is_empty())
+}
+
+/// Plays a paper; the number of its lines.
+fn play(file: &str, text: &str) -> Checked {
+    let mut paper: Option<Paper> = None;
+    for (at, line) in lines(text) {
+        let told = match &mut paper {
+            None => Paper::start(line).map(|fresh| paper = Some(fresh)),
+            Some(paper) => paper.line(line),
+        };
+        told.map_err(|why| format!("{file}:{at}: `{line}`: {why}"))?;
+    }
+    let paper = paper.ok_or(format!("{file}: no board"))?;
+    paper.all_told().map_err(|why| format!("{file}: {why}"))?;
+    Ok(lines(text).count() as u64)
+}
+
+/// A board in the midst of a paper, and which of its words were told, by frame and index.
+struct Paper {
+    board: Example,
+    told: BTreeSet<(u64, u64)>,
+}
+
+impl Paper {
+    fn start(line: &str) -> Result<Paper, String> {
+        let parts: Vec<&str> = line.split_whitespace().collect();
+        let (levels, frames, from) = match parts[..] {
+            ["board", levels, "levels,", frames, "frames", "from", from] => (levels, frames, from),
+            _ => return Err("no board".to_string()),
+        };
+        equal(number(from)?, FROM)?;
+        let board = Example::fresh(number(levels)?, number(frames)?)?;
+        Ok(Paper { board, told: BTreeSet::new() })
+    }
+
+    /// A call and its key, or a word.
+    fn line(&mut self, line: &str) -> Result<(), String> {
+        let parts: Vec<&str> = line.split_whitespace().collect();
+        match parts[..] {
+            ["word", place, "=", word] => self.word(place, number(word)?),
+            [ref call @ .., "=", value] => self.call(call, Line::met(number(value)?)),
+            [ref call @ .., "refused", why] => self.call(call, Line::refused(number(why)?)),
+            _ => Err("no key".to_string()),
+        }
+    }
+
+    /// Makes a call on both, with this answer.
+    fn call(&mut self, call: &[&str], key: Line) -> Result<(), String> {
+        let call = match *call {
+            ["may_read", virt] => return self.may(number(virt)?, false, key),
+            ["may_write", virt] => return self.may(number(virt)?, true, key),
+            ["map_page", virt, phys, ref flags @ ..] => {
+                Call::MapPage { virt: number(virt)?, phys: number(phys)?, flags: bits(flags)? }
+            }
+            ["translate", virt] => Call::Translate { addr: number(virt)? },
+            ["allocated_frames"] => Call::Counts,
+            _ => return Err("no such call".to_string()),
+        };
+        self.board.play(&[(call, key.number, key.value)])
+    }
+
+    fn may(&mut self, virt: u64, write: bool, key: Line) -> Result<(), String> {
+        equal(self.board.port.user_may(virt, write), key)?;
+        equal(self.board.model.user_may(virt)[usize::from(write)], key)
+    }
+
+    /// That a word stands, as in `0x100[0]`.
+    fn word(&mut self, place: &str, word: u64) -> Result<(), String> {
+        let inner = place.strip_suffix(']').and_then(|place| place.split_once('['));
+        let (frame, index) = inner.ok_or("no frame and index")?;
+        let (frame, index) = (number(frame)?, number(index)?);
+        let Frames { start_frame, total, .. } = self.board.port.frames();
+        let is_lent = frame.wrapping_sub(start_frame) < total && index < 512;
+        holds(is_lent && self.told.insert((frame, index)), "a word of the board, told once")?;
+        self.board.words(&[(frame, index, word)])
+    }
+
+    /// That every word that is not 0 was told.
+    fn all_told(&self) -> Result<(), String> {
+        let places = (0..).map(|i| (FROM / PAGE + i / 512, i % 512));
+        let mut words = places.zip(&self.board.port.words[..]);
+        let untold = words.find(|(place, word)| **word != 0 && !self.told.contains(place));
+        equal_at("words that no line tells", untold, None)
+    }
+}
+
+fn number(text: &str) -> Result<u64, String> {
+    let digits = text.strip_prefix("0x");
+    let number = digits.map_or_else(|| text.parse(), |digits| u64::from_str_radix(digits, 16));
+    number.map_err(|_| format!("`{text}` is no number"))
+}
+
+/// The flags of a map call.
+fn bits(flags: &[&str]) -> Result<u8, String> {
+    match *flags {
+        [] => Ok(0),
+        ["writable"] => Ok(1),
+        ["user"] => Ok(2),
+        ["writable", "user"] => Ok(3),
+        _ => Err(format!("{flags:?} are no flags")),
+    }
+}
+
+/// That a paper fails, and says where, if a line has another key or another first word, or tells a word no more.
+fn changed(file: &str, text: &str) -> Checked {
+    let mut cases = 0;
+    for (at, line) in lines(text) {
+        let (here, somewhere) = (format!("{file}:{at}: "), format!("{file}: "));
+        let mut others = vec![(format!("{line}1"), &here), (format!("x{line}"), &here)];
+        if line.starts_with("word") {
+            others.push((String::new(), &somewhere));
+        }
+        for (other, place) in others {
+            let each = (1..).zip(text.lines()).map(|(i, line)| if i == at { &other } else { line });
+            let text = each.collect::<Vec<&str>>().join("\n");
+            let failure = play(file, &text).err().unwrap_or_default();
+            holds(failure.starts_with(place), &format!("`{other}` to fail, not `{failure}`"))?;
+            cases += 1;
+        }
+    }
+    Ok(cases)
+}
