@@ -40,35 +40,35 @@ use Rattle.cases.specs.UserCase.{thenUserPage}
 -- ---- frames enough
 
 -- at least k frames are free
-abbrev Room : ℕ → Memory → Type 0
-Room k m = m .frames .fa .allocated + k ≤ totalOf m
+abbrev FreeAtLeast : ℕ → Memory → Type 0
+FreeAtLeast k m = m .frames .fa .allocated + k ≤ totalOf m
 
 -- a step that came somewhere and left so many
-record Met (k : ℕ) (o : Out) : Type 0 where
+record Arrived (k : ℕ) (o : Out) : Type 0 where
   pub table : ℕ
   pub comes : o .walked ≡ Value table
-  pub room : Room k (o .mem)
+  pub room : FreeAtLeast k (o .mem)
 
 -- a table that is entered is there or finds a frame
-enter-met : {m : Memory} {root n : ℕ} → Ordered m root n → (u : Bool) (q : List ℕ) (t i k : ℕ) → length q ≤ n → reachIn m root q ≡ Value t → Room (suc k) m
-    → Met k (enter u m t i)
+enter-met : {m : Memory} {root n : ℕ} → Ordered m root n → (u : Bool) (q : List ℕ) (t i k : ℕ) → length q ≤ n → reachIn m root q ≡ Value t → FreeAtLeast (suc k) m
+    → Arrived k (enter u m t i)
 unfolding withMark
 enter-met {m} {root} {n} o u q t i k lq hq r =
-    enter-cases u m t i (Met k) (λ out. absurd (true≢false (sym (o .tree .into q t lq hq) ∙ out)))
+    enter-cases u m t i (Arrived k) (λ out. absurd (true≢false (sym (o .tree .into q t lq hq) ∙ out)))
     (λ _ _. record { table = _; comes = refl; room = omega arith })
     (λ _ _ j _ _ _. record { table = startFrame m + j; comes = refl; room = omega arith })
     (λ _ _ all. absurd (omega (arith, o .counted, count-all (m .frames .bits) (totalOf m) all)))
 
 -- and so are all the tables along a path
 make-met : {root n : ℕ} (u : Bool) (is : List ℕ) {m : Memory} → Ordered m root n → (q : List ℕ) (t : ℕ) → reachIn m root q ≡ Value t → length q + length is < n → Small is
-    → Room (length is) m → Met 0 (make u m t is)
+    → FreeAtLeast (length is) m → Arrived 0 (make u m t is)
 unfolding make
 make-met u [] {m} o q t hq l small r = record { table = t; comes = refl; room = r }
 make-met u (i ∷ is) {m} o q t hq l small r =
     let a = enter-met o u q t i (length is) (omega arith) hq r in
     let long = length-append q (i ∷ []) in
     let b = enter-made o (omega (arith, long)) u q t i hq (omega arith) (small 0) (leads-refl (q ++ (i ∷ []))) in
-    goOn-cases (Met 0) (enter u m t i) (λ f m′. make u m′ f is) (λ _ e. absurd (nowhere (sym e ∙ a .comes)))
+    goOn-cases (Arrived 0) (enter u m t i) (λ f m′. make u m′ f is) (λ _ e. absurd (nowhere (sym e ∙ a .comes)))
     (λ f e. make-met u is (b .grew .order) (q ++ (i ∷ [])) f (b .there f e) (omega (arith, long)) (λ k. small (suc k)) (a .room))
 
 -- ---- one table of the last level
@@ -142,10 +142,10 @@ other-last up v v′ same differ e =
     let i : v′ / 2 ^ 12 % 512 ≡ v / 2 ^ 12 % 512 = sym (index-last up v′) ∙ e ∙ index-last up v in
     differ (omega arith)
 
-module _ {m : Memory} {root up : ℕ} (o : Ordered m root (suc up)) (plain : PlainIn m root (suc up)) (bare : Live m root up []) (room : Room up m)
+module _ {m : Memory} {root up : ℕ} (o : Ordered m root (suc up)) (plain : PlainIn m root (suc up)) (bare : Live m root up []) (room : FreeAtLeast up m)
     (v p : ℕ) (w u : Bool) (v′ p′ : ℕ) (w′ : Bool) (same : v / 2 ^ 21 ≡ v′ / 2 ^ 21) (differ : v / 2 ^ 12 ≡ v′ / 2 ^ 12 → ⊥) where
   -- the tables on the way are made, down to one of the last level
-  met : Met 0 (make u m root (upper up v))
+  met : Arrived 0 (make u m root (upper up v))
   met =
       make-met u (upper up v) o [] root (reach-end _ _ _ root refl) (omega (arith, length-upper up v)) (upper-small up v)
       (omega (arith, length-upper up v))

@@ -23,14 +23,14 @@ use Rattle.intel.specs.Sdm.{Paging, fourLevel, fiveLevel, bits, Memory, 
 use Rattle.intel.specs.Sdm.{throughPte, throughPde, throughPdpte, throughPml4e, throughPml5e, throughCr3, linear}
 use Rattle.intel.specs.Sdm.{reading, readPte, readPde, readPdpte, readPml4e, readPml5e, readCr3, entriesRead}
 use Rattle.intel.specs.Sdm.{Access, dataRead, dataWrite, userSupervisor, readWrite, inEvery, permits, Accessed, permitted, pageFault, generalProtection, largePage, accessTo, userAccess}
-use Rattle.intel.specs.Agreement.{pagingLevels, Holds, NoHuge, isWrite, isPermitted, UserAgrees, UserYes}
+use Rattle.intel.specs.Agreement.{pagingLevels, Holds, NoHuge, asksWrite, isPermitted, UserAgrees, UserYes}
 use Rattle.intel.proofs.Steps.{leaf-plain, plain-here, plain-below}
 use Rattle.intel.proofs.Entries.{same-table, lent-is, walk-is, at}
 
 -- ---- the rights, one entry before others
 
 -- the manual asks for one flag in every entry and then for the other, and we ask each entry for both
-permits-more : (access : Access) (e : ℕ) (es : List ℕ) → permits access (e ∷ es) ≡ both (userEntry (isWrite access) e) (permits access es)
+permits-more : (access : Access) (e : ℕ) (es : List ℕ) → permits access (e ∷ es) ≡ both (userEntry (asksWrite access) e) (permits access es)
 permits-more dataRead e es = one (userSupervisor e)
   where
     one : (u : Bool) → choose u (inEvery userSupervisor es) false ≡ both (both u true) (inEvery userSupervisor es)
@@ -66,7 +66,7 @@ module _ (access : Access) (mem : Memory) (ws : List ℕ) (start total v : ℕ) 
 
   -- what we say, along a path below table t
   abbrev Ours : ℕ → List ℕ → Bool
-  Ours t is = userRows (isWrite access) (rowsBelow ws start total t is)
+  Ours t is = userRows (asksWrite access) (rowsBelow ws start total t is)
 
   -- the walk there stays in lent frames
   abbrev Stays : ℕ → List ℕ → Type 0
@@ -87,7 +87,7 @@ module _ (access : Access) (mem : Memory) (ws : List ℕ) (start total v : ℕ) 
   -- At entry i of table t. `through e` is the manual's outcome from an entry e on, and `rest e` the addresses that are read behind it. `next` is the case of an entry
   -- that is present and permits the access.
   step : (through : ℕ → Translation) (rest : ℕ → List ℕ) (t i : ℕ) (is : List ℕ) → i < 512 → ((e : ℕ) → p e ≡ false → through e ≡ notPresent)
-      → (flag 0 (word t i) ≡ true → entryAt ws start total t i ≡ Value (word t i) → userEntry (isWrite access) (word t i) ≡ true
+      → (flag 0 (word t i) ≡ true → entryAt ws start total t i ≡ Value (word t i) → userEntry (asksWrite access) (word t i) ≡ true
       → Ours t (i ∷ is) ≡ May (through (word t i)) (rest (word t i)))
       → Stays t (i ∷ is) → Ours t (i ∷ is) ≡ May (through (mem (at t i))) (at t i ∷ rest (mem (at t i)))
   step through rest t i is small none next stays = rw (holds .word t i h small) (by-flag (flag 0 w) refl)
@@ -98,21 +98,21 @@ module _ (access : Access) (mem : Memory) (ws : List ℕ) (start total v : ℕ) 
       h : inside start total t ≡ true
       h = lent t i is stays
 
-      by-right : flag 0 w ≡ true → (x : Bool) → userEntry (isWrite access) w ≡ x → Ours t (i ∷ is) ≡ both x (May (through w) (rest w))
+      by-right : flag 0 w ≡ true → (x : Bool) → userEntry (asksWrite access) w ≡ x → Ours t (i ∷ is) ≡ both x (May (through w) (rest w))
       by-right k true u = next k (entry-in ws start total t i h small ∙ present-yes w k) u
-      by-right k false u = user-none (isWrite access) ws start total t {is = is} refl refl u
+      by-right k false u = user-none (asksWrite access) ws start total t {is = is} refl refl u
 
       by-flag : (x : Bool) → flag 0 w ≡ x → Ours t (i ∷ is) ≡ isPermitted (accessTo (through w) (permits access (w ∷ map mem (rest w))))
       by-flag true k =
-          rw (permits-more access w (map mem (rest w)), may-both (through w) (userEntry (isWrite access) w) (permits access (map mem (rest w)))) (by-right k _ refl)
-      by-flag false k = rw (none w k) (user-absent (isWrite access) ws start total t {is = is} refl refl k)
+          rw (permits-more access w (map mem (rest w)), may-both (through w) (userEntry (asksWrite access) w) (permits access (map mem (rest w)))) (by-right k _ refl)
+      by-flag false k = rw (none w k) (user-absent (asksWrite access) ws start total t {is = is} refl refl k)
 
   -- a page table, whose entries map pages
   page-table : (t : ℕ) → Stays t (indices 1 v) → Ours t (indices 1 v) ≡ May (throughPte v (mem (at t (bits 20 12 v)))) (readPte (at t (bits 20 12 v)))
   unfolding throughPte readPte
   page-table t =
       step (throughPte v) (λ _. []) t (index 0 v) [] (omega arith) (λ e k. rw k)
-      (λ k _ u. rw (k, permits-none access) (user-last (isWrite access) ws start total t refl refl k refl u))
+      (λ k _ u. rw (k, permits-none access) (user-last (asksWrite access) ws start total t refl refl k refl u))
 
   -- a table above, n levels over a page table: an entry with bit 7 is `other`, and any other one names a table below, where the two are the same
   above : (through below : ℕ → Translation) (other : Translation) (behind : ℕ → List ℕ) (n t : ℕ)
@@ -128,7 +128,7 @@ module _ (access : Access) (mem : Memory) (ws : List ℕ) (start total v : ℕ) 
       let plain : ps w ≡ false = plain-here ws start total _ w h e in
       let on : Stays (frameOf w) (indices (suc n) v) = λ z. stays (ap (address v) (leaf-plain ws start total t _ _ (indices n v) w e plain) ∙ z) in
       rw (law w, k, plain, same-table w)
-      (user-on (isWrite access) ws start total t refl refl (k, omega arith, rw plain (both-false (eqb (length (indices (suc n) v)) 1))) (lent (frameOf w) _ _ on) u
+      (user-on (asksWrite access) ws start total t refl refl (k, omega arith, rw plain (both-false (eqb (length (indices (suc n) v)) 1))) (lent (frameOf w) _ _ on) u
       ∙ next (frameOf w) (plain-below ws start total _ w h e) on))
       stays
 
@@ -165,19 +165,19 @@ module _ (access : Access) (mem : Memory) (ws : List ℕ) (start total v : ℕ) 
 pub user-agrees : UserAgrees
 unfolding userAccess linear entriesRead
 user-agrees access paging mem cr3 ws start total root v h stays =
-    may-is (pagingLevels paging) ws start total root v (isWrite access) (lent-is paging ws start total root (h .whole))
+    may-is (pagingLevels paging) ws start total root v (asksWrite access) (lent-is paging ws start total root (h .whole))
     ∙ ap Flag (rw (h .form)
     (first access mem ws start total v (h .holds) paging cr3 root (h .base) (h .noHuge) (λ z. stays (walk-is paging ws start total root v (h .whole) ∙ z))))
 
 -- a yes is one of a walk that comes to a page
 yes-stays : (access : Access) (paging : Paging) (ws : List ℕ) (start total root v : ℕ) → mayWalk (length ws) start total root ≡ true
-    → userMay (pagingLevels paging) ws start total root v (isWrite access) ≡ Flag true → translate (pagingLevels paging) ws start total root v ≡ Stop outside → ⊥
+    → userMay (pagingLevels paging) ws start total root v (asksWrite access) ≡ Flag true → translate (pagingLevels paging) ws start total root v ≡ Stop outside → ⊥
 yes-stays access paging ws start total root v h may z =
     let l = lent-is paging ws start total root h in
     let page = user-rule .read (pagingLevels paging) ws start total root v l .0 (reads access may) .0 in
     no-value (sym (walk-is paging ws start total root v h ∙ ap (address v) (page .1)) ∙ z)
   where
-    reads : (a : Access) → userMay (pagingLevels paging) ws start total root v (isWrite a) ≡ Flag true → userMay (pagingLevels paging) ws start total root v false ≡ Flag true
+    reads : (a : Access) → userMay (pagingLevels paging) ws start total root v (asksWrite a) ≡ Flag true → userMay (pagingLevels paging) ws start total root v false ≡ Flag true
     reads dataRead e = e
     reads dataWrite e = user-rule .write (pagingLevels paging) ws start total root v (lent-is paging ws start total root h) .0 e .0
 

@@ -43,9 +43,9 @@ asTranslation (Value a) = physical a
 asTranslation (Stop n) = notPresent
 
 -- The question that an access is, and its answer: yes where the access is permitted.
-abbrev pub isWrite : Access → Bool
-isWrite dataRead = false
-isWrite dataWrite = true
+abbrev pub asksWrite : Access → Bool
+asksWrite dataRead = false
+asksWrite dataWrite = true
 
 abbrev pub isPermitted : Accessed → Bool
 isPermitted permitted = true
@@ -111,10 +111,10 @@ abbrev pub UserAgrees : Type 0
 UserAgrees =
     (access : Access) (paging : Paging) (mem : Memory) (cr3 : ℕ) (ws : List ℕ) (start total root v : ℕ) → Setting paging mem cr3 ws start total root v
     → (translate (pagingLevels paging) ws start total root v ≡ Stop outside → ⊥)
-    → userMay (pagingLevels paging) ws start total root v (isWrite access) ≡ Flag (isPermitted (userAccess access paging mem cr3 v))
+    → userMay (pagingLevels paging) ws start total root v (asksWrite access) ≡ Flag (isPermitted (userAccess access paging mem cr3 v))
 
 -- .. and wherever the walk goes, yes only where the manual permits the access.
 abbrev pub UserYes : Type 0
 UserYes =
     (access : Access) (paging : Paging) (mem : Memory) (cr3 : ℕ) (ws : List ℕ) (start total root v : ℕ) → Setting paging mem cr3 ws start total root v
-    → userMay (pagingLevels paging) ws start total root v (isWrite access) ≡ Flag true → userAccess access paging mem cr3 v ≡ permitted
+    → userMay (pagingLevels paging) ws start total root v (asksWrite access) ≡ Flag true → userAccess access paging mem cr3 v ≡ permitted

@@ -158,8 +158,8 @@ module _ (levels : ℕ) (ws : List ℕ) (start total root v : ℕ) where
   may-is write h = rw h
 
   -- yes is yes
-  flag-is : {a b : Bool} → Flag a ≡ Flag b → a ≡ b
-  flag-is e = cc
+  same-flag : {a b : Bool} → Flag a ≡ Flag b → a ≡ b
+  same-flag e = cc
 
   module _ (h : lentWalk levels (length ws) start total root ≡ true) where
     abbrev rows : List Row
@@ -181,7 +181,7 @@ module _ (levels : ℕ) (ws : List ℕ) (start total root v : ℕ) where
         ↔ ((isPage (leaf ws start total root (indices levels v)) ≡ true) × Each write (showTranslate levels ws start total root v .rows))
     unfolding userRows
     yes-is write = (
-      λ e. let parts = both-true (isPage (endOf rows)) _ (flag-is (sym (may-is write h) ∙ e)) in
+      λ e. let parts = both-true (isPage (endOf rows)) _ (same-flag (sym (may-is write h) ∙ e)) in
           (sym ends ∙ parts .0, subst (Each write) (sym shown) (all-user write rows .0 (parts .1))),
       λ y. may-is write h ∙ ap Flag (rw (ends ∙ y .0) (all-user write rows .1 (subst (Each write) shown (y .1)))),
     )
