@@ -43,10 +43,6 @@ instructionFetch = 7
 abbrev pub protectionViolation : ℕ
 protectionViolation = 8
 
--- '`mprotect`, always'
-abbrev pub notImplemented : ℕ
-notImplemented = 9
-
 -- a broken record, or a start that cannot be
 abbrev pub brokenRecord : ℕ
 brokenRecord = 10

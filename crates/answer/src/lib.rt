@@ -19,8 +19,6 @@ pub const INSTRUCTION_FETCH: u64 = 7;
 
 pub const PROTECTION_VIOLATION: u64 = 8;
 
-pub const NOT_IMPLEMENTED: u64 = 9;
-
 pub const BROKEN_RECORD: u64 = 10;
 
 // Numbers caused by the state.

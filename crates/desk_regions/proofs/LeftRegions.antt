@@ -1,15 +1,17 @@
 -- The one equation of each C function of vmalloc and mmap, and what their refusals leave.
 use Prim.Native.Nat.{ℕ, suc, _/_}
 use mathlib.Core.Path.{_≡_, refl, sym, _∙_, ap, subst}
-use mathlib.Core.Bool.{true, false}
+use mathlib.Core.Bool.{Bool, true, false}
 use mathlib.Core.List.{List}
 use lib.Dec.{eqb}
 use lib.IntN.{ℤ}
 use lib.ListN.{length}
+use Rattle.bits.specs.Bit.{unless}
 use Rattle.bits.proofs.Choice.{pick-cases, both-true}
 use Rattle.allocator.specs.Round.{rounded}
 use Rattle.answer.specs.Numbers.{brokenRecord, answerLine, countLine}
 use Rattle.answer.specs.Outcomes.{asAnswer}
+use Rattle.answer.specs.declared.Answer.{Answer}
 use Rattle.answer.specs.declared.Outcome.{Outcome}
 use Rattle.answer.specs.declared.Outcome.the-variants.{Value, Stop}
 use Rattle.answer.specs.declared.Line.{Line}
@@ -36,13 +38,16 @@ use Rattle.mmap.specs.declared.OptAddr.{OptAddr}
 use Rattle.mmap.specs.Flags.{writable}
 use Rattle.mmap.specs.Calls.{User, UserDid, soundUser, onPage, chosen, full, userPages, userMapped, userPlaced, userSized, unmapped, mmap, mmapOf, munmap, munmapOf}
 use Rattle.mmap.specs.Packed.{keptUser, onMmapList}
+use Rattle.mprotect.specs.Calls.{ProtectDid, protectDid, mprotect}
+use Rattle.mprotect.specs.Packed.{ProtectKept, protectKept, keptProtected, mprotectOn}
+use Rattle.mprotect.proofs.Cases.{mprotect-cases}
 use Rattle.layout.specs.Parts.{fieldsIn, fieldsOut, fieldsFit}
-use Rattle.layout.specs.Left.{left, brokenLine, IsRefusal, Unchanged, noLeftovers, regionLeftovers}
+use Rattle.layout.specs.Left.{Left, left, brokenLine, unlessFit, IsRefusal, Unchanged, noLeftovers, regionLeftovers}
 use Rattle.layout.specs.Memory.{ListParts, listParts, plainLine}
 use Rattle.layout.proofs.Left.{broken-left, met-left, unchanged-left, fields-same, list-met}
 use Rattle.layout.proofs.Numbers.{pages-listed}
 use Rattle.desk_regions.specs.Regions.{addressLine, kernelFit, kernelIn, kernelPacked, onKernel, userFit, userIn, userPacked, onUser}
-use Rattle.desk_regions.specs.Regions.{packedVmalloc, packedVfree, packedMmap, packedMunmap, packedFindFree, searchLeftovers}
+use Rattle.desk_regions.specs.Regions.{packedVmalloc, packedVfree, packedMmap, packedMunmap, packedFindFree, searchLeftovers, ProtectParts, protectParts, protectPacked, packedMprotect}
 
 -- what is worked out for a call beside its parts
 pub all-three : {A B C : Type 0} {a a′ : A} {b b′ : B} {c c′ : C} → a ≡ a′ → b ≡ b′ → c ≡ c′ → _≡_ {A = A × (B × C)} (a, (b, c)) (a′, (b′, c′))
@@ -201,6 +206,44 @@ module _ (words fields bits list : List ℕ) (b : Bytes fields) (c : Bytes list)
 
   pub munmap-refused : (addr size : ℕ) → let p = listParts words fields bits list in Unchanged noLeftovers p (packedMunmap p root addr size)
   munmap-refused addr size = user-unchanged asAnswer answerLine (λ (u : User). munmapOf u root addr size) words fields bits list noLeftovers b c (λ u. munmap-clean (aboveLast (u .mem)) root addr size u)
+
+-- ---- mprotect
+
+module _ (words list : List ℕ) (start total levels root a size : ℕ) where
+  abbrev protectLent : ProtectParts
+  protectLent = protectParts words list
+
+  -- a signed number that is passed on is z, what its bits read back
+  pub mprotect-left : {prot z : ℤ} → z ≡ prot → {ws ls : List ℕ} {x : Answer} {r : Line} → protectKept x ws ls ≡ mprotectOn levels words start total root list a size z → r ≡ answerLine x
+      → left r (protectParts ws ls) ≡ packedMprotect protectLent start total levels root a size prot
+  unfolding packedMprotect mprotectOn
+  mprotect-left {prot} q {ws} {ls} e f =
+      ap (λ (l : Line). left l (protectParts ws ls)) f ∙ ap said e ∙ ap (λ (y : ℤ). said (mprotectOn levels words start total root list a size y)) q ∙ by (mmapFit list)
+    where
+      said : ProtectKept → Left ProtectParts
+      said k = left (answerLine (k .answer)) (protectParts (k .words) (k .list))
+
+      did : ProtectDid
+      did = mprotect levels words start total root (mmapIn list) (nextIn list) a size prot
+
+      by : (fit : Bool) → said (unless fit (protectKept (asAnswer (Stop brokenRecord)) words list) (keptProtected did (nextIn list)))
+          ≡ unlessFit fit protectLent (left (plainLine (did .answer)) (protectPacked did (nextIn list)))
+      by true = refl
+      by false = refl
+
+  -- its refusals: 10, 1, 2, 3 and 16
+  pub mprotect-refused : (prot : ℤ) → Bytes list → Unchanged noLeftovers protectLent (packedMprotect protectLent start total levels root a size prot)
+  unfolding packedMprotect
+  mprotect-refused prot b =
+      unchanged-left noLeftovers (mmapFit list) protectLent _ (λ fit.
+      mprotect-cases levels words start total root (mmapIn list) (nextIn list) a size prot Clean (λ _. kept fit) (λ _. kept fit) (λ _. kept fit) (λ _. kept fit) (λ _. kept fit)
+      (λ _ _ _ _ _ n. absurd (n refl)))
+    where
+      Clean : ProtectDid → Type 0
+      Clean d = IsRefusal noLeftovers (plainLine (d .answer) .number) → protectPacked d (nextIn list) ≡ protectLent
+
+      kept : mmapFit list ≡ true → {k : ℕ} → Clean (protectDid (Stop k) words (mmapIn list))
+      kept fit n = ap (protectParts words) (mmap-back list fit b)
 
 -- ---- the search by itself
 

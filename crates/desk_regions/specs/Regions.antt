@@ -16,6 +16,7 @@ use Rattle.mappings.specs.Packed.{mmapIn, nextIn, mmapOut, mmapFit, soundList}
 use Rattle.vmalloc.specs.Calls.{Kernel, kernel, KernelDid, vmallocOf, vfreeOf}
 use Rattle.mmap.specs.Calls.{User, user, UserDid, mmapOf, munmapOf}
 use Rattle.mmap.specs.declared.OptAddr.{OptAddr}
+use Rattle.mprotect.specs.Calls.{ProtectDid, mprotect}
 use Rattle.layout.specs.Parts.{fieldsFit}
 use Rattle.layout.specs.Left.{Left, left, unlessFit}
 use Rattle.layout.specs.Memory.{plainLine, ListParts, listMemory, listPacked}
@@ -63,6 +64,24 @@ packedMmap p root hint size prot flags = onUser addressLine (λ (u : User). mmap
 
 abbrev pub packedMunmap : ListParts → ℕ → ℕ → ℕ → Left ListParts
 packedMunmap p root addr size = onUser plainLine (λ (u : User). munmapOf u root addr size) p
+
+-- ---- mprotect: the words and the user's list; of the frame record it is lent three numbers
+
+pub record ProtectParts : Type 0 where
+  pub words : List ℕ
+  pub list : List ℕ
+
+abbrev pub protectParts : List ℕ → List ℕ → ProtectParts
+protectParts w l = record { words = w; list = l }
+
+-- next_addr stays
+abbrev pub protectPacked : ProtectDid → ℕ → ProtectParts
+protectPacked d next = protectParts (d .words) (mmapOut (d .regions) next)
+
+unfoldable pub packedMprotect : ProtectParts → ℕ → ℕ → ℕ → ℕ → ℕ → ℕ → ℤ → Left ProtectParts
+packedMprotect p start total levels root addr size prot =
+    let d = mprotect levels (p .words) start total root (mmapIn (p .list)) (nextIn (p .list)) addr size prot in
+    unlessFit (mmapFit (p .list)) p (left (plainLine (d .answer)) (protectPacked d (nextIn (p .list))))
 
 -- ---- the search by itself (document 02, slip 9): it reads the list, and leaves the number of regions that it compared in a number that it is lent, with 15 too
 

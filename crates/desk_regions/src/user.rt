@@ -5,11 +5,10 @@ use answer::Line;
 use frame::Marks;
 use layout::parts;
 ghost use mathlib.Core.Path.{_≡_};
-ghost use Rattle.mmap.specs.Calls.{mprotect as mprotectOf};
 ghost use Rattle.mmap.specs.Packed.{optAddr};
 ghost use Rattle.layout.specs.Left.{left, Unchanged, noLeftovers, regionLeftovers};
-ghost use Rattle.layout.specs.Memory.{listParts, plainLine};
-ghost use Rattle.desk_regions.specs.Regions.{packedMmap, packedMunmap, packedFindFree, searchLeftovers};
+ghost use Rattle.layout.specs.Memory.{listParts};
+ghost use Rattle.desk_regions.specs.Regions.{packedMmap, packedMunmap, packedFindFree, searchLeftovers, protectParts, packedMprotect};
 
 #[no_mangle]
 pub extern "C" fn gadulnos_mmap(
@@ -98,9 +97,33 @@ pub extern "C" fn gadulnos_find_free_region(list: &[u8], size: u64, compared: &m
     answer::count_line(outcome)
 }
 
+// WRITABLE on a region's pages and its prot: of the frame record the start, the total and the levels are read.
 #[no_mangle]
-pub extern "C" fn gadulnos_mprotect(addr: u64, size: u64, prot: i32) -> Line
-    ensures { λ r. ⌜ r ≡ plainLine mprotectOf ⌝ }
+pub extern "C" fn gadulnos_mprotect(
+    words: &mut [u64],
+    start: u64,
+    total: u64,
+    levels: u64,
+    root: u64,
+    list: &mut [u8],
+    addr: u64,
+    size: u64,
+    prot: i32,
+) -> Line
+    ensures { λ r. ⌜ left r (protectParts (now (words .exit)) (now (list .exit)))
+        ≡ packedMprotect (protectParts (now (words .entry)) (now (list .entry))) start total levels root addr size prot ⌝ }
+    ensures refused { λ r. ⌜ Unchanged noLeftovers (protectParts (now (words .entry)) (now (list .entry)))
+        (left r (protectParts (now (words .exit)) (now (list .exit)))) ⌝ }
 {
-    answer::answer_line(mmap::mprotect(VirtAddr(addr), size, prot))
+    answer::answer_line(mprotect::mprotect(
+        words,
+        start,
+        total,
+        levels,
+        Frame(root),
+        list,
+        VirtAddr(addr),
+        size,
+        prot,
+    ))
 }

@@ -1,3 +1,4 @@
 pub mod Entry
 pub mod Flags
 pub mod Joined
+pub mod Writable

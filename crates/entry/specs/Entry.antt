@@ -1,10 +1,10 @@
 -- A page-table word's fields and an address's indices, by division and remainder of powers of two.
-use Prim.Native.Nat.{ℕ, zero, suc, _+_, _*_, _/_, _%_, _^_}
+use Prim.Native.Nat.{ℕ, zero, suc, _+_, _-_, _*_, _/_, _%_, _^_}
 use mathlib.Core.Bool.{Bool}
 use mathlib.Core.List.{List, [], _∷_}
 use lib.Dec.{ltb}
 use lib.ListN.{getD}
-use Rattle.bits.specs.Bit.{pick, one}
+use Rattle.bits.specs.Bit.{pick, one, bit}
 use Rattle.answer.specs.Numbers.{notMapped}
 use Rattle.entry.specs.declared.EntryAnswer.{EntryAnswer}
 use Rattle.entry.specs.declared.EntryAnswer.the-variants.{AtEntry, NoEntry}
@@ -24,6 +24,10 @@ entryOf a w u = addrOf a + (1 + 2 * one w + 4 * one u)
 -- the same with HUGE, 128
 abbrev pub hugeEntryOf : ℕ → Bool → Bool → ℕ
 hugeEntryOf a w u = addrOf a + (128 + 1 + 2 * one w + 4 * one u)
+
+-- a word with WRITABLE as w, every other bit as it stands
+unfoldable pub withWritable : Bool → ℕ → ℕ
+withWritable w e = e - 2 * bit 1 e + 2 * one w
 
 -- the index of an address at an entry that has d levels below it: bits 20 to 12 at the last level, 'bits 56–48' at the fifth
 abbrev pub index : ℕ → ℕ → ℕ

@@ -4,7 +4,7 @@ use address::PhysAddr;
 ghost use mathlib.Core.Path.{_≡_};
 ghost use Prim.Native.Nat.{_+_, _*_};
 ghost use Rattle.bits.specs.Bit.{one, flag};
-ghost use Rattle.entry.specs.Entry.{addrOf, entryOf, hugeEntryOf};
+ghost use Rattle.entry.specs.Entry.{addrOf, entryOf, hugeEntryOf, withWritable};
 
 pub struct PageTableEntry(pub u64);
 
@@ -53,6 +53,15 @@ impl PageTableEntry {
         ensures { λ r. ⌜ r .0 ≡ addrOf (self .0) ⌝ }
     {
         PhysAddr(self.0 & Self::ADDR_MASK)
+    }
+
+    // The word with WRITABLE as it is asked for, every other bit as it stands.
+    pub fn with_writable(self, writable: bool) -> Self
+        ensures { λ r. ⌜ r .0 ≡ withWritable writable (self .0) ⌝ }
+    {
+        let rest = self.0 & !Self::WRITABLE;
+        let chosen = power_if(writable, Self::WRITABLE);
+        PageTableEntry(rest + chosen)
     }
 
     // PRESENT and the two choices, a sum of one power of two for each true flag.

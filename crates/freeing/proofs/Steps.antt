@@ -1,15 +1,13 @@
 -- A run of pages freed span by span, by what code has in its hands.
-use Prim.Native.Nat.{ℕ, zero, suc, _+_, _-_, _*_, _%_, _^_, _<_, _≤_, min}
+use Prim.Native.Nat.{ℕ, zero, suc, _+_, _-_, _*_, _^_, _<_, _≤_, min}
 use mathlib.Core.Path.{_≡_, refl, sym, _∙_, ap, subst}
 use mathlib.Core.List.{List, _∷_}
 use mathlib.Core.Logic.{inl, inr, ⊎-elim}
-use native.Mathlib.Numerals.{add-one}
 use native.Mathlib.Omega.{arith}
 use mir.Syntax.{w64}
 use mir.Val.{Fits}
 use lib.ListN.{length, getD, take, length-append}
 use lib.Seq.{getD-take, getD-append-seam, take-append-seam, take-take}
-use Rattle.bits.proofs.Masks.{one-shifted}
 use Rattle.entry.specs.Entry.{index}
 use Rattle.entry.proofs.Entry.{index-behind, index-last}
 use Rattle.paging.specs.Map.{Memory, startFrame, totalOf, RoomToTake}
@@ -66,10 +64,6 @@ leaves-step up m root v t k n i {r} g some e at h = (
 )
 
 -- ---- the run: at its start, and after `done` of n pages, r more
-
--- the code's `1 << 9 * (up + 1)`
-pub all-pages-are : (up : ℕ) → up ≤ 4 → 1 * 2 ^ (9 * (up + 1)) % 2 ^ 64 ≡ 2 ^ (9 * suc up)
-all-pages-are up low = one-shifted (9 * (up + 1)) (omega arith) ∙ ap (λ (x : ℕ). 2 ^ (9 * x)) (add-one up)
 
 -- of n pages, no more than there are
 pub most-are : (up root v n : ℕ) (m : Memory) {all most : ℕ} → all ≡ 2 ^ (9 * suc up) → most ≡ min n all → freePages up m root v most ≡ freePages up m root v n

@@ -98,10 +98,10 @@ fn free_below(
     let i = entry::page_index(virt, 1) as u64;
     let k = wide(barren[place]);
     if i < k {
-        let done = run::at_most(spans::to_end(virt, 2) - (512 - k) * 512, n);
+        let done = spans::at_most(spans::to_end(virt, 2) - (512 - k) * 512, n);
         return Freed { done, frames };
     }
-    let done = run::at_most(spans::to_end(virt, 1), n);
+    let done = spans::at_most(spans::to_end(virt, 1), n);
     let left = run::free_run(words, bitmap, empty, frames, up, root, virt, done);
     if i == k && done == 512 {
         match find_above(words, left.start, left.total, up, root, virt) {
@@ -148,7 +148,7 @@ fn free_block(
             }
         }
     }
-    let done = run::at_most(
+    let done = spans::at_most(
         span_length(words, frames.start, frames.total, up, root, virt),
         n,
     );

@@ -7,7 +7,7 @@ use address::VirtAddr;
 use frame::FrameAllocator;
 use frame::Marks;
 ghost use mathlib.Core.Path.{_≡_};
-ghost use Prim.Native.Nat.{suc, _+_, _-_, _*_, _^_, _≤_, _<_};
+ghost use Prim.Native.Nat.{_+_, _*_, _^_, _≤_, _<_};
 ghost use Rattle.paging.specs.Map.{RoomToTake};
 ghost use Rattle.paging.specs.Pages.{freePages};
 ghost use Rattle.paging.specs.Levels.{mostAbove};
@@ -15,14 +15,6 @@ ghost use Rattle.paging.specs.Kept.{lentMemory};
 
 // Runs of so few pages are freed page by page.
 const FEW: u64 = 4;
-
-// All the pages that there are below `up` levels: what lies above the top index of an address is ignored.
-fn all_pages(up: u64) -> u64
-    requires { ⌜ up ≤ mostAbove ⌝ }
-    ensures { λ r. ⌜ r ≡ 2 ^ (9 * suc up) ⌝ }
-{
-    1 << (9 * (up + 1))
-}
 
 // n pages from `virt` on, one after the other.
 fn free_few(
@@ -64,7 +56,7 @@ fn free_many(
     ensures { λ r. ⌜ lentMemory (now (words .exit)) (now (bitmap .exit)) r
         ≡ freePages up (lentMemory (now (words .entry)) (now (bitmap .entry)) frames) (root .0) (virt .0) n ⌝ }
 {
-    let most = run::at_most(n, all_pages(up));
+    let most = spans::at_most(n, spans::all_pages(up));
     let mut empty: Marks = [0u8; 1024];
     if most < blocks::BLOCK {
         return run::free_run(words, bitmap, &mut empty, frames, up, root, virt, most);

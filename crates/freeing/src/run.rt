@@ -7,7 +7,7 @@ use frame::Marks;
 use spans::Span;
 ghost use mathlib.Core.Path.{_≡_};
 ghost use mathlib.Core.Bool.{true};
-ghost use Prim.Native.Nat.{_+_, _-_, _*_, _^_, _≤_, _<_, min};
+ghost use Prim.Native.Nat.{_+_, _-_, _*_, _^_, _≤_, _<_};
 ghost use Rattle.answer.specs.declared.Outcome.the-variants.{Value};
 ghost use Rattle.bitmap.specs.Bitmap.{marksIn};
 ghost use Rattle.frame.specs.Frames.{inside};
@@ -21,15 +21,6 @@ ghost use Rattle.freeing.specs.Freeing.{freeLeaf, freeLeaves, Blank};
 pub struct Freed {
     pub done: u64,
     pub frames: FrameAllocator,
-}
-
-pub fn at_most(n: u64, most: u64) -> u64
-    ensures { λ r. ⌜ r ≡ min n most ⌝ }
-{
-    if n < most {
-        return n;
-    }
-    most
 }
 
 // The leaf at entry i of table t, cleared, and its frame freed.
@@ -128,12 +119,12 @@ fn free_span(
 {
     match spans::find_span(words, frames.start, frames.total, up, root, virt) {
         Span::Gap(k) => Freed {
-            done: at_most(k, n),
+            done: spans::at_most(k, n),
             frames,
         },
         Span::Leaves(t, k) => {
             let i = entry::page_index(virt, 0);
-            let done = at_most(k, n);
+            let done = spans::at_most(k, n);
             Freed {
                 done,
                 frames: free_table(words, bitmap, empty, frames, t, i, done),

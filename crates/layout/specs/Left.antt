@@ -36,7 +36,7 @@ IsRefusal (k ∷ leftovers) n = (n ≡ k → ⊥) × IsRefusal leftovers n
 abbrev pub Unchanged : {Parts : Type 0} → List ℕ → Parts → Left Parts → Type 0
 Unchanged leftovers p d = IsRefusal leftovers (d .line .number) → d .parts ≡ p
 
--- no refusal of init, the start, mark_allocated, allocate_frame, deallocate_frame, unmap_page, vfree, munmap, mark_cow and unmark_cow is listed under the leftovers
+-- no refusal of init, the start, mark_allocated, allocate_frame, deallocate_frame, unmap_page, vfree, munmap, mprotect, mark_cow and unmark_cow is listed under the leftovers
 abbrev pub noLeftovers : List ℕ
 noLeftovers = []
 

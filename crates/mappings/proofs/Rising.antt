@@ -6,7 +6,8 @@ use mathlib.Core.List.{List, [], _∷_}
 use native.Mathlib.Omega.{arith}
 use native.Mathlib.Decide.{decLt}
 use lib.Dec.{eqb, leb, ltb}
-use lib.ListN.{getD}
+use lib.IntN.{ℤ}
+use lib.ListN.{getD, set}
 use borrow.Author.Tests.{eq-eqb, ne-eqb, eqb-true, eqb-false, leb-true, lt-ltb, le-ltb}
 use Rattle.bits.specs.Bit.{pick, both}
 use Rattle.bits.proofs.Choice.{pick-cases, both-true}
@@ -15,7 +16,7 @@ use Rattle.slots.specs.Sorted.{risingFrom as risingBy, hasKey, insert as insert
 use Rattle.slots.proofs.Sorted.{none-below, rise-insert, rise-remove}
 use Rattle.regions.proofs.Placed.{Placed, placed, placed-back}
 use Rattle.mappings.specs.declared.MappedRegion.{MappedRegion}
-use Rattle.mappings.specs.Regions.{noMappedRegion, startKey, risingFrom, wellPlacedMapping, starts, insert, holds, remove}
+use Rattle.mappings.specs.Regions.{mappedRegion, noMappedRegion, startKey, risingFrom, wellPlacedMapping, starts, insert, holds, remove, withProt}
 
 -- well placed regions whose starts rise strictly, from lo on
 abbrev pub Rising : ℕ → List MappedRegion → Type 0
@@ -53,26 +54,41 @@ holds-none a n (r ∷ l) h = by (eqb (r .start) a) h (holds-none a n l)
     by true g more = absurd (true≢false g)
     by false g more = more g
 
+-- one behind the first starts above it
+rising-later : (a lo : ℕ) (r : MappedRegion) (l : List MappedRegion) → Rising lo (r ∷ l) → starts a l ≡ true → r .start < a
+rising-later a lo r l h e = go (decLt (r .start) a)
+  where
+    go : Dec (r .start < a) → r .start < a
+    go (yes q) = q
+    go (no q) = absurd (true≢false (sym e ∙ none-below startKey a (suc (r .start)) l (omega arith) (rising-first lo r l h .2 .0)))
+
 -- the region at a stands at a's place
 pub holds-at : (a n lo : ℕ) (l : List MappedRegion) → Rising lo l → starts a l ≡ true → holds a n l ≡ eqb (getD l (placeOf startKey a l) noMappedRegion .size) n
 unfolding holds hasKey placeOf
 holds-at a n lo [] h e = absurd (false≢true e)
-holds-at a n lo (r ∷ l) h e = by (eqb (r .start) a) refl e (holds-at a n (suc (r .start)) l (k .2))
+holds-at a n lo (r ∷ l) h e = by (eqb (r .start) a) refl e (holds-at a n (suc (r .start)) l (rising-first lo r l h .2))
   where
-    k : (lo ≤ r .start) × Placed (r .start) (r .size) × Rising (suc (r .start)) l
-    k = rising-first lo r l h
-
-    later : (starts a l ≡ true) → r .start < a
-    later e = go (decLt (r .start) a)
-      where
-        go : Dec (r .start < a) → r .start < a
-        go (yes q) = q
-        go (no q) = absurd (true≢false (sym e ∙ none-below startKey a (suc (r .start)) l (omega arith) (k .2 .0)))
-
     by : (x : Bool) → eqb (r .start) a ≡ x → pick x true (starts a l) ≡ true → (starts a l ≡ true → holds a n l ≡ eqb (getD l (placeOf startKey a l) noMappedRegion .size) n)
         → pick x (eqb (r .size) n) (holds a n l) ≡ eqb (getD (r ∷ l) (placeOf startKey a (r ∷ l)) noMappedRegion .size) n
     by true f g more = rw (le-ltb (r .start) a (omega (arith, eqb-true (r .start) a f)))
-    by false f g more = rw (lt-ltb (r .start) a (later g)) (more g)
+    by false f g more = rw (lt-ltb (r .start) a (rising-later a lo r l h g)) (more g)
+
+-- .. and has another prot there
+pub prot-there : (a : ℕ) (prot : ℤ) (lo : ℕ) (l : List MappedRegion) → Rising lo l → starts a l ≡ true → let k = placeOf startKey a l in
+    withProt a prot l ≡ set l k (mappedRegion a (getD l k noMappedRegion .size) prot (getD l k noMappedRegion .flags))
+unfolding withProt hasKey placeOf
+prot-there a prot lo [] h e = refl
+prot-there a prot lo (r ∷ l) h e = by (eqb (r .start) a) refl e (prot-there a prot (suc (r .start)) l (rising-first lo r l h .2))
+  where
+    stored : List MappedRegion → ℕ → List MappedRegion
+    stored m k = set m k (mappedRegion a (getD m k noMappedRegion .size) prot (getD m k noMappedRegion .flags))
+
+    by : (x : Bool) → eqb (r .start) a ≡ x → pick x true (starts a l) ≡ true → (starts a l ≡ true → withProt a prot l ≡ stored l (placeOf startKey a l))
+        → pick x (mappedRegion (r .start) (r .size) prot (r .flags) ∷ l) (r ∷ withProt a prot l) ≡ stored (r ∷ l) (placeOf startKey a (r ∷ l))
+    by true f g more =
+        let s : r .start ≡ a = eqb-true (r .start) a f in
+        rw (le-ltb (r .start) a (omega arith)) (ap (λ (x : ℕ). mappedRegion x (r .size) prot (r .flags) ∷ l) s)
+    by false f g more = rw (lt-ltb (r .start) a (rising-later a lo r l h g)) (ap (λ (m : List MappedRegion). r ∷ m) (more g))
 
 -- a region that is held is well placed, and has one size
 pub holds-placed : (a n lo : ℕ) (l : List MappedRegion) → Rising lo l → holds a n l ≡ true → Placed a n

@@ -53,6 +53,11 @@ insert r l = insertBy startKey r l
 abbrev pub remove : ℕ → List MappedRegion → List MappedRegion
 remove a l = removeBy startKey a l
 
+-- the list with another prot for the region at a: 'stores the new prot'
+unfoldable pub withProt : ℕ → ℤ → List MappedRegion → List MappedRegion
+withProt a prot [] = []
+withProt a prot (r ∷ l) = pick (eqb (r .start) a) (mappedRegion (r .start) (r .size) prot (r .flags) ∷ l) (r ∷ withProt a prot l)
+
 -- whether the region at a has n bytes
 unfoldable pub holds : ℕ → ℕ → List MappedRegion → Bool
 holds a n [] = false

@@ -15,7 +15,7 @@ ghost use Rattle.slots.specs.Shifts.{putIn, takenOut};
 ghost use Rattle.slots.specs.Sorted.{placeOf};
 ghost use Rattle.answer.specs.Numbers.{noRegion};
 ghost use Rattle.answer.specs.declared.Outcome.the-variants.{Stop};
-ghost use Rattle.mappings.specs.Regions.{noMappedRegion, startKey, inTheWay, starts, holds, insert as inserted};
+ghost use Rattle.mappings.specs.Regions.{noMappedRegion, startKey, inTheWay, starts, holds, insert as inserted, withProt};
 ghost use Rattle.mappings.specs.Compared.{scanned, searched};
 ghost use Rattle.mappings.specs.Packed.{mmapIn, nextIn, mmapFit, MmapStands, soundList};
 
@@ -199,6 +199,24 @@ pub fn insert(list: &mut [u8], r: MappedRegion)
         return;
     }
     put_in(list, at, r);
+}
+
+// The region at the place of a, which starts at a, has another prot then.
+pub fn set_prot(list: &mut [u8], place: usize, a: u64, prot: i32)
+    requires { ⌜ soundList (now list) ≡ true ⌝ }
+    requires { ⌜ place ≡ placeOf startKey a (listed (mmapIn (now list))) ⌝ }
+    requires { ⌜ starts a (listed (mmapIn (now list))) ≡ true ⌝ }
+    ensures { λ _. ⌜ MmapStands (now (list .exit))
+        (store noMappedRegion (withProt a prot (listed (mmapIn (now (list .entry))))) (mmapIn (now (list .entry)))) (nextIn (now (list .entry))) ⌝ }
+{
+    let old = crate::slot(list, place);
+    let r = MappedRegion {
+        start: a,
+        size: old.size,
+        prot,
+        flags: old.flags,
+    };
+    crate::put(list, place, r);
 }
 
 // The region in slot `at` taken out: those behind it are moved down by one, and the slot that falls past them is zero.

@@ -1,4 +1,4 @@
--- mmap, munmap and mprotect, in document 01's order of checks.
+-- mmap and munmap, in document 01's order of checks.
 use Prim.Native.Nat.{ℕ, _+_, _/_, _%_}
 use mathlib.Core.Bool.{Bool, true, not}
 use mathlib.Core.List.{List}
@@ -7,7 +7,7 @@ use lib.Dec.{eqb, leb}
 use lib.ListN.{length}
 use Rattle.bits.specs.Bit.{pick, unless, both}
 use Rattle.allocator.specs.Round.{rounded, lastPage}
-use Rattle.answer.specs.Numbers.{sizeZero, unaligned, tooLarge, notImplemented, brokenRecord, mapPageFailed, regionNotFound, listFull}
+use Rattle.answer.specs.Numbers.{sizeZero, unaligned, tooLarge, brokenRecord, mapPageFailed, regionNotFound, listFull}
 use Rattle.answer.specs.declared.Outcome.{Outcome}
 use Rattle.answer.specs.declared.Outcome.the-variants.{Value, Stop}
 use Rattle.paging.specs.Levels.{aboveLast}
@@ -126,7 +126,3 @@ munmap up s root a size =
 -- on a board, by its own levels
 abbrev pub munmapOf : User → ℕ → ℕ → ℕ → UserDid
 munmapOf s root a size = munmap (aboveLast (s .mem)) s root a size
-
--- '9 `mprotect`, always'
-abbrev pub mprotect : Outcome
-mprotect = Stop notImplemented

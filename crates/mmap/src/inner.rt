@@ -31,7 +31,7 @@ ghost use Rattle.mmap.specs.Flags.{writable, fixed};
 ghost use Rattle.mmap.specs.Calls.{soundUser, fixedAt, hintedAt, chosen, full, leftover, mapRegion, chosenRegion, unmapRegion};
 ghost use Rattle.mmap.specs.Packed.{userIn, lentUser, mmapped, munmapped, UserLeaves};
 
-fn is_writable(prot: i32) -> bool
+pub fn is_writable(prot: i32) -> bool
     ensures { λ r. ⌜ r ≡ writable prot ⌝ }
 {
     prot & crate::PROT_WRITE != 0

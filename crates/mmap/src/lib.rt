@@ -10,10 +10,9 @@ use frame::FrameAllocator;
 use frame::Marks;
 ghost use mathlib.Core.Path.{_≡_};
 ghost use Rattle.bits.specs.Bit.{both};
-ghost use Rattle.answer.specs.Outcomes.{asAnswer};
 ghost use Rattle.paging.specs.Kept.{lentMemory};
 ghost use Rattle.mappings.specs.Packed.{mmapFit};
-ghost use Rattle.mmap.specs.Calls.{soundUser, mmapOf, munmapOf, mprotect as mprotectOf};
+ghost use Rattle.mmap.specs.Calls.{soundUser, mmapOf, munmapOf};
 ghost use Rattle.mmap.specs.Packed.{optAddr, lentUser, mmapOn, munmapOn, mmapped, munmapped, UserReads};
 
 pub const PROT_READ: i32 = 0x1;
@@ -130,10 +129,4 @@ pub fn munmap(
         Outcome::Stop(e) => inner::not_unmapped(e, frames),
         Outcome::Value(n) => { inner::unmap_region(words, bitmap, frames, root, list, addr, n) }
     }
-}
-
-pub fn mprotect(addr: VirtAddr, size: u64, prot: i32) -> Answer
-    ensures { λ r. ⌜ r ≡ asAnswer mprotectOf ⌝ }
-{
-    Answer::Refused(answer::NOT_IMPLEMENTED)
 }

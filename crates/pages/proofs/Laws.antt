@@ -7,7 +7,6 @@ use mathlib.Core.List.{List}
 use native.Mathlib.Nat.{mod-eq-of-lt}
 use native.Mathlib.Numerals.{add-one}
 use native.Mathlib.Omega.{arith}
-use lib.ListN.{length}
 use Rattle.address.specs.declared.Frame.{Frame}
 use Rattle.address.specs.declared.FrameAnswer.the-variants.{AtFrame, NoFrame}
 use Rattle.entry.specs.Entry.{entryOf}
@@ -18,7 +17,7 @@ use Rattle.frame.specs.Frames.{Frames, frames, takeFrame, giveFrame}
 use Rattle.frame.specs.Results.{allocated, given}
 use Rattle.answer.specs.declared.Outcome.{Outcome}
 use Rattle.answer.specs.declared.Outcome.the-variants.{Value, Stop}
-use Rattle.paging.specs.Walk.{place, WordsLent}
+use Rattle.paging.specs.Walk.{place}
 use Rattle.paging.specs.Map.{Memory, memory, startFrame, totalOf, Out, out, clear, Left, left, RoomToTake}
 use Rattle.paging.specs.Calls.{asChanged, mapAt}
 use Rattle.answer.specs.Outcomes.{asAnswer}
@@ -132,7 +131,3 @@ unmapped a b c = λ j. left ((sym a ∙ c) j) (sym b j)
 pub given-back : (ws : List ℕ) (fr : Frames) (f : ℕ) {r : Given} {bm : List ℕ} → r ≡ given (giveFrame fr f) → bm ≡ giveFrame fr f .frames .bits
     → memory ws (frames bm (r .frames)) ≡ memory ws (giveFrame fr f .frames)
 given-back ws fr f a b = λ j. memory ws (frames (b j) (a j .frames))
-
--- words of the same number are lent still
-pub lent-still : {ws ws′ : List ℕ} {start total : ℕ} → length ws′ ≡ length ws → WordsLent ws start total → WordsLent ws′ start total
-lent-still {total = total} e l = record { few = l .few; enough = subst (λ (n : ℕ). total * 512 ≤ n) (sym e) (l .enough); low = l .low }

@@ -2,6 +2,8 @@ pub mod Walk
 pub mod Map
 pub mod Calls
 pub mod Pages
+pub mod Alike
+pub mod Protect
 pub mod Past
 pub mod Working
 pub mod User

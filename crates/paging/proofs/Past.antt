@@ -4,12 +4,13 @@ use mathlib.Core.Path.{_≡_, refl, _∙_, subst}
 use mathlib.Core.Bool.{Bool, true}
 use mathlib.Core.List.{List, [], _∷_}
 use native.Mathlib.Omega.{arith}
+use lib.Dec.{ltb}
 use lib.ListN.{length, getD, set, take, length-set}
 use lib.Seq.{getD-set-other}
 use Rattle.bits.specs.Bit.{flag}
 use Rattle.bits.proofs.Choice.{pick-cases}
 use Rattle.address.specs.declared.FrameAnswer.{FrameAnswer}
-use Rattle.entry.specs.Entry.{indices}
+use Rattle.entry.specs.Entry.{index, indices, withWritable}
 use Rattle.entry.proofs.Entry.{indices-lt}
 use Rattle.frame.specs.Frames.{FramesDid, inside}
 use Rattle.frame.proofs.Laws.{inside-under, take-cases}
@@ -17,11 +18,12 @@ use Rattle.frame.proofs.Steps.{span-with, span-give}
 use Rattle.answer.specs.Outcomes.{andThen}
 use Rattle.answer.specs.declared.Outcome.{Outcome}
 use Rattle.answer.specs.declared.Outcome.the-variants.{Value, Stop}
-use Rattle.paging.specs.Walk.{place, reach}
+use Rattle.paging.specs.Walk.{place, present, entryAt, reach}
 use Rattle.paging.specs.Map.{Memory, memory, startFrame, totalOf, Out, out, goOn, clear, zeroFrame, enter, make, Left, left, putEntry, mapEntry, takeLeaf, unmapEntry}
 use Rattle.paging.specs.Calls.{mapAt}
 use Rattle.paging.specs.Levels.{levelsOf}
 use Rattle.paging.specs.Pages.{zeroed, freshFrame, mapFresh, mapPages, unmapLeaf, clearPage, freed, freePage, clearPages, freePages}
+use Rattle.paging.specs.Protect.{pagePlace, protectPage, protectPages}
 use Rattle.paging.proofs.Map.{goOn-cases, enter-cases}
 use Rattle.paging.proofs.Pages.{map-pages-on, map-pages-stop}
 
@@ -210,3 +212,30 @@ pub stays-free-pages : (up root n : ℕ) (m : Memory) (v : ℕ) → Stays m (fre
 unfolding freePages
 stays-free-pages up root zero m v = stays-same m
 stays-free-pages up root (suc n) m v = stays-then (stays-free-page up m root v) (stays-free-pages up root n (freePage up m root v) (v + 4096))
+
+-- ---- WRITABLE made to follow a choice
+
+module _ (up : ℕ) (w : Bool) (start total root : ℕ) where
+  past-protect-page : (ws : List ℕ) (v : ℕ) → Past (total * 512) ws (protectPage up w ws start total root v)
+  unfolding protectPage pagePlace entryAt present
+  past-protect-page ws v = by-table (reach ws start total root (take up (indices (suc up) v)))
+    where
+      i : ℕ
+      i = index 0 v
+
+      stored : Outcome → List ℕ
+      stored o = andThen o (λ _. ws) (λ x. set ws x (withWritable w (getD ws x 0)))
+
+      by-table : (o : Outcome) → Past (total * 512) ws (stored (andThen o Stop (λ t. andThen (entryAt ws start total t i) Stop (λ _. Value (place start t i)))))
+      by-table (Value t) =
+          let P : Outcome → Type 0 = λ o. Past (total * 512) ws (stored (andThen o Stop (λ _. Value (place start t i)))) in
+          pick-cases P (inside start total t) _ _
+          (λ h. pick-cases P (ltb i 512) _ _
+          (λ _. pick-cases P (flag 0 (getD ws (place start t i) 0)) _ _ (λ _. past-entry ws start total t i _ h (omega arith)) (λ _. past-same _ ws)) (λ _. past-same _ ws))
+          (λ _. past-same _ ws)
+      by-table (Stop n) = past-same _ ws
+
+  pub past-protect-pages : (n : ℕ) (ws : List ℕ) (v : ℕ) → Past (total * 512) ws (protectPages up w ws start total root v n)
+  unfolding protectPages
+  past-protect-pages zero ws v = past-same _ ws
+  past-protect-pages (suc n) ws v = past-then (past-protect-page ws v) (past-protect-pages n (protectPage up w ws start total root v) (v + 4096))

@@ -53,6 +53,10 @@ place-lent {start = start} {total = total} t i l h k = omega (arith, l .enough, 
 pub frame-lent : {ws : List ℕ} {start total : ℕ} (f : ℕ) → WordsLent ws start total → inside start total f ≡ true → place start f 0 + 512 ≤ length ws
 frame-lent {start = start} {total = total} f l h = omega (arith, l .enough, inside-from start total f h, inside-under start total f h)
 
+-- words of the same number are lent still
+pub lent-still : {ws ws′ : List ℕ} {start total : ℕ} → length ws′ ≡ length ws → WordsLent ws start total → WordsLent ws′ start total
+lent-still e l = record { few = l .few; enough = omega (arith, e, l .enough); low = l .low }
+
 -- ---- the frame at the end of a path. The laws of walks take a path by an equation, so that they serve one that is written out, by `refl`, and a loop's turn
 
 module _ (ws : List ℕ) (start total t : ℕ) {p : List ℕ} where

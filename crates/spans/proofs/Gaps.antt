@@ -104,3 +104,7 @@ module _ (d : ℕ) (low : d ≤ 4) where
 
   pub within-is : (x : ℕ) → bitAnd x (1 * 2 ^ (9 * d) % 2 ^ 64 - 1) ≡ x % 2 ^ (9 * d)
   within-is x = and-below (9 * d) x (omega arith)
+
+-- .. and its `1 << 9 * (up + 1)`
+pub all-pages-are : (up : ℕ) → up ≤ 4 → 1 * 2 ^ (9 * (up + 1)) % 2 ^ 64 ≡ 2 ^ (9 * suc up)
+all-pages-are up low = one-shifted (9 * (up + 1)) (omega arith) ∙ ap (λ (x : ℕ). 2 ^ (9 * x)) (add-one up)

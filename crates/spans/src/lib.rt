@@ -5,7 +5,7 @@ use answer::Outcome;
 use entry::paging::PageTableEntry;
 ghost use mathlib.Core.Path.{_≡_};
 ghost use mathlib.Core.Logic.{_⊎_};
-ghost use Prim.Native.Nat.{ℕ, _+_, _-_, _≤_, _<_};
+ghost use Prim.Native.Nat.{ℕ, suc, _+_, _-_, _*_, _^_, _≤_, _<_, min};
 ghost use lib.ListN.{getD};
 ghost use Rattle.entry.specs.Entry.{index as indexOf};
 ghost use Rattle.paging.specs.Walk.{WordsLent};
@@ -25,6 +25,23 @@ pub fn to_end(virt: VirtAddr, d: u64) -> u64
 {
     let width = 1 << (9 * d);
     width - ((virt.0 >> 12) & (width - 1))
+}
+
+// All the pages that there are below `up` levels: what lies above the top index of an address is ignored.
+pub fn all_pages(up: u64) -> u64
+    requires { ⌜ up ≤ mostAbove ⌝ }
+    ensures { λ r. ⌜ r ≡ 2 ^ (9 * suc up) ⌝ }
+{
+    1 << (9 * (up + 1))
+}
+
+pub fn at_most(n: u64, most: u64) -> u64
+    ensures { λ r. ⌜ r ≡ min n most ⌝ }
+{
+    if n < most {
+        return n;
+    }
+    most
 }
 
 // Where leaves from entry `from` to `end` have to stop if entry i of their table is on the way to it: past i.

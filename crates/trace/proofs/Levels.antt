@@ -20,16 +20,17 @@ use Rattle.paging.specs.User.{userMay}
 use Rattle.paging.proofs.Calls.{whole-levels, walk-other}
 use Rattle.vmalloc.specs.Calls.{vmalloc, vfree}
 use Rattle.mmap.specs.Calls.{mmap, munmap}
+use Rattle.mprotect.specs.Calls.{mprotect}
 use Rattle.fault.specs.Faults.{handleFault}
 use Rattle.handler.specs.Handler.{handleFaultSecond}
 use Rattle.board.specs.Board.{Board, BoardDid}
 use Rattle.board.proofs.Outcomes.{unmarked, may-other, may-met, start-refused, start-met, start-cases}
-use Rattle.release.specs.Calls.{Call, vmallocCall, vfreeCall, mmapCall, munmapCall}
+use Rattle.release.specs.Calls.{Call, vmallocCall, vfreeCall, mmapCall, munmapCall, userOf}
 use Rattle.release.specs.Calls.{play as playRegions}
-use Rattle.trace.specs.Trace.{regionCall, mprotectCall, faultCall, secondFaultCall, markCowCall, unmarkCowCall, isCowCall, mapPageCall, mapHugeCall, unmapPageCall, translateCall, showTranslateCall, userMayCall, allocateCall, deallocateCall, markAllocatedCall, isAllocatedCall, freeFramesCall, allocatedFramesCall, totalFramesCall, initCall, startCall, played, byRegions, byStart}
+use Rattle.trace.specs.Trace.{regionCall, mprotectCall, faultCall, secondFaultCall, markCowCall, unmarkCowCall, isCowCall, mapPageCall, mapHugeCall, unmapPageCall, translateCall, showTranslateCall, userMayCall, allocateCall, deallocateCall, markAllocatedCall, isAllocatedCall, freeFramesCall, allocatedFramesCall, totalFramesCall, initCall, startCall, played, byRegions, byBoard}
 use Rattle.trace.specs.Levels.{reads, names, none, tenLine, OtherLevels, LevelsKept, LevelsNamed}
 use Rattle.trace.proofs.Faults.{stays-fault, stays-second}
-use Rattle.trace.proofs.Theorem.{stays-map-page, stays-map-huge, stays-regions}
+use Rattle.trace.proofs.Theorem.{stays-map-page, stays-map-huge, stays-regions, stays-mprotect}
 
 -- ---- another number in the record
 
@@ -63,9 +64,9 @@ module _ (b : Board) (o : isLevels (levelsOf (b .mem)) ≡ false) where
   no-walk = walk-other (levelsOf (b .mem)) (length (b .mem .words)) (startFrame (b .mem)) (totalOf (b .mem)) (b .root) o
 
 pub other-levels : OtherLevels
-unfolding handleFault handleFaultSecond mapPage mapHuge unmapPage translate showTranslate userMay allocate deallocate markAllocated isAllocated counted
+unfolding mprotect handleFault handleFaultSecond mapPage mapHuge unmapPage translate showTranslate userMay allocate deallocate markAllocated isAllocated counted
 other-levels b (regionCall c) r o = other-regions b o c
-other-levels b (mprotectCall a size prot) r o = absurd (unlent r)
+other-levels b (mprotectCall a size prot) r o = rw (no-walk b o)
 other-levels b (faultCall a code) r o = rw (other-whole (b .mem) (b .root) o)
 other-levels b (secondFaultCall a code) r o = rw (other-whole (b .mem) (b .root) o)
 other-levels b (markCowCall a) r o = absurd (unlent r)
@@ -104,7 +105,7 @@ module _ (fr : Frames) where
 
 pub levels-kept : LevelsKept
 levels-kept b (regionCall c) n = stays-regions b c .levels
-levels-kept b (mprotectCall a size prot) n = refl
+levels-kept b (mprotectCall a size prot) n = stays-mprotect (userOf b) (b .root) a size prot .levels
 levels-kept b (faultCall a code) n = stays-fault _ _ (b .root) a code .levels
 levels-kept b (secondFaultCall a code) n = stays-second _ (b .mem) (b .root) a code .levels
 levels-kept b (markCowCall a) n = refl
@@ -143,7 +144,7 @@ levels-named = record {
   by-start = λ b from to levels.
       start-cases b from to levels (λ (d : BoardDid). answerLine (asAnswer (d .answer)) .number ≡ 0 → (isLevels levels ≡ true) × (levelsOf (d .board .mem) ≡ levels))
       (λ may _ _ _ _ _. (may, span-with (unmarked from to levels) 0 .levels)) (λ e. absurd (not-met (omega arith) e)) (λ e. absurd (not-met (omega arith) e));
-  other-start = λ b from to levels o. ap byStart (start-refused b from to levels brokenRecord (may-other (length (b .mem .words)) from to levels o));
+  other-start = λ b from to levels o. ap byBoard (start-refused b from to levels brokenRecord (may-other (length (b .mem .words)) from to levels o));
   some-start = λ b from to levels o h k l some.
-      ap (λ (d : BoardDid). byStart d .line .number) (start-met b from to levels (may-met (length (b .mem .words)) from to levels o h k l (λ e. absurd (not-met some e))));
+      ap (λ (d : BoardDid). byBoard d .line .number) (start-met b from to levels (may-met (length (b .mem .words)) from to levels o h k l (λ e. absurd (not-met some e))));
 }

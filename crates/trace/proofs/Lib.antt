@@ -2,3 +2,4 @@ pub mod Faults
 pub mod Theorem
 pub mod Levels
 pub mod Shown
+pub mod Nine

@@ -20,7 +20,8 @@ use Rattle.answer.specs.declared.Outcome.the-variants.{Value, Stop}
 use Rattle.paging.specs.declared.HugePageSize.{HugePageSize}
 use Rattle.paging.specs.Map.{Memory, totalOf, startFrame, Out, Left}
 use Rattle.paging.specs.Calls.{whole, lentWalk, sizeOf, tablesAbove, mapPage, mapHuge, unmapPage}
-use Rattle.paging.proofs.Past.{Past, past-same, past-clear, past-unmap, Stays, stays-same, stays-then, stays-words, stays-map-at, stays-map-pages, stays-clear-pages, stays-free-pages}
+use Rattle.paging.specs.Levels.{levelsOf, aboveLast}
+use Rattle.paging.proofs.Past.{Past, past-same, past-clear, past-unmap, past-protect-pages, Stays, stays-same, stays-then, stays-words, stays-map-at, stays-map-pages, stays-clear-pages, stays-free-pages}
 use Rattle.vmalloc.specs.Calls.{Kernel, kernelPages, vmalloc, vfree}
 use Rattle.vmalloc.specs.Calls.{KernelDid, kernelMapped}
 use Rattle.vmalloc.proofs.Calls.{vmalloc-cases, vfree-cases}
@@ -29,9 +30,11 @@ use Rattle.mmap.specs.Flags.{writable}
 use Rattle.mmap.specs.Calls.{User, userPages, mmap, munmap}
 use Rattle.mmap.specs.Calls.{UserDid, userMapped}
 use Rattle.mmap.proofs.Calls.{mmap-cases, munmap-cases}
+use Rattle.mprotect.specs.Calls.{ProtectDid, keepUser, mprotectOf}
+use Rattle.mprotect.proofs.Cases.{mprotect-cases}
 use Rattle.board.specs.Board.{Board, BoardDid, start}
 use Rattle.board.proofs.Outcomes.{start-cases}
-use Rattle.release.specs.Calls.{Call, vmallocCall, vfreeCall, mmapCall, munmapCall}
+use Rattle.release.specs.Calls.{Call, vmallocCall, vfreeCall, mmapCall, munmapCall, userOf}
 use Rattle.release.specs.Calls.{play as playRegions}
 use Rattle.trace.specs.Trace.{play, regionCall, mprotectCall, faultCall, secondFaultCall, markCowCall, unmarkCowCall, isCowCall, mapPageCall, mapHugeCall, unmapPageCall, translateCall, showTranslateCall, userMayCall, allocateCall, deallocateCall, markAllocatedCall, isAllocatedCall, freeFramesCall, allocatedFramesCall, totalFramesCall, initCall, startCall}
 use Rattle.trace.specs.Untouched.{Untouched, NoneTouched}
@@ -105,6 +108,16 @@ stays-regions b (vfreeCall a) = stays-vfree _ _ (b .root) a
 stays-regions b (mmapCall hint size prot flags) = stays-mmap _ _ (b .root) hint size prot flags
 stays-regions b (munmapCall a size) = stays-munmap _ _ (b .root) a size
 
+-- ---- mprotect
+
+pub stays-mprotect : (u : User) (root a size : ℕ) (prot : ℤ) → Stays (u .mem) (mprotectOf u root a size prot .user .mem)
+stays-mprotect u root a size prot =
+    mprotect-cases (levelsOf (u .mem)) (u .mem .words) (startFrame (u .mem)) (totalOf (u .mem)) root (u .regions) (u .next) a size prot
+    (λ (d : ProtectDid). Stays (u .mem) (keepUser u d .user .mem))
+    (λ _. stays-same (u .mem)) (λ _. stays-same (u .mem)) (λ _. stays-same (u .mem)) (λ _. stays-same (u .mem)) (λ _. stays-same (u .mem))
+    (λ _ _ _ _ _. stays-words (u .mem) _
+    (past-protect-pages (aboveLast (u .mem)) (writable prot) (startFrame (u .mem)) (totalOf (u .mem)) root (roundUp 12 size / 4096) (u .mem .words) a))
+
 -- ---- the theorem
 
 -- a call that keeps the frames lent, and one that leaves the words
@@ -127,7 +140,7 @@ start-untouched b from to levels =
 
 pub none-touched : NoneTouched
 none-touched b (regionCall c) = stays-untouched b _ (stays-regions b c)
-none-touched b (mprotectCall a size prot) = words-untouched b _ refl
+none-touched b (mprotectCall a size prot) = stays-untouched b _ (stays-mprotect (userOf b) (b .root) a size prot)
 none-touched b (faultCall a code) = stays-untouched b _ (stays-fault _ _ (b .root) a code)
 none-touched b (secondFaultCall a code) = stays-untouched b _ (stays-second _ (b .mem) (b .root) a code)
 none-touched b (markCowCall a) = words-untouched b _ refl

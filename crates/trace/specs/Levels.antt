@@ -17,7 +17,7 @@ pub data Use : Type 0 where
 
 abbrev pub useOf : AnyCall → Use
 useOf (regionCall c) = reads
-useOf (mprotectCall a size prot) = none
+useOf (mprotectCall a size prot) = reads
 useOf (faultCall a code) = reads
 useOf (secondFaultCall a code) = reads
 useOf (markCowCall a) = none

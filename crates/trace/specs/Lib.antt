@@ -2,3 +2,4 @@ pub mod Trace
 pub mod Untouched
 pub mod Levels
 pub mod Shown
+pub mod Nine

@@ -18,13 +18,13 @@ use Rattle.paging.specs.Levels.{levelsOf}
 use Rattle.paging.specs.Working.{showTranslate}
 use Rattle.paging.specs.User.{userMay}
 use Rattle.slots.specs.Slots.{Slots}
-use Rattle.mmap.specs.Calls.{mprotect}
+use Rattle.mprotect.specs.Calls.{mprotectOf}
 use Rattle.cow.specs.Marked.{MarkedDid, markCow, unmarkCow, isCow}
 use Rattle.fault.specs.Faults.{Faulting, faulting, handleFaultOf}
 use Rattle.fault.specs.Faults.{FaultDid}
 use Rattle.handler.specs.Handler.{handleFaultSecondOf}
 use Rattle.board.specs.Board.{Board, BoardDid, start}
-use Rattle.release.specs.Calls.{Call, vmallocCall, vfreeCall, mmapCall, munmapCall}
+use Rattle.release.specs.Calls.{Call, vmallocCall, vfreeCall, mmapCall, munmapCall, userOf, byUser}
 use Rattle.release.specs.Calls.{play as playRegions}
 
 pub data AnyCall : Type 0 where
@@ -100,13 +100,14 @@ byMark b d = played (answerLine (d .answer)) (withMarked b (d .marked))
 abbrev pub byFrames : Board → FramesDid Answer → Played
 byFrames b d = played (answerLine (d .answer)) (withFrames b (d .frames))
 
-abbrev pub byStart : BoardDid → Played
-byStart d = played (answerLine (asAnswer (d .answer))) (d .board)
+-- mprotect and the start, which answer no value
+abbrev pub byBoard : BoardDid → Played
+byBoard d = played (answerLine (asAnswer (d .answer))) (d .board)
 
 -- a call on a board
 abbrev pub play : Board → AnyCall → Played
 play b (regionCall c) = byRegions c (playRegions b c)
-play b (mprotectCall a size prot) = played (answerLine (asAnswer mprotect)) b
+play b (mprotectCall a size prot) = byBoard (byUser b (mprotectOf (userOf b) (b .root) a size prot))
 play b (faultCall a code) = byFault b (handleFaultOf (faulting (b .mem) (b .marked)) (b .root) a code)
 play b (secondFaultCall a code) = byStep b (handleFaultSecondOf (b .mem) (b .root) a code)
 play b (markCowCall a) = byMark b (markCow (b .marked) a)
@@ -126,4 +127,4 @@ play b freeFramesCall = played (countLine (freeFrames (b .mem .frames))) b
 play b allocatedFramesCall = played (countLine (allocatedFrames (b .mem .frames))) b
 play b totalFramesCall = played (countLine (totalFrames (b .mem .frames))) b
 play b (initCall from to) = byFrames b (init (b .mem .frames) from to)
-play b (startCall from to levels) = byStart (start b from to levels)
+play b (startCall from to levels) = byBoard (start b from to levels)

@@ -4,7 +4,7 @@ use mathlib.Core.Bool.{true, false}
 use lib.ListN.{length}
 use native.Mathlib.Omega.{arith}
 use Rattle.tables.proofs.Laws.{stepped}
-use Rattle.pages.proofs.Laws.{lent-still}
+use Rattle.paging.proofs.Walk.{lent-still}
 use Rattle.paging.specs.Kept.{lentMemory}
 use Rattle.paging.specs.Walk.{WordsLent}
 use Rattle.paging.specs.Map.{Memory, memory, out, RoomToTake}

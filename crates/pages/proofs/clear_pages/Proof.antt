@@ -8,7 +8,8 @@ use borrow.Author.Needs.{needs}
 use Rattle.paging.specs.Kept.{lentMemory}
 use Rattle.paging.specs.Pages.{clearPages}
 use Rattle.bits.proofs.Counter.{onward, fewer, next-fits}
-use Rattle.pages.proofs.Laws.{clear-on, clear-end, lent-still}
+use Rattle.paging.proofs.Walk.{lent-still}
+use Rattle.pages.proofs.Laws.{clear-on, clear-end}
 use Rattle.pages.proofs.clear_pages.Statement.{statement}
 use Rattle.pages.proofs.clear_pages.Tie as tie
 

@@ -1,8 +1,8 @@
 -- `all_pages`: one bit, 9 places up for each level.
 use borrow.Author.Needs.{needs}
-use Rattle.freeing.proofs.Steps.{all-pages-are}
-use Rattle.freeing.proofs.all_pages.Statement.{statement}
-use Rattle.freeing.proofs.all_pages.Tie as tie
+use Rattle.spans.proofs.Gaps.{all-pages-are}
+use Rattle.spans.proofs.all_pages.Statement.{statement}
+use Rattle.spans.proofs.all_pages.Tie as tie
 
 add-result : tie.Need-add-result
 add-result c = search needs
