@@ -21,7 +21,7 @@ use Rattle.paging.proofs.Walk.{no-value, entry-out}
 use Rattle.paging.proofs.Alike.{place-alike}
 use Rattle.paging.proofs.Protect.{Toward, toward-alike, toward-follows, page-toward, protect-pages-add, pages-same, pages-follow}
 use Rattle.spans.specs.Spans.{toEnd}
-use Rattle.spans.proofs.Addresses.{same-page, span-above}
+use Rattle.spans.proofs.Addresses.{same-page, same-above, span-above}
 use Rattle.protecting.specs.Protecting.{Follows}
 
 -- ---- where a page's last entry stands
@@ -93,6 +93,24 @@ module _ (w : Bool) (ws : List ℕ) (start total t v k : ℕ) where
       let low : suc d - 1 ≡ d = omega arith in
       rw low (pages-agree w start total (suc d) d t (frameOf e) k ws v (λ j l.
       place-down ws start total d t (v + j * 4096) ∙ rw (span-index (suc d) j (omega arith), h)))
+
+-- ---- the pages of one last table
+
+module _ (w : Bool) (ws : List ℕ) (start total up root v k : ℕ) (fit : k ≤ toEnd 1 v) where
+  -- the way to it is that of the first
+  same-way : (j : ℕ) → j < k → reach ws start total root (take up (indices (suc up) (v + j * 4096))) ≡ reach ws start total root (take up (indices (suc up) v))
+  same-way j l = ap (reach ws start total root) (same-above (suc up) 1 (v + j * 4096) v (span-above 1 v j (omega arith)) up (omega arith))
+
+  pub last-none : (a : ℕ) → reach ws start total root (take up (indices (suc up) v)) ≡ Stop a → protectPages up w ws start total root v k ≡ ws
+  unfolding pagePlace
+  last-none a h =
+      pages-same up w start total root k ws v (λ j x l e.
+      let stop : pagePlace up ws start total root (v + j * 4096) ≡ Stop a = rw (same-way j l ∙ h) in
+      absurd (no-value (sym e ∙ stop)))
+
+  pub last-there : (t : ℕ) → reach ws start total root (take up (indices (suc up) v)) ≡ Value t → protectPages up w ws start total root v k ≡ protectPages 0 w ws start total t v k
+  unfolding pagePlace reach
+  last-there t h = pages-agree w start total up 0 root t k ws v (λ j l. rw (same-way j l ∙ h))
 
 -- ---- every page there is, from any of them on
 

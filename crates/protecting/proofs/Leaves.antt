@@ -1,5 +1,5 @@
 -- A page below its last table, by the tests that code makes, and runs of pages at their start and end.
-use Prim.Native.Nat.{ℕ, suc, _+_, _*_}
+use Prim.Native.Nat.{ℕ, _+_, _-_, _*_, _<_, _≤_, min}
 use mathlib.Core.Path.{_≡_, refl, sym, _∙_, ap}
 use mathlib.Core.Bool.{Bool, true, false}
 use mathlib.Core.List.{List}
@@ -12,21 +12,12 @@ use Rattle.frame.specs.Frames.{inside}
 use Rattle.answer.specs.declared.Outcome.the-variants.{Value, Stop}
 use Rattle.paging.specs.Walk.{place, reach, WordsLent}
 use Rattle.paging.specs.Protect.{pagePlace, protectPage, protectPages}
+use Rattle.spans.specs.Spans.{toEnd}
+use Rattle.spans.proofs.Addresses.{to-end-some}
 use Rattle.paging.proofs.Walk.{entry-out, entry-in, present-yes, present-no, lent-still}
 use Rattle.paging.proofs.Protect.{protect-none, protect-at, protect-pages-add, pages-toward}
 
 module _ (w : Bool) (ws : List ℕ) (start total : ℕ) where
-  module _ (up root v : ℕ) where
-    -- below the last table that the walk comes to
-    pub page-below : (t : ℕ) → reach ws start total root (take up (indices (suc up) v)) ≡ Value t
-        → protectPage up w ws start total root v ≡ protectPage 0 w ws start total t v
-    unfolding protectPage pagePlace reach
-    page-below t h = rw h
-
-    pub page-stop : (n : ℕ) → reach ws start total root (take up (indices (suc up) v)) ≡ Stop n → protectPage up w ws start total root v ≡ ws
-    unfolding protectPage pagePlace
-    page-stop n h = rw h
-
   module _ (t v : ℕ) where
     -- a table that is not lent, an absent entry, and a present one
     pub leaf-outside : inside start total t ≡ false → protectPage 0 w ws start total t v ≡ ws
@@ -72,3 +63,14 @@ module _ (up : ℕ) (w : Bool) (ws : List ℕ) (start total root v : ℕ) where
 
   pub run-lent : (n : ℕ) {ws′ : List ℕ} → ws′ ≡ protectPages up w ws start total root v n → WordsLent ws start total → WordsLent ws′ start total
   run-lent n e l = lent-still (run-length n e) l
+
+-- how many pages of a run are gone through at once: those up to the end of one entry's span, and no more than are left
+pub record Part (done n all k : ℕ) : Type 0 where
+  pub some : 0 < k
+  pub span : k ≤ all
+  pub fit : done + k ≤ n
+
+pub part-of : (d v done n : ℕ) {e k : ℕ} → done < n → e ≡ toEnd d v → k ≡ min e (n - done) → Part done n (toEnd d v) k
+part-of d v done n l e f =
+    let p = to-end-some d v in
+    record { some = omega (arith, e, f, p, l); span = omega (arith, e, f); fit = omega (arith, f, l) }

@@ -11,8 +11,8 @@ ghost use Rattle.paging.specs.Walk.{WordsLent};
 ghost use Rattle.paging.specs.Levels.{mostAbove};
 ghost use Rattle.paging.specs.Protect.{protectPage, protectPages};
 
-// Runs of so few pages are gone through page by page.
-const FEW: u64 = 32;
+// Runs of fewer pages are gone through one last table after the other; of longer ones tables are remembered.
+const MANY: u64 = 8192;
 
 // The page of an address below its last table t.
 fn protect_leaf(words: &mut [u64], start: u64, total: u64, t: u64, virt: VirtAddr, writable: bool)
@@ -30,28 +30,34 @@ fn protect_leaf(words: &mut [u64], start: u64, total: u64, t: u64, virt: VirtAdd
     words[at] = e.with_writable(writable).0;
 }
 
-// A page, below `up` levels; one that is not mapped is passed over.
-fn protect_page(
+// n pages from `virt` on, all below their last table t.
+fn protect_leaves(
     words: &mut [u64],
     start: u64,
     total: u64,
-    up: u64,
-    root: Frame,
+    t: u64,
     virt: VirtAddr,
+    n: u64,
     writable: bool,
 )
     requires { ⌜ WordsLent (now words) start total ⌝ }
-    requires { ⌜ up ≤ mostAbove ⌝ }
-    ensures { λ _. ⌜ now (words .exit) ≡ protectPage up writable (now (words .entry)) start total (root .0) (virt .0) ⌝ }
+    requires { ⌜ virt .0 + n * 4096 < 2 ^ 64 ⌝ }
+    ensures { λ _. ⌜ now (words .exit) ≡ protectPages 0 writable (now (words .entry)) start total t (virt .0) n ⌝ }
 {
-    match walk::find_table(words, start, total, up, root, virt) {
-        Outcome::Stop(_) => {}
-        Outcome::Value(t) => protect_leaf(words, start, total, t, virt, writable),
+    for i in 0..n {
+        protect_leaf(
+            words,
+            start,
+            total,
+            t,
+            VirtAddr(virt.0 + i * 4096),
+            writable,
+        );
     }
 }
 
-// n pages from `virt` on, one after the other.
-fn protect_few(
+// n pages from `virt` on, below `up` levels: each last table is walked to once, and pages that have none are passed over.
+fn protect_run(
     words: &mut [u64],
     start: u64,
     total: u64,
@@ -66,20 +72,19 @@ fn protect_few(
     requires { ⌜ up ≤ mostAbove ⌝ }
     ensures { λ _. ⌜ now (words .exit) ≡ protectPages up writable (now (words .entry)) start total (root .0) (virt .0) n ⌝ }
 {
-    for i in 0..n {
-        protect_page(
-            words,
-            start,
-            total,
-            up,
-            root,
-            VirtAddr(virt.0 + i * 4096),
-            writable,
-        );
+    let mut done = 0;
+    while done < n {
+        let at = VirtAddr(virt.0 + done * 4096);
+        let part = spans::at_most(spans::to_end(at, 1), n - done);
+        match walk::find_table(words, start, total, up, root, at) {
+            Outcome::Stop(_) => {}
+            Outcome::Value(t) => protect_leaves(words, start, total, t, at, part, writable),
+        }
+        done = done + part;
     }
 }
 
-// The same: few pages one after the other, more of them table by table.
+// The same: long runs table by table, each table that is gone through whole once.
 pub fn protect_pages(
     words: &mut [u64],
     start: u64,
@@ -95,8 +100,8 @@ pub fn protect_pages(
     requires { ⌜ up ≤ mostAbove ⌝ }
     ensures { λ _. ⌜ now (words .exit) ≡ protectPages up writable (now (words .entry)) start total (root .0) (virt .0) n ⌝ }
 {
-    if n <= FEW {
-        protect_few(words, start, total, up, root, virt, n, writable);
+    if n < MANY {
+        protect_run(words, start, total, up, root, virt, n, writable);
         return;
     }
     let mut gone: table::Gone = [0u8; 8192];

@@ -1,5 +1,4 @@
 // Pages below one table. What was gone through whole is remembered and passed over: a lent record may lead from many entries to one table.
-use address::Frame;
 use address::VirtAddr;
 use answer::Outcome;
 use entry::paging::PageTableEntry;
@@ -103,7 +102,7 @@ pub fn protect_below(
         return;
     }
     if d == 0 {
-        crate::protect_few(words, start, total, 0, Frame(t), virt, n, writable);
+        crate::protect_leaves(words, start, total, t, virt, n, writable);
     } else {
         protect_entries(words, gone, start, total, d, t, virt, n, writable);
     }

@@ -1,4 +1,4 @@
--- `protect_pages`: few pages one after the other, or all that there are below the root at most.
+-- `protect_pages`: short runs one last table after the other, of longer ones all that there are below the root at most.
 use mathlib.Core.Path.{_∙_}
 use native.Mathlib.Omega.{arith}
 use borrow.Author.Needs.{needs}
@@ -7,8 +7,8 @@ use Rattle.protecting.proofs.Remembered.{remembered-start}
 use Rattle.protecting.proofs.protect_pages.Statement.{statement}
 use Rattle.protecting.proofs.protect_pages.Tie as tie
 
-protect-few-requires : tie.Need-protect-few-requires
-protect-few-requires c κs = search needs
+protect-run-requires : tie.Need-protect-run-requires
+protect-run-requires c κs = search needs
 
 same-length : tie.Need-same-length
 same-length c = search needs
@@ -41,7 +41,7 @@ pub protect-pages-spec : {M : Type 1} → statement M
 protect-pages-spec =
     tie.close
     (tie.spec
-    protect-few-requires
+    protect-run-requires
     same-length
     returns
     all-pages-requires

@@ -12,9 +12,8 @@ use Rattle.paging.specs.Walk.{entryAt}
 use Rattle.paging.specs.Protect.{protectPages}
 use Rattle.protecting.specs.Protecting.{Remembered}
 use Rattle.spans.specs.Spans.{toEnd}
-use Rattle.spans.proofs.Addresses.{to-end-some}
 use Rattle.protecting.proofs.Below.{follows-same, part-absent, part-down}
-use Rattle.protecting.proofs.Leaves.{run-none, run-part, run-length, run-lent}
+use Rattle.protecting.proofs.Leaves.{run-none, run-part, run-length, run-lent, Part, part-of}
 use Rattle.protecting.proofs.Remembered.{undone-lent, done-follows, remembered-as, remembered-run, remembered-whole}
 use borrow.Fn.Kinds.{In}
 use borrow.Fn.PlainCycle.{Measures, is, falls, and}
@@ -26,7 +25,7 @@ use Rattle.protecting.proofs.table.protect_entries.Kinds as protect-ent
 use Rattle.protecting.proofs.table.+protect_below+protect_entries.Lts-protect_entries as protect-entries-lts
 use Rattle.entry.proofs.page_index.Reads as page-index-reads
 use Rattle.entry.proofs.paging.PageTableEntry.addr.Reads as addr-reads
-use Rattle.protecting.proofs.protect_few.Reads as protect-few-reads
+use Rattle.protecting.proofs.protect_leaves.Reads as protect-leaves-reads
 use Rattle.protecting.proofs.table.is_done.Reads as is-done-reads
 use Rattle.protecting.proofs.table.remember.Reads as remember-reads
 use Rattle.spans.proofs.all_pages.Reads as all-pages-reads
@@ -75,8 +74,8 @@ abbrev below-claims : ℕ → protect-below-lts.Claims
 below-claims t = (
   is-done-reads.Asked,
   is-done-reads.Learnt,
-  protect-few-reads.Asked,
-  protect-few-reads.Learnt,
+  protect-leaves-reads.Asked,
+  protect-leaves-reads.Learnt,
   protect-entries-below t,
   protect-entries.Post,
   all-pages-reads.Asked,
@@ -112,8 +111,10 @@ protect-below-returns t c =
     let f = done-follows (a .writable) (a .start) (a .total) (a .words .now) (a .gone .now) (a .d) (a .t) (s .pre .1 .1 .0) (sym (d .is-done .ensures) ∙ c .if1 .taken) in
     (sym (follows-same (a .d) (a .writable) (a .start) (a .total) (a .t) (a .words .now) (a .virt .0) (a .n) f), s .pre .1 .1 .0)
 
-protect-below-protect-few-requires : (t : ℕ) → protect-below-lts.Need-protect-few-requires (below-claims t) (protect-below-at t) protect-below.Post
-protect-below-protect-few-requires t c κs = let s = c .before .before .before .before .before .before in (s .pre .1 .0, (s .pre .1 .1 .1 .0, omega arith))
+protect-below-protect-leaves-requires : (t : ℕ) → protect-below-lts.Need-protect-leaves-requires (below-claims t) (protect-below-at t) protect-below.Post
+protect-below-protect-leaves-requires t c κs =
+    let s = c .before .before .before .before .before .before in
+    (s .pre .1 .0, s .pre .1 .1 .1 .0)
 
 protect-below-protect-entries-requires : (t : ℕ) → protect-below-lts.Need-protect-entries-requires (below-claims t) (protect-below-at t) protect-below.Post
 protect-below-protect-entries-requires t c κs =
@@ -220,12 +221,7 @@ protect-entries-entry-at-requires t c κs =
     let a = s .args in
     (run-lent (a .d) (a .writable) (a .words .now) (a .start) (a .total) (a .t) (a .virt .0) (l .loop .done) (l .loop .inv .1) (s .pre .1 .0), c .page-index .ensures .1)
 
--- how many pages of the run are gone through at once: those below one entry, one at least
-record Part (done n all k : ℕ) : Type 0 where
-  some : 0 < k
-  span : k ≤ all
-  fit : done + k ≤ n
-
+-- those below one entry
 part-fits : (t : ℕ) (o : protect-entries-lts.After-at-most (entries-claims t) (protect-entries-at t) protect-entries.Post protect-entries-Inv-loop protect-entries-μ-loop)
     → let l = o .before .before .before .before in let a = l .before .before .args in
     Part (l .loop .done) (a .n) (toEnd (a .d) (a .virt .0 + l .loop .done * 4096)) (o .at-most .result)
@@ -233,10 +229,7 @@ part-fits t o =
     let i = o .before .before .before in
     let l = i .before in
     let a = l .before .before .args in
-    let e = o .at-most .ensures in
-    let z = o .before .to-end .ensures in
-    let p = to-end-some (a .d) (a .virt .0 + l .loop .done * 4096) in
-    record { some = omega (arith, e, z, p, i .loop-test .taken); span = omega (arith, e, z); fit = omega (arith, e, i .loop-test .taken) }
+    part-of (a .d) (a .virt .0 + l .loop .done * 4096) (l .loop .done) (a .n) (i .loop-test .taken) (o .before .to-end .ensures) (o .at-most .ensures)
 
 protect-entries-enum-told : (t : ℕ) → protect-entries-lts.Need-enum-told (entries-claims t) (protect-entries-at t) protect-entries.Post protect-entries-Inv-loop protect-entries-μ-loop
 protect-entries-enum-told t c = search needs
@@ -318,8 +311,8 @@ pub +protect-below+protect-entries-spec : {M : Type 1} → statement M
     close μ-protect-below μ-protect-entries (λ t. protect-below-lts.spec (
       is-done-reads.Asked,
       is-done-reads.Learnt,
-      protect-few-reads.Asked,
-      protect-few-reads.Learnt,
+      protect-leaves-reads.Asked,
+      protect-leaves-reads.Learnt,
       protect-entries-below t,
       protect-entries.Post,
       all-pages-reads.Asked,
@@ -331,7 +324,7 @@ pub +protect-below+protect-entries-spec : {M : Type 1} → statement M
     protect-below.Post
     (protect-below-is-done-requires t)
     (protect-below-returns t)
-    (protect-below-protect-few-requires t)
+    (protect-below-protect-leaves-requires t)
     (protect-below-protect-entries-requires t)
     (protect-below-all-pages-requires t)
     (protect-below-sub-remember t)

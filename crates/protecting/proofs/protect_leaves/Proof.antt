@@ -1,4 +1,4 @@
--- `protect_few`: one page a turn.
+-- `protect_leaves`: one page a turn.
 use Prim.Native.Nat.{_≤_, _-_}
 use mathlib.Core.Path.{_≡_, sym, _∙_, ap}
 use native.Mathlib.Omega.{arith}
@@ -6,32 +6,32 @@ use borrow.Author.Needs.{needs}
 use Rattle.paging.specs.Protect.{protectPages}
 use Rattle.bits.proofs.Counter.{onward, fewer, next-fits}
 use Rattle.protecting.proofs.Leaves.{run-none, run-next, run-length, run-lent}
-use Rattle.protecting.proofs.protect_few.Statement.{statement}
-use Rattle.protecting.proofs.protect_few.Tie as tie
+use Rattle.protecting.proofs.protect_leaves.Statement.{statement}
+use Rattle.protecting.proofs.protect_leaves.Tie as tie
 
 -- i pages are done
 abbrev Inv-loop : tie.InvT-loop
-Inv-loop words₀ start total up root virt n writable i₀ words i =
-    (i ≤ n) × (words ≡ protectPages up writable words₀ start total (root .0) (virt .0) i)
+Inv-loop words₀ start total t virt n writable i₀ words i =
+    (i ≤ n) × (words ≡ protectPages 0 writable words₀ start total t (virt .0) i)
 
 abbrev μ-loop : tie.MeasureT-loop
-μ-loop words₀ start total up root virt n writable i₀ words i = n - i
+μ-loop words₀ start total t virt n writable i₀ words i = n - i
 
 loop-holds : tie.Need-loop-holds Inv-loop μ-loop
-loop-holds c = let a = c .before .args in (omega arith, sym (run-none (a .up) (a .writable) (a .words .now) (a .start) (a .total) (a .root .0) (a .virt .0)))
+loop-holds c = let a = c .before .args in (omega arith, sym (run-none 0 (a .writable) (a .words .now) (a .start) (a .total) (a .t) (a .virt .0)))
 
-mul-t14 : tie.Need-mul-t14 Inv-loop μ-loop
-mul-t14 c = search needs
+mul-t13 : tie.Need-mul-t13 Inv-loop μ-loop
+mul-t13 c = search needs
 
-add-t15 : tie.Need-add-t15 Inv-loop μ-loop
-add-t15 c = search needs
+add-t14 : tie.Need-add-t14 Inv-loop μ-loop
+add-t14 c = search needs
 
-protect-page-requires : tie.Need-protect-page-requires Inv-loop μ-loop
-protect-page-requires c κs =
+protect-leaf-requires : tie.Need-protect-leaf-requires Inv-loop μ-loop
+protect-leaf-requires c κs =
     let l = c .before .before .before in
     let s = l .before .before in
     let a = s .args in
-    (run-lent (a .up) (a .writable) (a .words .now) (a .start) (a .total) (a .root .0) (a .virt .0) (l .loop .i) (l .loop .inv .1) (s .pre .0), s .pre .1 .1)
+    run-lent 0 (a .writable) (a .words .now) (a .start) (a .total) (a .t) (a .virt .0) (l .loop .i) (l .loop .inv .1) (s .pre .0)
 
 add-i : tie.Need-add-i Inv-loop μ-loop
 add-i c =
@@ -50,32 +50,32 @@ loop-again c =
     let l = t .before in
     let a = l .before .before .args in (
       onward (l .loop .i) (a .n) (t .loop-test .taken),
-      run-next (a .up) (a .writable) (a .words .now) (a .start) (a .total) (a .root .0) (a .virt .0) (l .loop .i) (l .loop .inv .1) (p .protect-page .ensures),
+      run-next 0 (a .writable) (a .words .now) (a .start) (a .total) (a .t) (a .virt .0) (l .loop .i) (l .loop .inv .1) (p .protect-leaf .ensures),
     )
 
 same-length : tie.Need-same-length Inv-loop μ-loop
 same-length c =
     let l = c .before in
     let a = l .before .before .args in
-    run-length (a .up) (a .writable) (a .words .now) (a .start) (a .total) (a .root .0) (a .virt .0) (l .loop .i) (l .loop .inv .1)
+    run-length 0 (a .writable) (a .words .now) (a .start) (a .total) (a .t) (a .virt .0) (l .loop .i) (l .loop .inv .1)
 
 returns : tie.Need-returns Inv-loop μ-loop
 returns c =
     let l = c .before in
     let a = l .before .before .args in
     let all : l .loop .i ≡ a .n = omega (arith, l .loop .inv .0, c .loop-test .left) in
-    l .loop .inv .1 ∙ ap (protectPages (a .up) (a .writable) (a .words .now) (a .start) (a .total) (a .root .0) (a .virt .0)) all
+    l .loop .inv .1 ∙ ap (protectPages 0 (a .writable) (a .words .now) (a .start) (a .total) (a .t) (a .virt .0)) all
 
-pub protect-few-spec : {M : Type 1} → statement M
-protect-few-spec =
+pub protect-leaves-spec : {M : Type 1} → statement M
+protect-leaves-spec =
     tie.close
     (tie.spec
     Inv-loop
     μ-loop
     loop-holds
-    mul-t14
-    add-t15
-    protect-page-requires
+    mul-t13
+    add-t14
+    protect-leaf-requires
     add-i
     loop-less
     loop-again
