@@ -116,9 +116,6 @@ void gadulnos_page_indices(uint64_t virt, size_t *out);
 /* Whether an address lies in the kernel (vmalloc) window. */
 bool gadulnos_is_vmalloc_addr(uint64_t addr);
 
-/* Answers 9, always. */
-struct gadulnos_line gadulnos_mprotect(uint64_t addr, uint64_t size, int32_t prot);
-
 /* ---- The frame record and its bitmap */
 
 /* A record for the frames of memory `from` to `to`, all free, of four levels; 10 if `from` is above `to` or
@@ -195,6 +192,13 @@ struct gadulnos_line gadulnos_mmap(uint64_t *words, size_t words_len, uint8_t *f
 struct gadulnos_line gadulnos_munmap(uint64_t *words, size_t words_len, uint8_t *fields, size_t fields_len,
                                      uint8_t bits[GADULNOS_BITS_BYTES], uint64_t root, uint8_t *user,
                                      size_t user_len, uint64_t addr, uint64_t size);
+/* Another protection for the region at `addr` whose size `size` rounds to; 1, 2, 3, 16 in this order. On each
+ * page of it that gadulnos_unmap_page would find, WRITABLE (bit 1) of the last entry becomes PROT_WRITE (bit 1)
+ * of `prot`, which is stored with the region. Nothing else changes: no frame, no translated address. It is lent
+ * start_frame, total and levels as numbers, as the walks are, and neither record nor bitmap. */
+struct gadulnos_line gadulnos_mprotect(uint64_t *words, size_t words_len, uint64_t start, uint64_t total,
+                                       uint64_t levels, uint64_t root, uint8_t *user, size_t user_len,
+                                       uint64_t addr, uint64_t size, int32_t prot);
 /* mmap's search by itself: the address at which `size` bytes, not rounded, are free; 15 if there is none.
  * Writes how many regions it compared to *compared, with 15 too; 10 leaves it as it was. */
 struct gadulnos_line gadulnos_find_free_region(const uint8_t *user, size_t user_len, uint64_t size,

@@ -125,8 +125,6 @@ functions! {
     fn page_indices = gadulnos_page_indices(virt: u64, out: &mut [usize; 4]) -> ();
     /// Whether an address lies in the kernel (vmalloc) window.
     fn is_vmalloc_addr = gadulnos_is_vmalloc_addr(addr: u64) -> bool;
-    /// Answers 9, always.
-    fn mprotect = gadulnos_mprotect(addr: u64, size: u64, prot: i32) -> Line;
 }
 
 // The frame record and its bitmap.
@@ -191,6 +189,12 @@ functions! {
     ) -> Line;
     fn munmap = gadulnos_munmap(
         words: &mut [u64], fields: &mut [u8], bits: &mut Marks, root: u64, user: &mut [u8], addr: u64, size: u64
+    ) -> Line;
+    /// Another protection for a region: WRITABLE follows PROT_WRITE on each of its pages that `unmap_page` would
+    /// find, and `prot` is stored. Lent as the walks are, with the list.
+    fn mprotect = gadulnos_mprotect(
+        words: &mut [u64], start: u64, total: u64, levels: u64, root: u64, user: &mut [u8],
+        addr: u64, size: u64, prot: i32
     ) -> Line;
     /// mmap's search by itself: where `size` bytes, not rounded, are free. How many regions it compared is
     /// written to `compared`, with 15 too; 10 leaves it as it was.
@@ -527,6 +531,12 @@ where
     pub fn munmap(&mut self, addr: u64, size: u64) -> Line {
         let Board { words, fields, bits, root, user, .. } = self;
         munmap(words, fields, bits, *root, user, addr, size)
+    }
+
+    pub fn mprotect(&mut self, addr: u64, size: u64, prot: i32) -> Line {
+        let Frames { start_frame, total, levels, .. } = self.frames();
+        let Board { words, root, user, .. } = self;
+        mprotect(words, start_frame, total, levels, *root, user, addr, size, prot)
     }
 
     /// mmap's search by itself, and how many regions it compared, none of a broken list.

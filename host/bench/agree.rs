@@ -63,8 +63,11 @@ macro_rules! player {
                         $calls::total_frames(fields, bits),
                     ]
                 }
-                // On numbers alone: no row has them.
-                Call::IsVmallocAddr { .. } | Call::Mprotect { .. } => Line::met(0),
+                Call::Mprotect { addr, size, prot } => {
+                    $calls::mprotect(words, first, total, levels, root, list, addr, size, prot)
+                }
+                // On numbers alone: no row has it.
+                Call::IsVmallocAddr { .. } => Line::met(0),
             };
             [one; 3]
         }
@@ -140,6 +143,7 @@ fn both(port: &mut Board, same: &mut Board, call: &Call) -> Result<(), String> {
         | Call::MapHugePage { virt, .. }
         | Call::Mmap { addr: virt, .. }
         | Call::Munmap { addr: virt, .. }
+        | Call::Mprotect { addr: virt, .. }
         | Call::Fault { addr: virt, .. }
         | Call::SecondFault { addr: virt, .. } => {
             show(port, same, virt)?;

@@ -1,4 +1,4 @@
-//! vmalloc with vfree, mmap with munmap, the search by itself, and refusals.
+//! vmalloc with vfree, mmap with munmap, mprotect, the search by itself, and refusals.
 
 use crate::sides::Side;
 use crate::table::{timed, Row, Table, Work};
@@ -53,6 +53,16 @@ pub fn rows(table: &mut Table) {
         let row = Row { what: "mmap, munmap", on, goal: None, main: true };
         table.row(row, || Mmap::set_up(user_board_of(LARGE, MOST_LEVELS, 2), pages));
     }
+    let sizes = [(1, 2, true), (16, 2, true), (64, 2, false), (512, 2, false), (1, 200, false)];
+    for (pages, regions, main) in sizes {
+        let on = on(LARGE, pages, regions);
+        let row = Row { what: "mprotect", on, goal: None, main };
+        table.row(row, || Protect::set_up(user_board(LARGE, regions), pages));
+    }
+    let on = format!("five levels, {}", on(LARGE, 16, 2));
+    table.row(Row { what: "mprotect", on, goal: None, main: true }, || {
+        Protect::set_up(user_board_of(LARGE, MOST_LEVELS, 2), 16)
+    });
     for (regions, from_first, main) in [(2, false, true), (200, false, false), (200, true, true)] {
         let from = if from_first { ", from the first on" } else { "" };
         let on = format!("{regions} regions{from}");
@@ -130,6 +140,36 @@ impl Work for Mmap {
         });
         side.set_next_addr(self.next_addr);
         time
+    }
+}
+
+/// A region that is made read-only and writable again in turns. A round ends as it began, so that the Rust's
+/// board, which has no such call, stays in the same state.
+struct Protect {
+    addr: u64,
+    size: u64,
+}
+
+impl Protect {
+    fn set_up(mut trio: Trio, pages: u64) -> (Trio, Protect) {
+        let addr = state(&trio.port.board).map_or(0, |state| state.next_addr);
+        let size = pages * PAGE;
+        each!(trio, side => assert_eq!(side.mmap(size), Some(addr)));
+        assert_eq!(trio.port.mprotect(addr, size, 3), Some(0));
+        assert_eq!(trio.same.mprotect(addr, size, 3), Some(0));
+        (trio, Protect { addr, size })
+    }
+}
+
+impl Work for Protect {
+    const IN_RUST: bool = false;
+
+    fn round<S: Side>(&self, side: &mut S) -> f64 {
+        let prots = [1, 3];
+        timed(128, |i| {
+            let (addr, size) = (black_box(self.addr), black_box(self.size));
+            side.mprotect(addr, size, black_box(prots[i as usize % 2]))
+        })
     }
 }
 

@@ -25,6 +25,7 @@ pub trait Side {
     fn vfree(&mut self, addr: u64) -> Option<u64>;
     fn mmap(&mut self, size: u64) -> Option<u64>;
     fn munmap(&mut self, addr: u64, size: u64) -> Option<u64>;
+    fn mprotect(&mut self, addr: u64, size: u64, prot: i32) -> Option<u64>;
     fn find_free_region(&self, size: u64) -> Option<u64>;
     fn mark_cow(&mut self, addr: u64) -> Option<u64>;
     fn unmark_cow(&mut self, addr: u64) -> Option<u64>;
@@ -161,6 +162,12 @@ macro_rules! packed_side {
             fn munmap(&mut self, addr: u64, size: u64) -> Option<u64> {
                 let Board { words, fields, bits, root, user, .. } = &mut self.board;
                 met($calls::munmap(words, fields, bits, *root, user, addr, size))
+            }
+
+            fn mprotect(&mut self, addr: u64, size: u64, prot: i32) -> Option<u64> {
+                let $name { board: Board { words, root, user, .. }, start, total, levels, .. } =
+                    self;
+                met($calls::mprotect(words, *start, *total, *levels, *root, user, addr, size, prot))
             }
 
             fn find_free_region(&self, size: u64) -> Option<u64> {
@@ -305,6 +312,11 @@ impl Side for Rust {
 
     fn munmap(&mut self, addr: u64, size: u64) -> Option<u64> {
         mmap::munmap(addr as usize, size as usize).ok().map(|()| 0)
+    }
+
+    /// The original has none: it answers 9.
+    fn mprotect(&mut self, _addr: u64, _size: u64, _prot: i32) -> Option<u64> {
+        None
     }
 
     /// It counts nothing.

@@ -21,18 +21,26 @@ pub enum Profile {
     Faults,
     /// The frame calls beside the release paper's.
     Frames,
+    /// mprotect beside the calls that map pages of regions and take them away.
+    Protections,
     Everything,
 }
 
 impl Profile {
-    pub const ALL: [Profile; 4] =
-        [Profile::Release, Profile::Faults, Profile::Frames, Profile::Everything];
+    pub const ALL: [Profile; 5] = [
+        Profile::Release,
+        Profile::Faults,
+        Profile::Frames,
+        Profile::Protections,
+        Profile::Everything,
+    ];
 
     pub fn name(self) -> &'static str {
         match self {
             Profile::Release => "release",
             Profile::Faults => "faults",
             Profile::Frames => "frames",
+            Profile::Protections => "protections",
             Profile::Everything => "everything",
         }
     }
@@ -47,6 +55,9 @@ impl Profile {
             Profile::Release => &[1, 1, 2, 2, 3, 3, 3, 4, 4],
             Profile::Faults => &[1, 2, 3, 3, 4, 5, 5, 5, 5, 5, 5, 6, 7, 7, 8, 9, 11, 11, 12, 13],
             Profile::Frames => &[1, 2, 3, 4, 14, 14, 15, 15, 16, 17, 20],
+            Profile::Protections => {
+                &[1, 3, 3, 3, 3, 4, 5, 5, 6, 7, 8, 9, 9, 10, 11, 19, 19, 19, 19, 19, 19]
+            }
             Profile::Everything => &[
                 1, 1, 2, 2, 3, 3, 3, 4, 4, 5, 5, 5, 6, 6, 7, 7, 8, 8, 8, 9, 9, 10, 10, 10, 11, 11,
                 12, 13, 14, 15, 16, 17, 18, 19, 20,
@@ -219,7 +230,10 @@ fn draw(p: &mut Picker, kind: u8, mood: Mood) -> Call {
             let size = size(p);
             draw_mmap(p, size)
         }
-        4 => draw_munmap(p),
+        4 => {
+            let (addr, size) = named_region(p);
+            Call::Munmap { addr, size }
+        }
         5 => {
             let (addr, code) = p.fault();
             Call::Fault { addr, code }
@@ -240,7 +254,10 @@ fn draw(p: &mut Picker, kind: u8, mood: Mood) -> Call {
         16 => Call::MarkAllocated { frame: p.frame() },
         17 => Call::IsAllocated { frame: p.frame() },
         18 => Call::IsVmallocAddr { addr: p.address() },
-        19 => Call::Mprotect { addr: p.address(), size: p.size(), prot: p.signed() },
+        19 => {
+            let (addr, size) = named_region(p);
+            Call::Mprotect { addr, size, prot: p.signed() }
+        }
         _ => Call::Counts,
     }
 }
@@ -267,13 +284,13 @@ fn draw_mmap(p: &mut Picker, size: u64) -> Call {
     Call::Mmap { given, addr, size, prot: p.signed(), flags }
 }
 
-/// Mostly a live region with a size that rounds to its own.
-fn draw_munmap(p: &mut Picker) -> Call {
+/// What munmap and mprotect name: mostly a live region with a size that rounds to its own.
+fn named_region(p: &mut Picker) -> (u64, u64) {
     let region = match p.live_region() {
         Some(region) => region,
         None => {
             let unaligned = if p.random.chance(1, 6) { 1 } else { 0 };
-            return Call::Munmap { addr: p.address() & !(PAGE - 1) | unaligned, size: p.size() };
+            return (p.address() & !(PAGE - 1) | unaligned, p.size());
         }
     };
     let addr = if p.random.chance(1, 10) { p.near(region.start) } else { region.start };
@@ -283,7 +300,7 @@ fn draw_munmap(p: &mut Picker) -> Call {
         7 => p.near(region.size),
         _ => p.size(),
     };
-    Call::Munmap { addr, size }
+    (addr, size)
 }
 
 fn draw_huge(p: &mut Picker) -> Call {

@@ -1,7 +1,7 @@
 //! Plays a call tape on the original Rust and prints what the key program would print.
 //! A set of numbers such as 11|13 stands where the Rust does not tell them apart.
 
-use rinux::oracle::domain::{self, Verdict};
+use rinux::oracle::domain::{self, Sequence, Verdict};
 use rinux::oracle::generate::{Generator, Profile};
 use rinux::oracle::{tape, Board, Call};
 use std::io::Read;
@@ -10,7 +10,7 @@ use std::{env, fs, io, process};
 const USAGE: &str = "usage: oracle [--frames N] [--start ADDR] [--state] [--key] TAPE|-
        oracle [--state] [--save FILE] --random SEED PROFILE
   --key: only kinds 1 to 6 are known, as in the key program
-  --random: plays random calls on a random board; profiles: release, faults, frames, everything";
+  --random: plays random calls on a random board; profiles: release, faults, frames, protections, everything";
 
 #[derive(Default)]
 struct Options {
@@ -76,8 +76,9 @@ fn play_tape(options: &Options, bytes: &[u8]) {
     let mut board =
         start_board(start, start.saturating_add(options.frames.unwrap_or(16).saturating_mul(4096)));
     let tape = tape::parse(bytes, if options.key { 6 } else { 20 });
+    let mut sequence = Sequence::default();
     for call in &tape.calls {
-        if !play_call(options, &mut board, call) {
+        if !play_call(options, &mut board, &mut sequence, call) {
             fail("the Rust would access memory outside the board");
         }
     }
@@ -88,8 +89,8 @@ fn play_tape(options: &Options, bytes: &[u8]) {
 }
 
 /// Plays one call and prints its line. False if the call must not be made.
-fn play_call(options: &Options, board: &mut Board, call: &Call) -> bool {
-    let reading = domain::read(&board.state(), call);
+fn play_call(options: &Options, board: &mut Board, sequence: &mut Sequence, call: &Call) -> bool {
+    let reading = sequence.read(&board.state(), call);
     if let Verdict::Outside(reason) = reading.verdict {
         eprintln!("{call}: outside the domain of equality ({reason:?})");
     }
@@ -117,7 +118,7 @@ fn play_random(options: &Options, mut generator: Generator) {
         let call = generator.next(&board.state());
         if domain::read(&board.state(), &call).verdict == Verdict::Inside {
             println!("# {call}");
-            play_call(options, &mut board, &call);
+            play_call(options, &mut board, &mut Sequence::default(), &call);
             calls.push(call);
         }
     }

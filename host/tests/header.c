@@ -75,9 +75,8 @@ static void numbers(void)
     check("tables and indices", is(gadulnos_get_entry(table, 511), 0, 7) && is(gadulnos_get_entry(table, 512), 14, 0)
                                     && indices[0] == 511 && indices[1] == 256 && indices[2] == 0
                                     && indices[3] == 0);
-    check("window, mprotect", gadulnos_is_vmalloc_addr(UINT64_C(0xFFFFFFC000000000))
-                                  && !gadulnos_is_vmalloc_addr(UINT64_C(0xFFFFFFE000000000))
-                                  && is(gadulnos_mprotect(0, 0, -1), 9, 0));
+    check("window", gadulnos_is_vmalloc_addr(UINT64_C(0xFFFFFFC000000000))
+                        && !gadulnos_is_vmalloc_addr(UINT64_C(0xFFFFFFE000000000)));
 }
 
 static void frames(void)
@@ -212,6 +211,18 @@ static void regions(void)
               && is(gadulnos_allocated_frames(RECORD), 0, 9));
     check("the search", is(gadulnos_find_free_region(user, sizeof user, 4096, &compared), 0, mapped + 0x2000)
                             && compared == 1);
+    check("mprotect", is(gadulnos_mprotect(WALK, user, sizeof user, mapped, 4096, 1), 16, 0)
+                          && is(gadulnos_user_may(WALK, mapped, true), 0, 1)
+                          && is(gadulnos_mprotect(WALK, user, sizeof user, mapped, 4097, 1), 0, 0)
+                          && is(gadulnos_user_may(WALK, mapped + 4096, false), 0, 1)
+                          && is(gadulnos_user_may(WALK, mapped + 4096, true), 0, 0) && user[32] == 1
+                          && is(gadulnos_mprotect(WALK, user, sizeof user, mapped, 8192, -1), 0, 0)
+                          && is(gadulnos_user_may(WALK, mapped + 4096, true), 0, 1) && user[35] == 0xFF);
+    check("a refused mprotect", is(gadulnos_mprotect(WALK, user, sizeof user - 1, mapped, 8192, 0), 10, 0)
+                                    && is(gadulnos_mprotect(WALK_FIVE, user, sizeof user, mapped, 0, 0), 1, 0)
+                                    && is(gadulnos_mprotect(WALK, user, sizeof user, mapped + 1, UINT64_MAX, 0), 2, 0)
+                                    && is(gadulnos_mprotect(WALK, user, sizeof user, mapped, UINT64_MAX, 0), 3, 0)
+                                    && is(gadulnos_user_may(WALK, mapped, true), 0, 1) && user[35] == 0xFF);
     check("munmap", is(gadulnos_munmap(MEMORY, RECORD, root, user, sizeof user, mapped, 4096), 16, 0)
                         && is(gadulnos_munmap(MEMORY, RECORD, root, user, sizeof user, mapped, 4097), 0, 0));
 }

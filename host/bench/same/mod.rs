@@ -16,6 +16,7 @@ mod frames;
 mod kernel;
 mod memory;
 mod packed;
+mod protect;
 mod start;
 mod tables;
 mod user;
@@ -29,7 +30,7 @@ pub use frames::{
 pub use kernel::{vfree, vmalloc};
 pub use start::{start, start_levels};
 pub use tables::{map_huge_page, map_page, translate, unmap_page, user_may};
-pub use user::{find_free_region, mmap, munmap};
+pub use user::{find_free_region, mmap, mprotect, munmap};
 pub use working::show_translate;
 
 use gadulnos::{Line, LEVELS, MOST_LEVELS};

@@ -5,7 +5,7 @@ use super::{is_levels, line, Answer, BROKEN, PAGE};
 use gadulnos::{Line, Marks};
 
 pub const PRESENT: u64 = 1;
-const WRITABLE: u64 = 2;
+pub const WRITABLE: u64 = 2;
 const USER: u64 = 4;
 pub const HUGE: u64 = 128;
 pub const ADDR_MASK: u64 = 0x000F_FFFF_FFFF_F000;

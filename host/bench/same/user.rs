@@ -1,8 +1,10 @@
-//! mmap and munmap. The list: its number in word 0, next_addr in word 1, then three words a slot: start,
-//! size, and prot and flags.
+//! mmap, munmap and mprotect. The list: its number in word 0, next_addr in word 1, then three words a slot:
+//! start, size, and prot and flags.
 
 use super::memory::Memory;
 use super::packed::{clear, put, shift, word};
+use super::protect::protect_pages;
+use super::tables::Tables;
 use super::{is_placed, line, rounded, Answer, BROKEN, LAST, PAGE};
 use gadulnos::{Line, Marks};
 
@@ -169,19 +171,65 @@ pub fn munmap(
     }
 }
 
+/// The slot of the region that has this start and, rounded, this size, and the size.
 #[inline]
-fn unmap(mut memory: Memory, list: &mut [u8], n: usize, addr: u64, size: u64) -> Answer {
+fn named(list: &[u8], n: usize, addr: u64, size: u64) -> Result<(usize, u64), u64> {
     if size != 0 && addr % PAGE != 0 {
         return Err(2);
     }
     let size = rounded(size)?;
     let i = find(list, n, addr).map_err(|_| 16u64)?;
-    if word(list, at(i) + 1) != size {
-        return Err(16);
+    match word(list, at(i) + 1) == size {
+        true => Ok((i, size)),
+        false => Err(16),
     }
+}
+
+#[inline]
+fn unmap(mut memory: Memory, list: &mut [u8], n: usize, addr: u64, size: u64) -> Answer {
+    let (i, size) = named(list, n, addr, size)?;
     memory.free_pages(addr, size / PAGE);
     shift(list, at(i + 1), at(n), at(i));
     clear(list, at(n - 1), at(n));
     put(list, 0, n as u64 - 1);
+    Ok(0)
+}
+
+#[inline(never)]
+#[allow(clippy::too_many_arguments)]
+pub fn mprotect(
+    words: &mut [u64],
+    start: u64,
+    total: u64,
+    levels: u64,
+    root: u64,
+    list: &mut [u8],
+    addr: u64,
+    size: u64,
+    prot: i32,
+) -> Line {
+    let tables = Tables { start, total, levels, root };
+    match sound(list) {
+        Some(n) if tables.may_walk(words) => {
+            line(protect(words, &tables, list, n, addr, size, prot))
+        }
+        _ => Line::refused(BROKEN),
+    }
+}
+
+#[inline]
+fn protect(
+    words: &mut [u64],
+    tables: &Tables,
+    list: &mut [u8],
+    n: usize,
+    addr: u64,
+    size: u64,
+    prot: i32,
+) -> Answer {
+    let (i, size) = named(list, n, addr, size)?;
+    protect_pages(words, tables, addr, size / PAGE, prot & PROT_WRITE != 0);
+    let flags = word(list, at(i) + 2) >> 32 << 32;
+    put(list, at(i) + 2, flags | u64::from(prot as u32));
     Ok(0)
 }

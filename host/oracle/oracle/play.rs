@@ -178,6 +178,7 @@ fn number_of(text: &str) -> Numbers {
         "Reserved bit violation" => 5,
         "Instruction fetch from non-executable page" => 7,
         "Protection violation" => 8,
+        // The Rust's own: since document 02 no call of the port answers it.
         "mprotect not yet implemented" => 9,
         "Out of memory" => 11,
         "Page already mapped" => 12,

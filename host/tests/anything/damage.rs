@@ -63,9 +63,10 @@ impl Kind {
 
 /// A change that leaves every record sound.
 fn odd(random: &mut Random, board: &mut Board) {
-    match random.below(12) {
+    match random.below(13) {
         0..=2 => entries(random, board),
         10 | 11 => rights(random, board),
+        12 => looped(random, board),
         3 => marks(random, board),
         4 => {
             let Frames { start_frame, total, .. } = board.frames();
@@ -131,6 +132,25 @@ fn rights(random: &mut Random, board: &mut Board) {
             board.words[place] &= !random.one_of(&[USER, WRITABLE, WRITABLE, USER | WRITABLE]);
         }
     }
+}
+
+/// A way that leads back: the last table of some pages is one of those above them, whose entries are these pages'
+/// own too. A region lies over them.
+fn looped(random: &mut Random, board: &mut Board) {
+    let (frames, root) = (board.frames(), board.root);
+    let virt = walked(random, &board.words, frames, root);
+    let above = 2 + random.below(frames.levels - 1);
+    let places = [2, above].map(|level| place(&board.words, frames, root, virt, level));
+    if let [Some(entry), Some(led_to)] = places {
+        let table = frames.start_frame + led_to as u64 / 512;
+        board.words[entry] = table << 12 | random.one_of(&[3, 7, 0x87]);
+    }
+    let start = (virt & !((1 << 21) - 1)).min(LAST - PAGE);
+    let size = random.one_of(&[20 * PAGE, 1 << 21, 1 << 22, 1 << 30]).min(LAST - start);
+    let region = Region { start, size, prot: random.word() as i32, flags: 0x22 };
+    let mut slots = [Region { start: 0, size: 0, prot: 0, flags: 0 }; SLOTS];
+    slots[0] = region;
+    board.user = User { count: 1, next_addr: USER_WINDOW.0, slots }.pack();
 }
 
 /// The word of an address's entry on a level, if its way leads there.

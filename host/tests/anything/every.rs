@@ -9,6 +9,7 @@ use crate::report::{equal, holds, Checked};
 use crate::table::{Answer, Arg, Row, TABLE};
 use crate::PATIENCE;
 use gadulnos::{Board, Frames, Kernel, Line, Marked, User, SHOWN_NUMBERS};
+use paper::call::Call;
 use paper::generate::Random;
 use paper::{KERNEL_WINDOW, LAST, PAGE, TEMPORARY, USER_WINDOW};
 
@@ -168,6 +169,7 @@ fn call(random: &mut Random, base: &Base, row: &Row) -> Result<(), String> {
     match &lent[..] {
         [(Arg::Words, words), (Arg::Working, out)] => shown(words, out, &args, line),
         [(Arg::Words, words)] if row.name == "gadulnos_user_may" => asked(words, &args, line),
+        [(Arg::WordsMut, words), (Arg::UserMut, list)] => protected(words, list, &args, line),
         _ => Ok(()),
     }
 }
@@ -215,6 +217,24 @@ fn shown(words: &Lent, out: &Lent, args: &[u64; ARGS], line: Line) -> Result<(),
 fn asked(words: &Lent, args: &[u64; ARGS], line: Line) -> Result<(), String> {
     let (mut model, virt) = model(words, args)?;
     equal(line, model.user_may(virt)[args[7] as usize])
+}
+
+/// That an mprotect's answer is the model's, and so are the words and the list that it left. Behind the root stand
+/// the list, the region's start and size, and prot.
+fn protected(words: &Lent, list: &Lent, args: &[u64; ARGS], line: Line) -> Result<(), String> {
+    let (left, before, bytes, from) = match (words, list) {
+        (Lent::Words { memory: left, .. }, Lent::Bytes { before, memory, from, .. }) => {
+            (left, before, memory, *from)
+        }
+        _ => return Err("no words and list".to_string()),
+    };
+    let (mut model, _) = model(words, args)?;
+    model.user = User::unpack(before);
+    let call = Call::Mprotect { addr: args[8], size: args[9], prot: args[10] as i32 };
+    equal(line, model.play(&call))?;
+    holds(left[..] == model.words[..], "the model's words")?;
+    let wanted = model.user.as_ref().map_or_else(|| before.clone(), User::pack);
+    holds(bytes[from..from + before.len()] == wanted[..], "the model's list")
 }
 
 fn is_read(arg: Arg) -> bool {
@@ -286,8 +306,15 @@ fn number(random: &mut Random, base: &Base, arg: Arg) -> u64 {
         Arg::Levels if random.chance(3, 4) => levels,
         Arg::Levels => any_levels(random),
         Arg::Root if random.chance(7, 8) => base.board.root,
+        Arg::RegionStart if random.chance(7, 8) => first_region(base).0,
+        Arg::RegionSize if random.chance(7, 8) => first_region(base).1,
         _ => any_number(random, base),
     }
+}
+
+/// The first mmap region, or what stands in its slot: its start and its size.
+fn first_region(base: &Base) -> (u64, u64) {
+    User::unpack(&base.board.user).map_or((0, 0), |list| (list.slots[0].start, list.slots[0].size))
 }
 
 fn any_number(random: &mut Random, base: &Base) -> u64 {

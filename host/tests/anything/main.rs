@@ -22,6 +22,9 @@ mod model;
 mod options;
 #[path = "../shared/port.rs"]
 mod port;
+mod protect;
+#[path = "../shared/protected.rs"]
+mod protected;
 mod question;
 #[path = "../shared/report.rs"]
 mod report;
@@ -56,6 +59,7 @@ fn main() {
     table::check(&mut report, &seen, options.amount);
     working::check(&mut report, &seen, options.amount);
     question::check(&mut report, &seen, options.amount);
+    protect::check(&mut report, &seen, options.amount);
     worst::check(&mut report);
     report.finish();
 }

@@ -5,6 +5,7 @@ use crate::damage::{walked, Kind};
 use crate::guard::Against;
 use crate::model::Model;
 use crate::port::{self, Port};
+use crate::protect::{self, Events};
 use crate::question;
 use crate::report::{equal, holds};
 use crate::rights::Cases;
@@ -27,6 +28,9 @@ pub struct Seen {
     pub walks: BTreeMap<(u64, u64), u64>,
     pub verdicts: Verdicts,
     pub cases: Cases,
+    /// The same of an mprotect on any numbers, and what was met with on boards.
+    pub protects: BTreeMap<(u64, u64), u64>,
+    pub events: Events,
     /// Calls whose words were compared with the model's, those of them that walk five levels, and releases
     /// in whose midst the model gave up.
     pub compared: u64,
@@ -51,11 +55,11 @@ pub enum Shot {
 /// A walk on other numbers than the record's.
 #[derive(Clone, Copy, Debug)]
 pub struct Walk {
-    start: u64,
-    total: u64,
-    levels: u64,
-    root: u64,
-    virt: u64,
+    pub start: u64,
+    pub total: u64,
+    pub levels: u64,
+    pub root: u64,
+    pub virt: u64,
 }
 
 impl Shot {
@@ -107,16 +111,17 @@ pub fn round(random: &mut Random, kind: Kind, seen: &mut Seen) -> Result<u64, St
         question::on_board(random, &port, seen)?;
         for _ in 0..8 {
             let shot = draw(random, &base, &port);
-            fire(&mut port, &shot, seen).map_err(|why| format!("{}{why}", shot.describe()))?;
+            fire(random, &mut port, &shot, seen)
+                .map_err(|why| format!("{}{why}", shot.describe()))?;
             calls += 1;
         }
     }
     Ok(calls)
 }
 
-/// Mostly calls drawn to what stood before the change, and releases of what is listed now.
+/// Mostly calls drawn to what stood before the change, and releases and protections of what is listed now.
 fn draw(random: &mut Random, base: &Base, port: &Port) -> Shot {
-    match random.below(23) {
+    match random.below(25) {
         0 => Shot::Init(memory(random).0, memory(random).1),
         1 => {
             let (from, to) = memory(random);
@@ -132,6 +137,7 @@ fn draw(random: &mut Random, base: &Base, port: &Port) -> Shot {
         }
         4 | 5 => Shot::Show(working::address(random, port)),
         6..=9 => listed(random, port).map_or_else(|| drawn(random, base), Shot::Call),
+        23 | 24 => protect::listed(random, port).map_or_else(|| drawn(random, base), Shot::Call),
         _ => drawn(random, base),
     }
 }
@@ -190,7 +196,7 @@ fn listed(random: &mut Random, port: &Port) -> Option<Call> {
 }
 
 /// Makes a call and checks it.
-fn fire(port: &mut Port, shot: &Shot, seen: &mut Seen) -> Result<(), String> {
+fn fire(random: &mut Random, port: &mut Port, shot: &Shot, seen: &mut Seen) -> Result<(), String> {
     let before = port::unguarded(port);
     let mut model = Model::of(&before);
     let (line, wanted) = match *shot {
@@ -225,6 +231,9 @@ fn fire(port: &mut Port, shot: &Shot, seen: &mut Seen) -> Result<(), String> {
     seen.walked_five += u64::from(on_five && table::walks(shot.name()) && line.number != 10);
     compare(port, &before, &model)?;
     match *shot {
+        Shot::Call(Call::Mprotect { addr, size, prot }) => {
+            protect::on_board(random, &before, port, (addr, size, prot), line, seen)
+        }
         Shot::Call(call) => ask(port, &mut model, &call, line, seen),
         _ => Ok(()),
     }
@@ -261,7 +270,7 @@ fn search(port: &Port, model: &Model, size: u64) -> Result<(Line, Line), String>
     Ok((line, wanted.map_or_else(Line::refused, Line::met)))
 }
 
-/// translate and its working, the user question and unmap_page on any numbers.
+/// translate and its working, the user question, mprotect and unmap_page on any numbers.
 fn walk(port: &mut Port, mut model: Model, lent: Walk, seen: &mut Seen) -> Result<(), String> {
     let Walk { start, total, levels, root, virt } = lent;
     let frames = Frames { start_frame: start, total, allocated: 0, levels };
@@ -273,9 +282,10 @@ fn walk(port: &mut Port, mut model: Model, lent: Walk, seen: &mut Seen) -> Resul
     equal(line, wanted)?;
     let known = if (LEVELS..=MOST_LEVELS).contains(&levels) { levels } else { 0 };
     *seen.walks.entry((known, line.number)).or_default() += 1;
-    let line = gadulnos::unmap_page(words, start, total, levels, root, virt);
+    protect::on_numbers(port, &mut model, lent, seen)?;
+    let line = gadulnos::unmap_page(&mut port.words, start, total, levels, root, virt);
     equal(line, model.play(&Call::UnmapPage { virt }))?;
-    holds(words[..] == model.words[..], "the model's words")
+    holds(port.words[..] == model.words[..], "the model's words")
 }
 
 /// Whether each part has its length: the words may have any, and the bitmap has it by its type.

@@ -1,17 +1,19 @@
-//! Releases of the largest regions there can be, over tables that make them as long as they can be, on four
-//! and on five levels: they end, and in a time that does not follow the pages of the region.
+//! Releases and protections of the largest regions there can be, over tables that make them as long as they can
+//! be, on four and on five levels: they end, and in a time that does not follow the pages of the region.
 
 use crate::guard::{self, Against};
+use crate::model::Model;
 use crate::port;
 use crate::report::{equal, holds, Report};
 use gadulnos::{Board, Kernel, Line, Region, User, LEVELS, MOST_LEVELS};
+use paper::call::Call;
 use paper::{LAST, PAGE};
 use std::time::Instant;
 
 /// The number of frames of a large board.
 const LARGE: u64 = 8192;
 
-/// The longest that a release may take, in seconds.
+/// The longest that a check may take, in seconds.
 const PATIENCE: u32 = 60;
 
 /// A way to fill a table of each level: what stands at an index of each, the root first. The last has the
@@ -53,11 +55,25 @@ pub fn check(report: &mut Report) {
                 let name = format!("{name}, from {start:x} to the end");
                 timed(report, levels, &name, || release(levels, tables, start));
             }
+            protections(report, levels, name, small(levels, tables), &REGIONS);
         }
         let name = "8192 tables, each reached in many ways";
         timed(report, levels, name, || release_all(levels));
+        protections(report, levels, name, large(levels, by_levels), &REGIONS[..1]);
+        let name = "8192 tables, each of them one of every level";
+        protections(report, levels, name, large(levels, mixed), &REGIONS[..1]);
     }
 }
+
+/// Regions to protect: from a page or from the midst of tables up to the end; some whose pages come round, on four
+/// levels and on five, and one that does not.
+const REGIONS: [(u64, u64); 5] = [
+    (PAGE, LAST - PAGE),
+    (0x1234_5678_9000, LAST - 0x1234_5678_9000),
+    (0xFFFF_1234_5000, 1 << 47),
+    (0x01FF_FFF1_2345_6000, 1 << 56),
+    (0xFFFF_FFC0_0000_0000, 1 << 37),
+];
 
 /// Every entry of a table leads to the one of the level below.
 fn wide(levels: u64, i: usize) -> Vec<u64> {
@@ -82,14 +98,20 @@ fn fresh(frames: u64, levels: u64) -> Result<Board, String> {
     Ok(board)
 }
 
-/// vfree and munmap of a region from `start` up to the last page.
-fn release(levels: u64, tables: Tables, start: u64) -> Result<(), String> {
+/// A board of few frames, a table of each level.
+fn small(levels: u64, tables: Tables) -> Result<Board, String> {
     let mut board = fresh(8, levels)?;
     for i in 0..512 {
         for (table, word) in tables(levels, i).into_iter().enumerate() {
             board.words[table * 512 + i] = word;
         }
     }
+    Ok(board)
+}
+
+/// vfree and munmap of a region from `start` up to the last page.
+fn release(levels: u64, tables: Tables, start: u64) -> Result<(), String> {
+    let mut board = small(levels, tables)?;
     let size = LAST - start;
     record(&mut board, start, size)?;
     if start != 0 {
@@ -114,23 +136,75 @@ fn record(board: &mut Board, start: u64, size: u64) -> Result<(), String> {
     Ok(())
 }
 
-/// The largest board, every frame of it a table full of present entries: a root, then as many frames on
-/// each level below it.
-fn release_all(levels: u64) -> Result<(), String> {
+/// The largest board, every frame of it a table full of present entries: what stands at an index of a frame.
+fn large(levels: u64, word: fn(u64, u64, u64) -> u64) -> Result<Board, String> {
     let mut board = fresh(LARGE, levels)?;
-    let share = (LARGE - 1) / (levels - 1);
     for frame in 0..LARGE {
-        let depth = if frame == 0 { 0 } else { 1 + (frame - 1) / share };
         for i in 0..512 {
-            let next = 1 + depth * share + (frame * 512 + i) * 7919 % share;
-            let word = if depth < levels - 1 { to(next) } else { OUTSIDE };
-            board.words[(frame * 512 + i) as usize] = word;
+            board.words[(frame * 512 + i) as usize] = word(levels, frame, i);
         }
     }
+    Ok(board)
+}
+
+/// A root, then as many frames on each level below it.
+fn by_levels(levels: u64, frame: u64, i: u64) -> u64 {
+    let share = (LARGE - 1) / (levels - 1);
+    let depth = if frame == 0 { 0 } else { 1 + (frame - 1) / share };
+    let next = 1 + depth * share + (frame * 512 + i) * 7919 % share;
+    match depth < levels - 1 {
+        true => to(next),
+        false => OUTSIDE,
+    }
+}
+
+/// Every frame leads to others, wherever it stands.
+fn mixed(_levels: u64, frame: u64, i: u64) -> u64 {
+    to((frame * 512 + i) * 7919 % LARGE)
+}
+
+fn release_all(levels: u64) -> Result<(), String> {
+    let mut board = large(levels, by_levels)?;
     record(&mut board, PAGE, LAST - PAGE)?;
     let mut port = port::guarded(&board, Against::Behind);
     equal(port.munmap(PAGE, LAST - PAGE), Line::met(0))?;
     nothing_left(&port, PAGE)
+}
+
+/// A check of mprotects on a board, with the time that the longest took.
+fn protections(
+    report: &mut Report,
+    levels: u64,
+    name: &str,
+    board: Result<Board, String>,
+    regions: &[(u64, u64)],
+) {
+    guard::within(PATIENCE);
+    let mut longest = 0.0;
+    let result = board.and_then(|board| {
+        regions.iter().try_for_each(|region| protect(&board, *region, &mut longest))
+    });
+    let name = format!("worst: {levels} levels, mprotect, {name} ({longest:.3} s)");
+    report.check(&name, result);
+}
+
+/// Takes WRITABLE away and gives it back. Words and list are the model's, which finds the entries level by level.
+fn protect(board: &Board, (start, size): (u64, u64), longest: &mut f64) -> Result<(), String> {
+    let mut port = port::guarded(board, Against::Behind);
+    let mut user = User::unpack(&port.user).ok_or("no list")?;
+    user.count = 1;
+    user.slots[0] = Region { start, size, prot: 0, flags: 7 };
+    port.user.copy_from_slice(&user.pack());
+    let mut model = Model::of(&port);
+    for prot in [i32::MIN, -1] {
+        let begun = Instant::now();
+        let line = port.mprotect(start, size, prot);
+        *longest = longest.max(begun.elapsed().as_secs_f64());
+        equal(line, Line::met(0))?;
+        equal(line, model.play(&Call::Mprotect { addr: start, size, prot }))?;
+        model.compare(&port)?;
+    }
+    Ok(())
 }
 
 /// No page of the region translates. One that is larger than all that the indices tell apart has every

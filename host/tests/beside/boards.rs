@@ -36,10 +36,11 @@ pub enum Kind {
 }
 
 impl Kind {
-    pub const ALL: [Kind; 13] = [
+    pub const ALL: [Kind; 14] = [
         Kind::Fresh(Profile::Release),
         Kind::Fresh(Profile::Faults),
         Kind::Fresh(Profile::Frames),
+        Kind::Fresh(Profile::Protections),
         Kind::Fresh(Profile::Everything),
         Kind::Near,
         Kind::FewFree,
@@ -71,11 +72,11 @@ impl Kind {
     /// How many of ten thousand sequences are of this kind.
     fn share(self) -> u64 {
         match self {
-            Kind::Fresh(Profile::Frames) => 800,
+            Kind::Fresh(Profile::Frames | Profile::Protections) => 800,
             Kind::Fresh(_) => 2000,
             Kind::Near => 1400,
             Kind::FewFree | Kind::Crowded => 180,
-            Kind::Far => 150,
+            Kind::Far => 200,
             Kind::Copies => 300,
             Kind::Churn => 12,
             Kind::Mapper => 800,
@@ -134,6 +135,8 @@ pub struct Setting {
     /// A seed for what the port's records hold before the start.
     pub rubbish: u64,
     pub against: Against,
+    /// Whether an mprotect is made, from which on the sequence is outside the domain; else it is passed over.
+    pub protects: bool,
 }
 
 /// A setting of a kind, the source of its calls, and how many to draw.
@@ -146,9 +149,10 @@ pub fn settle(random: &mut Random, kind: Kind) -> Result<(Setting, Source, usize
     });
     let mut board = board.map_err(|why| format!("{memory:x?}: {why:?}"))?;
     let mut length = generator.length();
+    let protects = kind == Kind::Fresh(Profile::Protections) || random.chance(1, 4);
     let mut calls = Vec::new();
     let near = match kind {
-        Kind::Far => Some(far(random, &mut generator, &mut board, &mut calls)),
+        Kind::Far => Some(far(random, &mut generator, &mut board, &mut calls, protects)),
         Kind::Near => Some(near(&mut generator, &mut board, length / 3)),
         Kind::MapperNear => Some(near(&mut generator, &mut board, 0)),
         Kind::FewFree => Some(few_free(random, &board)),
@@ -173,7 +177,8 @@ pub fn settle(random: &mut Random, kind: Kind) -> Result<(Setting, Source, usize
         _ => Source::Paper(generator),
     };
     let against = random.one_of(&[Against::Before, Against::Behind]);
-    Ok((Setting { memory, words, near, rubbish: random.word(), against }, source, length))
+    let rubbish = random.word();
+    Ok((Setting { memory, words, near, rubbish, against, protects }, source, length))
 }
 
 fn generator_and_memory(random: &mut Random, kind: Kind) -> (Generator, (u64, u64)) {
@@ -260,12 +265,13 @@ fn few_free(random: &mut Random, board: &Board) -> (Vec<u64>, Parts) {
 }
 
 /// Regions of 2^21 to 2^30 bytes put over what some calls led to, one of each list, and the calls that
-/// release them. Few of their pages are mapped.
+/// release them, with an mprotect before them if asked for. Few of their pages are mapped.
 fn far(
     random: &mut Random,
     generator: &mut Generator,
     board: &mut Board,
-    releases: &mut Vec<Call>,
+    calls: &mut Vec<Call>,
+    protects: bool,
 ) -> (Vec<u64>, Parts) {
     play(generator, board, 12);
     let mut parts = parts_of(&board.state());
@@ -274,13 +280,17 @@ fn far(
     parts.regions.retain(|region| region.start != user.start);
     parts.regions.push(user);
     parts.regions.sort_by_key(|region| region.start);
-    releases.push(Call::Munmap { addr: user.start, size: user.size });
+    calls.push(Call::Munmap { addr: user.start, size: user.size });
     let start = random.one_of(&[KERNEL_WINDOW.0, KERNEL_WINDOW.0 + 4 * PAGE, user.start]);
     let kernel = Slot { start, size: far_size(random), used: true };
     parts.slots.retain(|slot| slot.start != kernel.start);
     let at = random.below(parts.slots.len().min(200) as u64 + 1) as usize;
     parts.slots.insert(at, kernel);
-    releases.push(Call::Vfree { addr: kernel.start });
+    calls.push(Call::Vfree { addr: kernel.start });
+    if protects {
+        let prot = random.one_of(&[0, 1, 3, -1]);
+        calls.push(Call::Mprotect { addr: user.start, size: user.size, prot });
+    }
     (board.words().to_vec(), parts)
 }
 

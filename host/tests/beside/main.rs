@@ -1,22 +1,28 @@
 //! The port beside the original Rust: sequences of calls inside document 01's domain of equality,
 //! played on both. After every call the answer, both lists, the bitmap, the counter, the marked pages
-//! and every word of the lent frames are compared.
+//! and every word of the lent frames are compared. An mprotect, which the Rust has not, ends the domain: from
+//! it on the model stands in the Rust's place.
 //!
 //! Prints `ok NAME` or `FAILED NAME: why` for each kind of board and ends with the two counts. Where a
 //! sequence differs, the shortest one found is printed.
 //!
 //! Usage: beside [--seed S] [--sequences N] [--from I]
 
+mod behind;
 mod boards;
 mod churn;
 mod draw;
 #[path = "../shared/guard.rs"]
 mod guard;
+#[path = "../shared/model/mod.rs"]
+mod model;
 #[path = "../shared/options.rs"]
 mod options;
 mod play;
 #[path = "../shared/port.rs"]
 mod port;
+#[path = "../shared/protected.rs"]
+mod protected;
 mod rare;
 #[path = "../shared/report.rs"]
 mod report;
@@ -81,7 +87,7 @@ fn run(
     progress: &mut Progress,
 ) -> Checked {
     let mut played = 0;
-    let outside_before = seen::outside(seen);
+    let before = (seen::inside(seen), seen::outside(seen));
     for i in options.from..options.from + kind.sequences(options.amount) {
         guard::at(format!("beside: {}, sequence {i}", kind.name()));
         let calls = play::sequence(&mut options.nth(stream, i), kind, seen)
@@ -89,8 +95,9 @@ fn run(
         progress.add(calls);
         played += calls;
     }
-    let percent = played * 100 / (played + seen::outside(seen) - outside_before).max(1);
-    println!("  {percent} of 100 calls inside the domain");
+    let (inside, outside) = (seen::inside(seen) - before.0, seen::outside(seen) - before.1);
+    let percent = inside * 100 / (inside + outside).max(1);
+    println!("  {percent} of 100 calls inside the domain, {} behind an mprotect", played - inside);
     let least = if options.amount < seen::ENOUGH { 0 } else { kind.least_inside() };
     let enough = format!("{least} of 100 calls inside the domain, not {percent}");
     report::holds(percent >= least, &enough)?;

@@ -1,5 +1,6 @@
 //! Plays a sequence on both and compares after every call.
 
+use crate::behind;
 use crate::boards::{self, Kind, Setting};
 use crate::port::{self, Port};
 use crate::rare::{self, leaf};
@@ -7,7 +8,7 @@ use crate::report::{equal, holds, Checked};
 use crate::rights::Case;
 use gadulnos::{Line, LEVELS};
 use paper::call::Call;
-use paper::domain::{self, Verdict};
+use paper::domain::{self, Reason, Verdict};
 use paper::generate::Random;
 use paper::minimise;
 use paper::state::State;
@@ -33,7 +34,7 @@ pub fn sequence(random: &mut Random, kind: Kind, seen: &mut Seen) -> Checked {
             if setting.near.is_some() { " and a state near one that calls lead to" } else { "" };
         print!("{near}:\n{}", minimise::describe(&short));
         let why_short = replay(&setting, &short).err();
-        println!("the Rust and the port: {}", why_short.unwrap_or_default());
+        println!("the Rust, or the model, and the port: {}", why_short.unwrap_or_default());
         return Err(why);
     }
     Ok(calls.len() as u64)
@@ -45,7 +46,8 @@ fn replay(setting: &Setting, calls: &[Call]) -> Result<(), String> {
 }
 
 /// Plays the calls that `next` draws on both, passing over those outside the domain, and
-/// gives those played, the last being the one that differs.
+/// gives those played, the last being the one that differs. From an mprotect on, if it is made,
+/// the model stands in the Rust's place.
 fn play(
     setting: &Setting,
     seen: &mut Seen,
@@ -59,9 +61,17 @@ fn play(
     let mut huge = false;
     while let Some(call) = next(&board.state()) {
         let reading = domain::read(&board.state(), &call);
-        if let Verdict::Outside(reason) = reading.verdict {
-            count(seen, &format!("outside: {reason:?}"));
-            continue;
+        match reading.verdict {
+            Verdict::Outside(Reason::Mprotect) if setting.protects => {
+                drop(board);
+                let end = behind::play(&mut port, call, &mut calls, seen, next);
+                return (calls, end);
+            }
+            Verdict::Outside(reason) => {
+                count(seen, &format!("outside: {reason:?}"));
+                continue;
+            }
+            Verdict::Inside | Verdict::Edge => {}
         }
         calls.push(call);
         if huge {
@@ -75,7 +85,7 @@ fn play(
     (calls, Ok(()))
 }
 
-fn count(seen: &mut Seen, what: &str) {
+pub fn count(seen: &mut Seen, what: &str) {
     *seen.entry(what.to_string()).or_default() += 1;
 }
 
@@ -136,7 +146,7 @@ fn play_one(
 
 /// The questions beside a call: of the address that it names whether user code may read or write there, which
 /// the Rust does not have, and the three counts.
-fn ask(state: &State, port: &Port, call: &Call, seen: &mut Seen) -> Result<(), String> {
+pub fn ask(state: &State, port: &Port, call: &Call, seen: &mut Seen) -> Result<(), String> {
     if let Some(virt) = rare::walked(call) {
         question(state, port, virt, seen)?;
     }

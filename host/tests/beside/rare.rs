@@ -79,6 +79,10 @@ fn of_lists(state: &State, call: &Call) -> Vec<String> {
             let region = state.regions.iter().find(|region| region.start == addr);
             names.extend(far("munmap", state, region.map(|region| region.size)));
         }
+        Call::Mprotect { addr, .. } => {
+            let region = state.regions.iter().find(|region| region.start == addr);
+            names.extend(far("mprotect", state, region.map(|region| region.size)));
+        }
         Call::MarkCow { .. } if state.marked.len() == SLOTS - 1 => {
             names.push("mark_cow at 255 pages".to_string());
         }
@@ -87,7 +91,7 @@ fn of_lists(state: &State, call: &Call) -> Vec<String> {
     names
 }
 
-/// A release of a region far larger than the board, and one of 2^29 bytes or more.
+/// A release or an mprotect of a region far larger than the board, and of one of 2^29 bytes or more.
 fn far(name: &str, state: &State, size: Option<u64>) -> Vec<String> {
     let size = size.unwrap_or(0);
     let names = [
@@ -103,7 +107,8 @@ pub fn walked(call: &Call) -> Option<u64> {
     match *call {
         Call::MapPage { virt, .. } | Call::UnmapPage { virt } => Some(virt),
         Call::MapHugePage { virt, .. } => Some(virt),
-        Call::Munmap { addr, .. } | Call::Translate { addr } => Some(addr),
+        Call::Munmap { addr, .. } | Call::Mprotect { addr, .. } => Some(addr),
+        Call::Translate { addr } => Some(addr),
         Call::Fault { addr, .. } | Call::SecondFault { addr, .. } => Some(addr),
         Call::Mmap { given: true, addr, .. } => Some(addr),
         _ => None,

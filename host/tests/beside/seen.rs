@@ -9,8 +9,8 @@ pub const ENOUGH: u64 = 3000;
 /// An answer, and how often it must come in 6000 sequences.
 type Least = (u32, u64);
 
-/// Every answer to every call, those to the questions beside them included.
-const ANSWERS: [(&str, &[Least]); 24] = [
+/// Every answer of the Rust to every call, and to the questions beside them.
+const ANSWERS: [(&str, &[Least]); 23] = [
     ("vmalloc ", &[(0, 6000), (1, 90), (11, 5000), (13, 250), (15, 400)]),
     ("vmalloc by foresight alone, ", &[(11, 5000), (13, 90)]),
     ("vfree ", &[(0, 1800), (16, 4000)]),
@@ -36,7 +36,6 @@ const ANSWERS: [(&str, &[Least]); 24] = [
     ("mark_allocated ", &[(0, 1100)]),
     ("is_allocated ", &[(0, 1100)]),
     ("is_vmalloc_addr ", &[(0, 600)]),
-    ("mprotect ", &[(9, 600)]),
     ("counts ", &[(0, 1200)]),
 ];
 
@@ -70,6 +69,36 @@ const EVENTS: [(&str, &[Least]); 25] = [
     ("munmap of 2^30 bytes, ", &[(0, 5)]),
 ];
 
+/// Of an mprotect and of calls behind it, which were played beside the model, each answer and event.
+const BEHIND: [(&str, &[Least]); 21] = [
+    ("mprotect ", &[(0, 900), (1, 40), (2, 180), (3, 20), (16, 900)]),
+    ("mprotect with Set, ", &[(0, 200)]),
+    ("mprotect with Cleared, ", &[(0, 200)]),
+    ("mprotect with NotFound, ", &[(0, 140)]),
+    ("mprotect of a far larger region, ", &[(0, 9)]),
+    ("mprotect with NoProtection, ", &[(0, 130)]),
+    ("mprotect with NegativeWrite, ", &[(0, 60)]),
+    ("mprotect with NegativeRead, ", &[(0, 60)]),
+    ("behind an mprotect, vmalloc ", &[(0, 200), (11, 250), (13, 25)]),
+    ("behind an mprotect, vfree ", &[(0, 50)]),
+    ("behind an mprotect, mmap ", &[(0, 350), (11, 450), (13, 130), (15, 150)]),
+    ("behind an mprotect, munmap ", &[(0, 180), (16, 200)]),
+    ("behind an mprotect, fault ", &[(0, 90), (11, 150), (17, 40), (18, 90)]),
+    ("behind an mprotect, second_fault ", &[(0, 110), (11, 90), (17, 110)]),
+    ("behind an mprotect, translate ", &[(0, 120), (14, 300)]),
+    ("behind an mprotect, map_page ", &[(0, 200), (12, 140)]),
+    ("behind an mprotect, unmap_page ", &[(0, 190), (14, 450)]),
+    ("behind an mprotect, map_huge_page ", &[(0, 200), (12, 140)]),
+    ("behind an mprotect, mark_cow ", &[(0, 400)]),
+    ("behind an mprotect, deallocate_frame ", &[(0, 70)]),
+    ("behind an mprotect, allocate_frame ", &[(0, 40)]),
+];
+
+/// How many calls were played beside the Rust.
+pub fn inside(seen: &Seen) -> u64 {
+    seen.get("inside").copied().unwrap_or(0)
+}
+
 /// How many calls were passed over.
 pub fn outside(seen: &Seen) -> u64 {
     seen.iter().filter(|(what, _)| what.starts_with("outside: ")).map(|(_, times)| times).sum()
@@ -83,6 +112,8 @@ pub fn check(report: &mut Report, seen: &Seen, sequences: u64) {
         let often = |wanted: &[(&str, &[Least])]| often(seen, wanted, sequences);
         report.check("beside: every answer of the Rust often enough", often(&ANSWERS));
         report.check("beside: every event often enough", often(&EVENTS));
+        let behind = often(&BEHIND);
+        report.check("beside: mprotect, and calls behind it, often enough", behind);
     }
 }
 

@@ -1,6 +1,7 @@
 //! The compiled calls on numbers and on the frame record, and mmap's search, beside the original Rust, on
 //! limits and on random inputs; the walks on tables made by hand, of four and of five levels, and their
-//! working; examples on boards of five levels. All that is lent to them stands between guard pages.
+//! working; examples on boards of five levels and of mprotect. All that is lent to them stands between guard
+//! pages.
 //!
 //! Prints `ok NAME` or `FAILED NAME: why` for each check and ends with the two counts.
 //! Where a sequence of calls differs, the shortest one found is printed.
@@ -22,6 +23,7 @@ mod options;
 mod papers;
 #[path = "../shared/port.rs"]
 mod port;
+mod protect;
 mod question;
 mod reader;
 #[path = "../shared/report.rs"]
@@ -50,6 +52,7 @@ fn main() {
     working::check(&mut report, &options);
     question::check(&mut report, &options);
     five::check(&mut report);
+    protect::check(&mut report, &options);
     differences::check(&mut report);
     papers::check(&mut report);
     search::check(&mut report, &options);

@@ -1,16 +1,18 @@
 //! The papers of examples/: each line is a call with its key, played on a fresh board through the C functions, the
-//! model beside; the last lines are the words that the calls left. A failure names file and line.
+//! model beside; the last lines are the words and the mmap regions that the calls left. A failure names file and
+//! line.
 
 use crate::example::{Example, FROM};
 use crate::report::{equal, equal_at, holds, Checked, Report};
-use gadulnos::{Frames, Line};
+use gadulnos::{Frames, Line, Region, User};
 use paper::call::Call;
 use paper::PAGE;
 use std::collections::BTreeSet;
 
-const PAPERS: [(&str, &str); 2] = [
+const PAPERS: [(&str, &str); 3] = [
     ("examples/user-page.txt", include_str!("../../../examples/user-page.txt")),
     ("examples/user-page-five.txt", include_str!("../../../examples/user-page-five.txt")),
+    ("examples/mprotect.txt", include_str!("../../../examples/mprotect.txt")),
 ];
 
 pub fn check(report: &mut Report) {
@@ -41,10 +43,11 @@ fn play(file: &str, text: &str) -> Checked {
     Ok(lines(text).count() as u64)
 }
 
-/// A board in the midst of a paper, and which of its words were told, by frame and index.
+/// A board in the midst of a paper, which of its words were told, by frame and index, and which of its regions.
 struct Paper {
     board: Example,
     told: BTreeSet<(u64, u64)>,
+    regions: Vec<Region>,
 }
 
 impl Paper {
@@ -56,14 +59,18 @@ impl Paper {
         };
         equal(number(from)?, FROM)?;
         let board = Example::fresh(number(levels)?, number(frames)?)?;
-        Ok(Paper { board, told: BTreeSet::new() })
+        Ok(Paper { board, told: BTreeSet::new(), regions: Vec::new() })
     }
 
-    /// A call and its key, or a word.
+    /// A call and its key, a word or a region.
     fn line(&mut self, line: &str) -> Result<(), String> {
         let parts: Vec<&str> = line.split_whitespace().collect();
         match parts[..] {
             ["word", place, "=", word] => self.word(place, number(word)?),
+            ["region", start, "size", size, "prot", prot, "flags", flags] => {
+                let (start, size) = (number(start)?, number(size)?);
+                self.region(Region { start, size, prot: signed(prot)?, flags: signed(flags)? })
+            }
             [ref call @ .., "=", value] => self.call(call, Line::met(number(value)?)),
             [ref call @ .., "refused", why] => self.call(call, Line::refused(number(why)?)),
             _ => Err("no key".to_string()),
@@ -78,9 +85,10 @@ impl Paper {
             ["map_page", virt, phys, ref flags @ ..] => {
                 Call::MapPage { virt: number(virt)?, phys: number(phys)?, flags: bits(flags)? }
             }
+            ["unmap_page", virt] => Call::UnmapPage { virt: number(virt)? },
             ["translate", virt] => Call::Translate { addr: number(virt)? },
             ["allocated_frames"] => Call::Counts,
-            _ => return Err("no such call".to_string()),
+            _ => region_call(call)?,
         };
         self.board.play(&[(call, key.number, key.value)])
     }
@@ -101,19 +109,53 @@ impl Paper {
         self.board.words(&[(frame, index, word)])
     }
 
-    /// That every word that is not 0 was told.
+    /// That a region is listed behind those told before it.
+    fn region(&mut self, region: Region) -> Result<(), String> {
+        let listed = self.listed()?.get(self.regions.len()).copied();
+        self.regions.push(region);
+        equal(listed, Some(region))
+    }
+
+    fn listed(&self) -> Result<Vec<Region>, String> {
+        let list = User::unpack(&self.board.port.user).ok_or("no list")?;
+        Ok(list.slots[..list.count as usize].to_vec())
+    }
+
+    /// That every word that is not 0 was told, and every region.
     fn all_told(&self) -> Result<(), String> {
         let places = (0..).map(|i| (FROM / PAGE + i / 512, i % 512));
         let mut words = places.zip(&self.board.port.words[..]);
         let untold = words.find(|(place, word)| **word != 0 && !self.told.contains(place));
-        equal_at("words that no line tells", untold, None)
+        equal_at("words that no line tells", untold, None)?;
+        equal_at("the regions", self.listed()?, self.regions.clone())
     }
+}
+
+/// A call on mmap's regions.
+fn region_call(call: &[&str]) -> Result<Call, String> {
+    Ok(match *call {
+        ["mmap", size, "prot", prot, "flags", flags] => {
+            let (prot, flags) = (signed(prot)?, signed(flags)?);
+            Call::Mmap { given: false, addr: 0, size: number(size)?, prot, flags }
+        }
+        ["mprotect", addr, size, "prot", prot] => {
+            Call::Mprotect { addr: number(addr)?, size: number(size)?, prot: signed(prot)? }
+        }
+        ["munmap", addr, size] => Call::Munmap { addr: number(addr)?, size: number(size)? },
+        _ => return Err("no such call".to_string()),
+    })
 }
 
 fn number(text: &str) -> Result<u64, String> {
     let digits = text.strip_prefix("0x");
     let number = digits.map_or_else(|| text.parse(), |digits| u64::from_str_radix(digits, 16));
     number.map_err(|_| format!("`{text}` is no number"))
+}
+
+/// A signed number of 32 bits, in decimal or by its bits in hexadecimal.
+fn signed(text: &str) -> Result<i32, String> {
+    let bits = || u32::try_from(number(text)?).map_err(|_| format!("`{text}` is too large"));
+    text.parse().or_else(|_| bits().map(|bits| bits as i32))
 }
 
 /// The flags of a map call.
@@ -127,13 +169,14 @@ fn bits(flags: &[&str]) -> Result<u8, String> {
     }
 }
 
-/// That a paper fails, and says where, if a line has another key or another first word, or tells a word no more.
+/// That a paper fails, and says where, if a line has another key or another first word, or tells a word or a region
+/// no more.
 fn changed(file: &str, text: &str) -> Checked {
     let mut cases = 0;
     for (at, line) in lines(text) {
         let (here, somewhere) = (format!("{file}:{at}: "), format!("{file}: "));
         let mut others = vec![(format!("{line}1"), &here), (format!("x{line}"), &here)];
-        if line.starts_with("word") {
+        if line.starts_with("word") || line.starts_with("region") {
             others.push((String::new(), &somewhere));
         }
         for (other, place) in others {

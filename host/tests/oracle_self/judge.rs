@@ -3,7 +3,7 @@
 use crate::checked::rinux::oracle::{Board, Call};
 use crate::checked::run::{board, fixed, hint, mmap};
 use crate::report::{equal, holds, Check, Report};
-use paper::domain::{read, Reason, Verdict};
+use paper::domain::{read, Reason, Sequence, Verdict};
 use paper::state::{Region, State};
 use paper::{LAST, PAGE, TEMPORARY};
 
@@ -11,7 +11,7 @@ const FIRST: u64 = 0x100;
 const USER: u64 = 0x1000_0000_0000;
 
 pub fn check(report: &mut Report) {
-    let checks: [Check; 9] = [
+    let checks: [Check; 10] = [
         ("domain: sums", sums),
         ("domain: limits", limits),
         ("domain: broken records", broken),
@@ -21,6 +21,7 @@ pub fn check(report: &mut Report) {
         ("domain: a free frame as table", free_table),
         ("domain: copies", copies),
         ("domain: the page copied from the lowest free frame", copy_from_free),
+        ("domain: an mprotect ends it, met or refused", ended),
     ];
     for (name, run) in checks {
         report.check(name, run());
@@ -234,4 +235,25 @@ fn copy_from_free() -> Result<(), String> {
     prepare(&mut board, &[Call::DeallocateFrame { frame: FIRST + 1 }])?;
     judge(&board, &[(Call::Fault { addr: USER, code: 3 }, Verdict::Outside(Reason::Copy))])?;
     equal(board.state().is_marked(FIRST + 1), false)
+}
+
+/// The Rust may be given it, and answers 9. Every call behind it is outside, and a call that was so before for another
+/// reason still is for that one. A sequence that makes none stays inside.
+fn ended() -> Result<(), String> {
+    let mut board = board(16)?;
+    prepare(&mut board, &[mmap(PAGE)])?;
+    let outside = Verdict::Outside(Reason::Mprotect);
+    for (addr, size) in [(USER, PAGE), (USER, 0), (USER + 1, PAGE), (0, LAST + 1)] {
+        let call = Call::Mprotect { addr, size, prot: 1 };
+        let reading = read(&board.state(), &call);
+        equal((reading.verdict, reading.safe), (outside, true))?;
+        let mut sequence = Sequence::default();
+        let mut judged = |call: &Call| sequence.read(&board.state(), call).verdict;
+        equal(judged(&Call::Translate { addr: USER }), Verdict::Inside)?;
+        equal(judged(&call), outside)?;
+        equal(judged(&Call::Translate { addr: USER }), outside)?;
+        equal(judged(&Call::Vmalloc { size: LAST + 1 }), SUM)?;
+        equal(judged(&Call::Counts), outside)?;
+    }
+    judge(&board, &[(Call::Translate { addr: USER }, Verdict::Inside)])
 }

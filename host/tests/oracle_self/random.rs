@@ -183,7 +183,7 @@ fn all_seen(seen: &Seen) -> Result<(), String> {
             holds(seen.contains_key(&what), &what)?;
         }
     }
-    for reason in ["Sum", "Limit", "OffBoard", "FreeTable", "Copy"] {
+    for reason in ["Sum", "Limit", "OffBoard", "FreeTable", "Copy", "Mprotect"] {
         holds(seen.contains_key(&format!("Outside({reason})")), reason)?;
     }
     Ok(())

@@ -105,7 +105,7 @@ pub fn play(port: &mut Port, call: &Call) -> Line {
         Call::MarkAllocated { frame } => port.mark_allocated(frame),
         Call::IsAllocated { frame } => port.is_allocated(frame),
         Call::IsVmallocAddr { addr } => Line::met(gadulnos::is_vmalloc_addr(addr).into()),
-        Call::Mprotect { addr, size, prot } => gadulnos::mprotect(addr, size, prot),
+        Call::Mprotect { addr, size, prot } => port.mprotect(addr, size, prot),
         Call::Counts => port.allocated_frames(),
     }
 }

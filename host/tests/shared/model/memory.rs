@@ -136,13 +136,30 @@ impl Memory<'_> {
     }
 
     pub fn unmap(&mut self, virt: u64) -> Answer {
-        let at = self.descend(virt, LAST_LEVEL, None)?;
+        let at = self.mapped(virt)?;
         let leaf = self.words[at];
-        if leaf & PRESENT == 0 {
-            return Err(14);
-        }
         self.words[at] = 0;
         Ok(frame_of(leaf))
+    }
+
+    /// The word of a page's entry, if the page is mapped.
+    pub fn mapped(&mut self, virt: u64) -> Result<usize, u64> {
+        let at = self.descend(virt, LAST_LEVEL, None)?;
+        self.is_present(at).then_some(at).ok_or(14)
+    }
+
+    pub fn is_present(&self, at: usize) -> bool {
+        self.words[at] & PRESENT != 0
+    }
+
+    /// The lent frame that a present entry names.
+    pub fn led_to(&self, at: usize) -> Option<usize> {
+        self.lent(frame_of(self.words[at])).filter(|_| self.is_present(at))
+    }
+
+    /// WRITABLE as it is asked for, every other bit of the word as it stands.
+    pub fn make_writable(&mut self, at: usize, writable: bool) {
+        self.words[at] = self.words[at] & !WRITABLE | if writable { WRITABLE } else { 0 };
     }
 
     pub fn translate(&self, virt: u64) -> Answer {

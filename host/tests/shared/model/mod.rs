@@ -1,12 +1,13 @@
 //! Document 01, written a second time and in the plainest way, on copies of what is lent, for boards of
 //! four and of five levels: the frame record has their number. It knows also what lies outside the domain
-//! of equality: 10, 19, 20 and the leftovers, and of document 02 the working of a translation and the rule of
-//! the user question.
+//! of equality: 10, 19, 20 and the leftovers, and of document 02 the working of a translation, the rule of
+//! the user question and mprotect.
 
 #![allow(dead_code)] // no program uses all of it
 
 mod faults;
 mod memory;
+mod protect;
 mod regions;
 mod working;
 
@@ -114,7 +115,7 @@ impl Model {
             Call::IsVmallocAddr { addr } => {
                 Ok((KERNEL_WINDOW.0..KERNEL_WINDOW.1).contains(&addr).into())
             }
-            Call::Mprotect { .. } => Err(9),
+            Call::Mprotect { addr, size, prot } => self.mprotect(addr, size, prot),
             _ => self.on_frames(call),
         }
     }

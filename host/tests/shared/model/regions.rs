@@ -9,7 +9,7 @@ use paper::{LAST, PAGE, USER_WINDOW};
 pub const NO_SLOT: Slot = Slot { start: 0, size: 0, used: false };
 pub const NO_REGION: Region = Region { start: 0, size: 0, prot: 0, flags: 0 };
 
-const PROT_WRITE: i32 = 2;
+pub const PROT_WRITE: i32 = 2;
 const MAP_FIXED: i32 = 0x10;
 
 impl Model {
@@ -69,7 +69,7 @@ impl Model {
     }
 
     /// The mmap list alone.
-    fn sound_list(&self) -> Result<(Vec<Region>, u64), u64> {
+    pub fn sound_list(&self) -> Result<(Vec<Region>, u64), u64> {
         let user = self.user.as_ref().ok_or(BROKEN)?;
         let count = usize::try_from(user.count).ok().filter(|&n| n <= SLOTS).ok_or(BROKEN)?;
         let listed = &user.slots[..count];
@@ -94,7 +94,7 @@ impl Model {
     }
 
     /// 'a removal zeroes the slot that falls past the count'; the others past it stay.
-    fn store_user(&mut self, list: &[Region], next_addr: u64) {
+    pub fn store_user(&mut self, list: &[Region], next_addr: u64) {
         let user = self.user.as_mut().expect("a sound list");
         let count = user.count as usize;
         user.slots[list.len().min(count)..count].fill(NO_REGION);
@@ -133,17 +133,21 @@ impl Model {
 
     pub fn munmap(&mut self, addr: u64, size: u64) -> Answer {
         let (mut list, next_addr) = self.sound_user()?;
-        if size != 0 && !is_multiple(addr, PAGE) {
-            return Err(2);
-        }
-        let size = rounded(size)?;
-        let known = |region: &Region| region.start == addr && region.size == size;
-        let i = list.iter().position(known).ok_or(16u64)?;
-        self.gave_up |= !self.change(|memory| memory.release(addr, size / PAGE));
-        list.remove(i);
+        let i = named(&list, addr, size)?;
+        let pages = list.remove(i).size / PAGE;
+        self.gave_up |= !self.change(|memory| memory.release(addr, pages));
         self.store_user(&list, next_addr);
         Ok(0)
     }
+}
+
+/// The region that has this start and, rounded, this size: '1, 2, 3, 16'.
+pub fn named(list: &[Region], addr: u64, size: u64) -> Result<usize, u64> {
+    if size != 0 && !is_multiple(addr, PAGE) {
+        return Err(2);
+    }
+    let size = rounded(size)?;
+    list.iter().position(|region| region.start == addr && region.size == size).ok_or(16)
 }
 
 /// A size in whole pages: 1 for 0, 3 above 2^64 - 4096.
