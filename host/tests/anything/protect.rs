@@ -17,7 +17,7 @@ use std::collections::BTreeMap;
 pub type Events = BTreeMap<(u64, Event), u64>;
 
 /// Each event comes at least so often on boards of four levels, and of five.
-const LEAST: u64 = 10;
+const LEAST: u64 = 3;
 
 /// An mprotect of a listed region, if there is one, mostly with a size that rounds to its own.
 pub fn listed(random: &mut Random, port: &Port) -> Option<Call> {

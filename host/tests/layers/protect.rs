@@ -10,6 +10,7 @@ use gadulnos::{Board, Frames, Line, Region, User, LEVELS, MOST_LEVELS, SLOTS};
 use paper::call::Call;
 use paper::generate::Random;
 use paper::{LAST, PAGE, USER_WINDOW};
+use std::collections::BTreeSet;
 
 const READ: i32 = 1;
 const WRITE: i32 = 2;
@@ -26,7 +27,7 @@ const NEITHER: [u64; 2] = [0, 0];
 type Run = fn(u64) -> Result<(), String>;
 
 pub fn check(report: &mut Report, options: &Options) {
-    let checks: [(&str, Run); 14] = [
+    let checks: [(&str, Run); 15] = [
         ("read and write, read, none, read and write", there_and_back),
         ("the order of checks", order),
         ("what is lent: no counter, but list, levels and root", lent),
@@ -37,6 +38,7 @@ pub fn check(report: &mut Report, options: &Options) {
         ("HUGE on the last level but one is not looked at", below_huge),
         ("an entry on the way that is the page's own too", own_table),
         ("a table that two regions have", shared_table),
+        ("regions of lengths around powers of two", lengths),
         ("pages that come round", come_round),
         ("a region of nearly 2^64 bytes", whole_space),
         ("copy-on-write pages stay marked", marked_pages),
@@ -299,6 +301,31 @@ fn shared_table(levels: u64) -> Result<(), String> {
     board.words(&[(table, 0, 0x10_1007), (table, 2, (table + 2) << 12 | 5)])?;
     board.may(START, BOTH)?;
     board.may(START + 2 * PAGE, READS)
+}
+
+/// From the midst of a table on: the first page and the last are the region's, their neighbours are not.
+fn lengths(levels: u64) -> Result<(), String> {
+    let start = START + 0x12_3000;
+    for power in [1, 5, 8, 9, 10, 13, 14, 16, 18, 27] {
+        let powers = [-1, 0, 1].map(|more| ((1i64 << power) + more) as u64);
+        for pages in powers {
+            let last = start + (pages - 1) * PAGE;
+            let mut board = Example::fresh(levels, 2 * FRAMES)?;
+            let mapped = BTreeSet::from([start - PAGE, start, last, last + PAGE]);
+            for virt in mapped {
+                board.play(&[(map(virt, 0x20_0000), 0, 0)])?;
+            }
+            lend_region(&mut board, start, pages * PAGE);
+            for (prot, may) in [(READ, READS), (WRITE, BOTH), (0, READS)] {
+                board.play(&[(protect(start, pages * PAGE, prot), 0, 0)])?;
+                let wanted = [(start, may), (last, may), (start - PAGE, BOTH), (last + PAGE, BOTH)];
+                for (virt, may) in wanted {
+                    board.may(virt, may).map_err(|why| format!("{pages} pages: {why}"))?;
+                }
+            }
+        }
+    }
+    Ok(())
 }
 
 /// The last page that the indices tell apart, and the one behind it, which has index 0 on every level.
