@@ -161,10 +161,15 @@ impl Draw {
         }
     }
 
-    /// One more region of a list that is being filled, at times with a gap before it.
+    /// One more region of a list that is being filled, at times with a gap before it. Where next_addr has left the
+    /// search's window, which then finds nothing, an address within it is given.
     fn next_mmap(&mut self, state: &State) -> Call {
-        let addr = state.next_addr + self.random.below(3) * PAGE;
-        let given = self.random.chance(1, 3);
+        let out = state.next_addr >= USER_WINDOW.1;
+        let addr = match out {
+            true => USER_WINDOW.0 + self.random.below(1 << 30) * PAGE,
+            false => state.next_addr + self.random.below(3) * PAGE,
+        };
+        let given = out || self.random.chance(1, 3);
         let flags = self.random.one_of(&[0x22, 0x32]);
         Call::Mmap { given, addr, size: self.few_pages(), prot: self.signed(), flags }
     }
