@@ -57,6 +57,23 @@ struct gadulnos_line {
     uint64_t value;
 };
 
+/* What was found of a frame that is given back: the value of gadulnos_deallocate_frame. */
+enum gadulnos_finding {
+    GADULNOS_FREED = 0,        /* it was marked, and is free now */
+    GADULNOS_ALREADY_FREE = 1, /* it is on the board and was not marked; nothing changes */
+    GADULNOS_NOT_HERE = 2      /* it is below start_frame, or at index total or above; nothing changes */
+};
+
+/* The answer of a call that gives frames back: document 01's number, 0 if the call was met, and how many frames
+ * it found so, one for each page that it unmapped, the temporary page of a copy aside. A refused call has none.
+ * 32 bytes, which the C compiler has written to memory of the caller's. */
+struct gadulnos_found {
+    uint64_t number;
+    uint64_t freed;
+    uint64_t already_free;
+    uint64_t not_here;
+};
+
 /* What a translation makes of an entry that it reads (gadulnos_show_translate). */
 enum gadulnos_verdict {
     GADULNOS_ABSENT = 0,     /* PRESENT is clear: 14 */
@@ -130,6 +147,7 @@ struct gadulnos_line gadulnos_mark_allocated(uint8_t *fields, size_t fields_len,
 /* The number of the lowest free frame, which is marked; 11 if there is none. */
 struct gadulnos_line gadulnos_allocate_frame(uint8_t *fields, size_t fields_len,
                                              uint8_t bits[GADULNOS_BITS_BYTES]);
+/* Frees a frame. Its value is a gadulnos_finding. */
 struct gadulnos_line gadulnos_deallocate_frame(uint8_t *fields, size_t fields_len,
                                                uint8_t bits[GADULNOS_BITS_BYTES], uint64_t frame);
 struct gadulnos_line gadulnos_free_frames(const uint8_t *fields, size_t fields_len,
@@ -179,19 +197,20 @@ struct gadulnos_line gadulnos_unmap_page(uint64_t *words, size_t words_len, uint
 struct gadulnos_line gadulnos_vmalloc(uint64_t *words, size_t words_len, uint8_t *fields, size_t fields_len,
                                       uint8_t bits[GADULNOS_BITS_BYTES], uint64_t root, uint8_t *kernel,
                                       size_t kernel_len, uint64_t size);
-/* 16 for an address that is 0 or starts no used region. */
-struct gadulnos_line gadulnos_vfree(uint64_t *words, size_t words_len, uint8_t *fields, size_t fields_len,
-                                    uint8_t bits[GADULNOS_BITS_BYTES], uint64_t root, uint8_t *kernel,
-                                    size_t kernel_len, uint64_t addr);
+/* What was found of the frames of its pages; pages that gadulnos_unmap_page does not find are passed over. 16 for
+ * an address that is 0 or starts no used region. */
+struct gadulnos_found gadulnos_vfree(uint64_t *words, size_t words_len, uint8_t *fields, size_t fields_len,
+                                     uint8_t bits[GADULNOS_BITS_BYTES], uint64_t root, uint8_t *kernel,
+                                     size_t kernel_len, uint64_t addr);
 /* The new region's address; 1, 3, 2, 3, 15, 20 in this order, then 11, 13. `addr` counts if `given`. */
 struct gadulnos_line gadulnos_mmap(uint64_t *words, size_t words_len, uint8_t *fields, size_t fields_len,
                                    uint8_t bits[GADULNOS_BITS_BYTES], uint64_t root, uint8_t *user,
                                    size_t user_len, bool given, uint64_t addr, uint64_t size, int32_t prot,
                                    int32_t flags);
-/* 1, 2, 3, 16 in this order. */
-struct gadulnos_line gadulnos_munmap(uint64_t *words, size_t words_len, uint8_t *fields, size_t fields_len,
-                                     uint8_t bits[GADULNOS_BITS_BYTES], uint64_t root, uint8_t *user,
-                                     size_t user_len, uint64_t addr, uint64_t size);
+/* What was found of the frames of its pages, as of gadulnos_vfree; 1, 2, 3, 16 in this order. */
+struct gadulnos_found gadulnos_munmap(uint64_t *words, size_t words_len, uint8_t *fields, size_t fields_len,
+                                      uint8_t bits[GADULNOS_BITS_BYTES], uint64_t root, uint8_t *user,
+                                      size_t user_len, uint64_t addr, uint64_t size);
 /* Another protection for the region at `addr` whose size `size` rounds to; 1, 2, 3, 16 in this order. On each
  * page of it that gadulnos_unmap_page would find, WRITABLE (bit 1) of the last entry becomes PROT_WRITE (bit 1)
  * of `prot`, which is stored with the region. Nothing else changes: no frame, no translated address. It is lent
@@ -211,11 +230,12 @@ struct gadulnos_line gadulnos_mark_cow(uint8_t *marked, size_t marked_len, uint6
 struct gadulnos_line gadulnos_unmark_cow(uint8_t *marked, size_t marked_len, uint64_t addr);
 /* 1 if the page of `addr` is marked, else 0. */
 struct gadulnos_line gadulnos_is_cow(const uint8_t *marked, size_t marked_len, uint64_t addr);
-/* The first path (page_fault.rs): 5, 6, 7, 8, 11, 17, 18. */
-struct gadulnos_line gadulnos_handle_page_fault(uint64_t *words, size_t words_len, uint8_t *fields,
-                                                size_t fields_len, uint8_t bits[GADULNOS_BITS_BYTES],
-                                                uint64_t root, uint8_t *marked, size_t marked_len,
-                                                uint64_t addr, uint64_t code);
+/* The first path (page_fault.rs): 5, 6, 7, 8, 11, 17, 18. Of a copy what was found of the page's old frame, one
+ * in all, or none where the remapping unmapped no page; of a demand page none. */
+struct gadulnos_found gadulnos_handle_page_fault(uint64_t *words, size_t words_len, uint8_t *fields,
+                                                 size_t fields_len, uint8_t bits[GADULNOS_BITS_BYTES],
+                                                 uint64_t root, uint8_t *marked, size_t marked_len,
+                                                 uint64_t addr, uint64_t code);
 /* The second path (page_handler.rs): 5, 7, 8, 11, 17, 19. */
 struct gadulnos_line gadulnos_handle_page_fault_second(uint64_t *words, size_t words_len, uint8_t *fields,
                                                        size_t fields_len, uint8_t bits[GADULNOS_BITS_BYTES],

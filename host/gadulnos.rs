@@ -5,9 +5,12 @@
 //! changes nothing but the leftovers listed there; parts that stand for no sound record are answered
 //! with 10 and stay as they are.
 
+#[path = "gadulnos/found.rs"]
+mod found;
 #[path = "gadulnos/working.rs"]
 mod working;
 
+pub use found::{Finding, Found};
 use std::ops::DerefMut;
 pub use working::{Row, Shown, Verdict, SHOWN_NUMBERS};
 
@@ -135,6 +138,7 @@ functions! {
     fn mark_allocated = gadulnos_mark_allocated(fields: &mut [u8], bits: &mut Marks, frame: u64) -> Line;
     /// The number of the lowest free frame, which is marked.
     fn allocate_frame = gadulnos_allocate_frame(fields: &mut [u8], bits: &mut Marks) -> Line;
+    /// Frees a frame; its value says what was found of it (`Finding`).
     fn deallocate_frame = gadulnos_deallocate_frame(fields: &mut [u8], bits: &mut Marks, frame: u64) -> Line;
     fn free_frames = gadulnos_free_frames(fields: &[u8], bits: &Marks) -> Line;
     fn allocated_frames = gadulnos_allocated_frames(fields: &[u8], bits: &Marks) -> Line;
@@ -179,17 +183,19 @@ functions! {
     fn vmalloc = gadulnos_vmalloc(
         words: &mut [u64], fields: &mut [u8], bits: &mut Marks, root: u64, kernel: &mut [u8], size: u64
     ) -> Line;
+    /// What was found of the frames of the region's pages.
     fn vfree = gadulnos_vfree(
         words: &mut [u64], fields: &mut [u8], bits: &mut Marks, root: u64, kernel: &mut [u8], addr: u64
-    ) -> Line;
+    ) -> Found;
     /// The new region's address. `addr` counts if it is `given`.
     fn mmap = gadulnos_mmap(
         words: &mut [u64], fields: &mut [u8], bits: &mut Marks, root: u64, user: &mut [u8],
         given: bool, addr: u64, size: u64, prot: i32, flags: i32
     ) -> Line;
+    /// What was found of the frames of the region's pages.
     fn munmap = gadulnos_munmap(
         words: &mut [u64], fields: &mut [u8], bits: &mut Marks, root: u64, user: &mut [u8], addr: u64, size: u64
-    ) -> Line;
+    ) -> Found;
     /// Another protection for a region: WRITABLE follows PROT_WRITE on each of its pages that `unmap_page` would
     /// find, and `prot` is stored. Lent as the walks are, with the list.
     fn mprotect = gadulnos_mprotect(
@@ -203,10 +209,11 @@ functions! {
     fn unmark_cow = gadulnos_unmark_cow(marked: &mut [u8], addr: u64) -> Line;
     /// Whether the page of `addr` is marked copy-on-write: 1 or 0.
     fn is_cow = gadulnos_is_cow(marked: &[u8], addr: u64) -> Line;
-    /// The first fault path (page_fault.rs).
+    /// The first fault path (page_fault.rs): of a copy what was found of the page's old frame, none where the
+    /// remapping unmapped no page; of a demand page none.
     fn handle_page_fault = gadulnos_handle_page_fault(
         words: &mut [u64], fields: &mut [u8], bits: &mut Marks, root: u64, marked: &mut [u8], addr: u64, code: u64
-    ) -> Line;
+    ) -> Found;
     /// The second fault path (page_handler.rs).
     fn handle_page_fault_second = gadulnos_handle_page_fault_second(
         words: &mut [u64], fields: &mut [u8], bits: &mut Marks, root: u64, addr: u64, code: u64
@@ -389,6 +396,7 @@ impl Marked {
 }
 
 /// All that the calls are lent. The parts may stand in vectors and a box or in memory of the host's own.
+#[derive(Clone)]
 pub struct Board<W = Vec<u64>, B = Vec<u8>, M = Box<Marks>> {
     /// Frame number n sits at word (n - start_frame) * 512.
     pub words: W,
@@ -517,7 +525,7 @@ where
         vmalloc(words, fields, bits, *root, kernel, size)
     }
 
-    pub fn vfree(&mut self, addr: u64) -> Line {
+    pub fn vfree(&mut self, addr: u64) -> Found {
         let Board { words, fields, bits, root, kernel, .. } = self;
         vfree(words, fields, bits, *root, kernel, addr)
     }
@@ -528,7 +536,7 @@ where
         mmap(words, fields, bits, *root, user, given, addr, size, prot, flags)
     }
 
-    pub fn munmap(&mut self, addr: u64, size: u64) -> Line {
+    pub fn munmap(&mut self, addr: u64, size: u64) -> Found {
         let Board { words, fields, bits, root, user, .. } = self;
         munmap(words, fields, bits, *root, user, addr, size)
     }
@@ -558,7 +566,7 @@ where
         is_cow(&self.marked, addr)
     }
 
-    pub fn handle_page_fault(&mut self, addr: u64, code: u64) -> Line {
+    pub fn handle_page_fault(&mut self, addr: u64, code: u64) -> Found {
         let Board { words, fields, bits, root, marked, .. } = self;
         handle_page_fault(words, fields, bits, *root, marked, addr, code)
     }

@@ -5,7 +5,8 @@
 use crate::same;
 use crate::trio::{alike, state};
 use gadulnos::{
-    Board, Frames, Kernel, Line, Marked, Region, Slot, User, LEVELS, MOST_LEVELS, SHOWN_NUMBERS,
+    Board, Found, Frames, Kernel, Line, Marked, Region, Slot, User, LEVELS, MOST_LEVELS,
+    SHOWN_NUMBERS,
 };
 use paper::call::{user, writable, Call};
 use paper::generate::{Generator, Parts, Profile, Random};
@@ -13,24 +14,38 @@ use paper::{KERNEL_WINDOW, PAGE, USER_WINDOW};
 
 const SEQUENCES: u64 = 1500;
 
+/// A number and a value, or a number and what was found of frames.
+type Told = [u64; 4];
+
+fn line(line: Line) -> Told {
+    [line.number, line.value, 0, 0]
+}
+
+fn found(found: Found) -> Told {
+    [found.number, found.freed, found.already_free, found.not_here]
+}
+
 /// The answers of a call, and of the counts all three.
 macro_rules! player {
     ($name:ident, $calls:ident) => {
-        pub fn $name(board: &mut Board, call: &Call) -> [Line; 3] {
+        pub fn $name(board: &mut Board, call: &Call) -> [Told; 3] {
             let Frames { start_frame: first, total, levels, .. } = board.frames();
             let Board { words, fields, bits, root, kernel, user: list, marked } = board;
             let root = *root;
             let one = match *call {
-                Call::Vmalloc { size } => $calls::vmalloc(words, fields, bits, root, kernel, size),
-                Call::Vfree { addr } => $calls::vfree(words, fields, bits, root, kernel, addr),
-                Call::Mmap { given, addr, size, prot, flags } => {
-                    $calls::mmap(words, fields, bits, root, list, given, addr, size, prot, flags)
+                Call::Vfree { addr } => {
+                    return [found($calls::vfree(words, fields, bits, root, kernel, addr)); 3]
                 }
                 Call::Munmap { addr, size } => {
-                    $calls::munmap(words, fields, bits, root, list, addr, size)
+                    return [found($calls::munmap(words, fields, bits, root, list, addr, size)); 3]
                 }
                 Call::Fault { addr, code } => {
-                    $calls::handle_page_fault(words, fields, bits, root, marked, addr, code)
+                    let (list, call) = (marked, $calls::handle_page_fault);
+                    return [found(call(words, fields, bits, root, list, addr, code)); 3];
+                }
+                Call::Vmalloc { size } => $calls::vmalloc(words, fields, bits, root, kernel, size),
+                Call::Mmap { given, addr, size, prot, flags } => {
+                    $calls::mmap(words, fields, bits, root, list, given, addr, size, prot, flags)
                 }
                 Call::SecondFault { addr, code } => {
                     $calls::handle_page_fault_second(words, fields, bits, root, addr, code)
@@ -62,6 +77,7 @@ macro_rules! player {
                         $calls::allocated_frames(fields, bits),
                         $calls::total_frames(fields, bits),
                     ]
+                    .map(line)
                 }
                 Call::Mprotect { addr, size, prot } => {
                     $calls::mprotect(words, first, total, levels, root, list, addr, size, prot)
@@ -69,7 +85,7 @@ macro_rules! player {
                 // On numbers alone: no row has it.
                 Call::IsVmallocAddr { .. } => Line::met(0),
             };
-            [one; 3]
+            [line(one); 3]
         }
     };
 }

@@ -153,15 +153,18 @@ fn turn(board: &mut Board, tape: &[u8]) -> Option<(Line, usize)> {
     let root = *root;
     Some(match tape.first()? {
         1 => (same::vmalloc(words, fields, bits, root, kernel, word(1)?), 9),
-        2 => (same::vfree(words, fields, bits, root, kernel, word(1)?), 9),
+        2 => (same::vfree(words, fields, bits, root, kernel, word(1)?).line(), 9),
         3 => {
             let given = *tape.get(1).filter(|given| **given < 2)? == 1;
             let (addr, size, prot, flags) = (word(2)?, word(10)?, half(18)?, half(22)?);
             let line = same::mmap(words, fields, bits, root, user, given, addr, size, prot, flags);
             (line, 26)
         }
-        4 => (same::munmap(words, fields, bits, root, user, word(1)?, word(9)?), 17),
-        5 => (same::handle_page_fault(words, fields, bits, root, marked, word(1)?, word(9)?), 17),
+        4 => (same::munmap(words, fields, bits, root, user, word(1)?, word(9)?).line(), 17),
+        5 => {
+            let (addr, code) = (word(1)?, word(9)?);
+            (same::handle_page_fault(words, fields, bits, root, marked, addr, code).line(), 17)
+        }
         6 => (same::translate(words, start_frame, total, levels, root, word(1)?), 9),
         _ => return None,
     })

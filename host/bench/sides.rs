@@ -2,7 +2,7 @@
 //! written once, over `Side`. The Rust has boards of four levels alone.
 
 use crate::same;
-use gadulnos::{Board, Frames, Line, Marked, LEVELS, SHOWN_NUMBERS};
+use gadulnos::{Board, Found, Frames, Line, Marked, LEVELS, SHOWN_NUMBERS};
 use paper::state::Region;
 use rinux::paging::{HugePageSize, PageMapper, PhysAddr, VirtAddr};
 use rinux::{frame, mmap, oracle, page_fault, page_handler, vmalloc};
@@ -52,6 +52,11 @@ fn lowest(marked: u64) -> [u64; 128] {
 /// A line's value, if the call was met.
 fn met(line: Line) -> Option<u64> {
     (line.number == 0).then_some(line.value)
+}
+
+/// A met call that gave frames back has no value; what it found is not passed over.
+fn gave(found: Found) -> Option<u64> {
+    met(black_box(found).line())
 }
 
 /// What a translation's working is written to, in the middle of a page: the words' tables begin near the
@@ -151,7 +156,7 @@ macro_rules! packed_side {
 
             fn vfree(&mut self, addr: u64) -> Option<u64> {
                 let Board { words, fields, bits, root, kernel, .. } = &mut self.board;
-                met($calls::vfree(words, fields, bits, *root, kernel, addr))
+                gave($calls::vfree(words, fields, bits, *root, kernel, addr))
             }
 
             fn mmap(&mut self, size: u64) -> Option<u64> {
@@ -161,7 +166,7 @@ macro_rules! packed_side {
 
             fn munmap(&mut self, addr: u64, size: u64) -> Option<u64> {
                 let Board { words, fields, bits, root, user, .. } = &mut self.board;
-                met($calls::munmap(words, fields, bits, *root, user, addr, size))
+                gave($calls::munmap(words, fields, bits, *root, user, addr, size))
             }
 
             fn mprotect(&mut self, addr: u64, size: u64, prot: i32) -> Option<u64> {
@@ -191,7 +196,7 @@ macro_rules! packed_side {
 
             fn fault(&mut self, addr: u64, code: u64) -> Option<u64> {
                 let Board { words, fields, bits, root, marked, .. } = &mut self.board;
-                met($calls::handle_page_fault(words, fields, bits, *root, marked, addr, code))
+                gave($calls::handle_page_fault(words, fields, bits, *root, marked, addr, code))
             }
 
             fn second_fault(&mut self, addr: u64, code: u64) -> Option<u64> {

@@ -35,6 +35,13 @@ static bool is(struct gadulnos_line line, uint64_t number, uint64_t value)
     return line.number == number && line.value == value;
 }
 
+static bool found(struct gadulnos_found answer, uint64_t number, uint64_t freed, uint64_t already_free,
+                  uint64_t not_here)
+{
+    return answer.number == number && answer.freed == freed && answer.already_free == already_free
+           && answer.not_here == not_here;
+}
+
 static bool start(void)
 {
     memset(words, 0xFF, sizeof words);
@@ -87,9 +94,15 @@ static void frames(void)
                                  && is(gadulnos_allocated_frames(RECORD), 0, 0));
     check("frames", is(gadulnos_allocate_frame(RECORD), 0, 1) && is(gadulnos_mark_allocated(RECORD, 2), 0, 0)
                         && is(gadulnos_allocate_frame(RECORD), 11, 0)
-                        && is(gadulnos_deallocate_frame(RECORD, 1), 0, 0)
+                        && is(gadulnos_deallocate_frame(RECORD, 1), 0, GADULNOS_FREED)
                         && is(gadulnos_is_allocated(RECORD, 1), 0, 0)
                         && is(gadulnos_is_allocated(RECORD, 2), 0, 1));
+    check("what is found of a frame", is(gadulnos_deallocate_frame(RECORD, 2), 0, GADULNOS_FREED)
+                                          && is(gadulnos_deallocate_frame(RECORD, 2), 0, GADULNOS_ALREADY_FREE)
+                                          && is(gadulnos_deallocate_frame(RECORD, 0), 0, GADULNOS_NOT_HERE)
+                                          && is(gadulnos_deallocate_frame(RECORD, 3), 0, GADULNOS_NOT_HERE)
+                                          && is(gadulnos_allocated_frames(RECORD), 0, 0)
+                                          && is(gadulnos_deallocate_frame(fields, 24, bits, 1), 10, 0));
     check("a part one byte short", is(gadulnos_allocate_frame(fields, sizeof fields - 1, bits), 10, 0));
 }
 
@@ -206,7 +219,7 @@ static void regions(void)
     check("the worked example",
           start() && is(gadulnos_vmalloc(MEMORY, RECORD, root, kernel, sizeof kernel, 1), 0, window)
               && is(gadulnos_translate(WALK, window + 0x10), 0, 0x101010)
-              && is(gadulnos_vfree(MEMORY, RECORD, root, kernel, sizeof kernel, window), 0, 0)
+              && found(gadulnos_vfree(MEMORY, RECORD, root, kernel, sizeof kernel, window), 0, 1, 0, 0)
               && is(gadulnos_mmap(MEMORY, RECORD, root, user, sizeof user, false, 0, 5000, 2, 0), 0, mapped)
               && is(gadulnos_allocated_frames(RECORD), 0, 9));
     check("the search", is(gadulnos_find_free_region(user, sizeof user, 4096, &compared), 0, mapped + 0x2000)
@@ -223,17 +236,46 @@ static void regions(void)
                                     && is(gadulnos_mprotect(WALK, user, sizeof user, mapped + 1, UINT64_MAX, 0), 2, 0)
                                     && is(gadulnos_mprotect(WALK, user, sizeof user, mapped, UINT64_MAX, 0), 3, 0)
                                     && is(gadulnos_user_may(WALK, mapped, true), 0, 1) && user[35] == 0xFF);
-    check("munmap", is(gadulnos_munmap(MEMORY, RECORD, root, user, sizeof user, mapped, 4096), 16, 0)
-                        && is(gadulnos_munmap(MEMORY, RECORD, root, user, sizeof user, mapped, 4097), 0, 0));
+    check("munmap", found(gadulnos_munmap(MEMORY, RECORD, root, user, sizeof user, mapped, 4096), 16, 0, 0, 0)
+                        && found(gadulnos_munmap(MEMORY, RECORD, root, user, sizeof user, mapped, 4097), 0, 2, 0, 0));
+}
+
+/* A region of five pages of which the second's frame is free already, the third names a frame off the board, the
+ * fourth is not mapped, and the fifth has the first's frame. */
+static void given_back(void)
+{
+    const uint64_t mapped = UINT64_C(0x100000000000);
+    uint64_t frame[2];
+    int i;
+
+    check("a region of five pages",
+          sizeof(struct gadulnos_found) == 32 && start()
+              && is(gadulnos_mmap(MEMORY, RECORD, root, user, sizeof user, false, 0, 20480, 2, 0), 0, mapped));
+    for (i = 0; i < 2; i++)
+        frame[i] = gadulnos_translate(WALK, mapped + 4096 * i).value >> 12;
+    check("its pages changed",
+          is(gadulnos_deallocate_frame(RECORD, frame[1]), 0, GADULNOS_FREED)
+              && gadulnos_unmap_page(WALK, mapped + 8192).number == 0
+              && is(gadulnos_map_page(MEMORY, RECORD, root, mapped + 8192, 0x110000, true, true), 0, 0)
+              && gadulnos_unmap_page(WALK, mapped + 12288).number == 0
+              && gadulnos_unmap_page(WALK, mapped + 16384).number == 0
+              && is(gadulnos_map_page(MEMORY, RECORD, root, mapped + 16384, frame[0] << 12, true, true), 0, 0));
+    check("what is found of them",
+          found(gadulnos_munmap(MEMORY, RECORD, root, user, sizeof user, mapped, 20480), 0, 1, 2, 1)
+              && found(gadulnos_munmap(MEMORY, RECORD, root, user, sizeof user, mapped, 20480), 16, 0, 0, 0)
+              && found(gadulnos_vfree(MEMORY, RECORD, root, kernel, sizeof kernel, mapped), 16, 0, 0, 0)
+              && found(gadulnos_vfree(MEMORY, fields, 24, bits, root, kernel, sizeof kernel, mapped), 10, 0, 0, 0));
 }
 
 static void faults(void)
 {
-    check("fault", start() && is(gadulnos_handle_page_fault(MEMORY, RECORD, root, marked, sizeof marked, 0x5123, 4), 0, 0)
+    check("fault", start() && found(gadulnos_handle_page_fault(MEMORY, RECORD, root, marked, sizeof marked, 0x5123, 4), 0, 0, 0, 0)
                        && is(gadulnos_translate(WALK, 0x5000), 0, 0x101000));
     check("copy", is(gadulnos_mark_cow(marked, sizeof marked, 0x5FFF), 0, 0)
                       && is(gadulnos_is_cow(marked, sizeof marked, 0x5000), 0, 1)
-                      && is(gadulnos_handle_page_fault(MEMORY, RECORD, root, marked, sizeof marked, 0x5123, 7), 0, 0)
+                      && found(gadulnos_handle_page_fault(MEMORY, RECORD, root, marked, sizeof marked, 0x5123, 7), 0, 1, 0, 0)
+                      && is(gadulnos_is_allocated(RECORD, 0x101), 0, 0)
+                      && found(gadulnos_handle_page_fault(MEMORY, RECORD, root, marked, sizeof marked, 0x5123, 7), 17, 0, 0, 0)
                       && is(gadulnos_is_cow(marked, sizeof marked, 0x5000), 0, 0)
                       && is(gadulnos_user_may(WALK, 0x5000, true), 0, 1));
     check("unmark", is(gadulnos_mark_cow(marked, sizeof marked, 0x6000), 0, 0)
@@ -253,6 +295,7 @@ int main(void)
     user_question();
     five_levels();
     regions();
+    given_back();
     faults();
     printf("%d passed, %d failed\n", passed, failed);
     return failed > 0;

@@ -9,7 +9,7 @@ use native.Mathlib.Omega.{arith}
 use lib.ListN.{length, getD, set, take, length-set, length-take}
 use Rattle.bits.proofs.Choice.{pick-cases}
 use Rattle.answer.specs.Numbers.{pageTableError}
-use Rattle.answer.specs.Outcomes.{asAnswer}
+use Rattle.answer.specs.Outcomes.{asAnswer, andThen}
 use Rattle.answer.specs.declared.Answer.the-variants.{Met, Refused}
 use Rattle.address.specs.declared.Frame.{Frame}
 use Rattle.address.specs.declared.PhysAddr.{PhysAddr}
@@ -20,7 +20,9 @@ use Rattle.entry.specs.Entry.{entryOf, indices}
 use Rattle.entry.proofs.Entry.{length-indices}
 use Rattle.frame.specs.declared.Allocated.{Allocated}
 use Rattle.frame.specs.declared.Changed.{Changed}
+use Rattle.frame.specs.declared.Tally.{Tally}
 use Rattle.frame.specs.Frames.{frames, FramesDid, inside, withMark, takeFrame}
+use Rattle.frame.specs.Found.{noneFound}
 use Rattle.frame.specs.Results.{allocated}
 use Rattle.frame.proofs.Laws.{inside-yes, inside-from, inside-under, take-cases}
 use Rattle.tables.proofs.Laws.{stepped}
@@ -30,10 +32,11 @@ use Rattle.paging.specs.Walk.{place, leaf, address}
 use Rattle.paging.specs.Map.{Memory, memory, startFrame, totalOf, Out, out, goOn, RoomToTake}
 use Rattle.paging.specs.Calls.{asChanged, mapAt}
 use Rattle.address.specs.Address.{asPhys}
-use Rattle.paging.specs.Pages.{clearPage}
+use Rattle.paging.specs.Pages.{clearPage, freePage}
+use Rattle.paging.specs.Found.{pageFound}
 use Rattle.paging.proofs.Map.{goOn-cases, KeptSpan, roomy-less, map-entry-kept, map-entry-roomy, unmap-entry-length}
 use Rattle.paging.proofs.Pages.{map-entry-at}
-use Rattle.copying.specs.Copying.{asTaken, rawFrame, onlyError, mapFrame, temporary, translated, clearedIf, clearedIfMapped, copyWords, copied, copiedFrom, copyPage, remapped, copyTo, copyOnWrite}
+use Rattle.copying.specs.Copying.{asTaken, rawFrame, onlyError, mapFrame, temporary, translated, clearedIf, clearedIfMapped, copyWords, copied, copiedFrom, copyPage, remapped, copyTo, copyOnWrite, remapFound, copyToFound, copyFound}
 
 -- ---- a frame taken as it is
 
@@ -234,6 +237,10 @@ copied-on-roomy up m root v f e n r = subst (λ (x : Memory). RoomToTake x n) (s
 -- ---- copy on write
 
 module _ (up : ℕ) (m : Memory) (root v f : ℕ) (user : Bool) where
+  -- after `free_page` and `map_frame`
+  pub remap-is : {m′ : Memory} → m′ ≡ freePage up m root v → {o : Out} → o ≡ mapFrame up m′ root v f true user → o ≡ remapped up m root v f user
+  remap-is e q = q ∙ ap (λ (x : Memory). mapFrame up x root v f true user) e
+
   -- after `copy_page`
   pub copy-to-stop : {w : Outcome} {m′ : Memory} → out w m′ ≡ copyPage up m root v f → {n : ℕ} → w ≡ Stop n → out (Stop n) m′ ≡ copyTo up m root v f user
   copy-to-stop e h = ap (λ (r : Out). goOn r (λ _ n. remapped up n root v f user)) (sym (stepped e h))
@@ -251,3 +258,30 @@ module _ (up : ℕ) (m : Memory) (root v : ℕ) (user : Bool) (m′ : Memory) wh
   pub cow-on : (f : ℕ) → rawFrame m ≡ out (Value f) m′ → copyOnWrite up m root v user ≡ copyTo up m′ root v f user
   unfolding copyOnWrite
   cow-on f e = rw e
+
+-- ---- what it found of the old frame
+
+module _ (up : ℕ) (m : Memory) (root v f : ℕ) (user : Bool) where
+  -- after those two and `if_met`
+  pub remap-found : {w : Outcome} {m′ : Memory} → out w m′ ≡ remapped up m root v f user → {s t : Tally} → s ≡ pageFound up m root v → t ≡ andThen w (λ _. noneFound) (λ _. s)
+      → t ≡ remapFound up m root v f user
+  remap-found e g h = h ∙ (λ j. andThen (e j .walked) (λ _. noneFound) (λ _. g j))
+
+  abbrev on : Out → Tally
+  on o = andThen (o .walked) (λ _. noneFound) (λ _. remapFound up (o .mem) root v f user)
+
+  module _ {w : Outcome} {m′ : Memory} (e : out w m′ ≡ copyPage up m root v f) {t : Tally} where
+    pub copy-to-none : {n : ℕ} → w ≡ Stop n → t ≡ noneFound → t ≡ copyToFound up m root v f user
+    copy-to-none h q = q ∙ ap on (sym (stepped e h))
+
+    pub copy-to-found : {x : ℕ} → w ≡ Value x → t ≡ remapFound up m′ root v f user → t ≡ copyToFound up m root v f user
+    copy-to-found h q = q ∙ ap on (sym (stepped e h))
+
+module _ (up : ℕ) (m : Memory) (root v : ℕ) (user : Bool) (m′ : Memory) where
+  pub cow-found-none : (n : ℕ) → rawFrame m ≡ out (Stop n) m′ → copyFound up m root v user ≡ noneFound
+  unfolding copyFound
+  cow-found-none n e = rw e
+
+  pub cow-found : (f : ℕ) → rawFrame m ≡ out (Value f) m′ → copyFound up m root v user ≡ copyToFound up m′ root v f user
+  unfolding copyFound
+  cow-found f e = rw e

@@ -5,16 +5,20 @@ use mathlib.Core.List.{List}
 use lib.ListN.{getD, set}
 use Rattle.bits.specs.Bit.{unless}
 use Rattle.answer.specs.Numbers.{pageTableError}
+use Rattle.answer.specs.Outcomes.{andThen}
 use Rattle.address.specs.declared.FrameAnswer.{FrameAnswer}
 use Rattle.address.specs.declared.FrameAnswer.the-variants.{AtFrame, NoFrame}
 use Rattle.entry.specs.Entry.{entryOf, indices}
+use Rattle.frame.specs.declared.Tally.{Tally}
 use Rattle.frame.specs.Frames.{Frames, inside, takeFrame}
+use Rattle.frame.specs.Found.{noneFound}
 use Rattle.answer.specs.declared.Outcome.{Outcome}
 use Rattle.answer.specs.declared.Outcome.the-variants.{Value, Stop}
 use Rattle.paging.specs.Walk.{place, leaf, address}
 use Rattle.paging.specs.Map.{Memory, memory, startFrame, totalOf, Out, out, goOn}
 use Rattle.paging.specs.Calls.{mapAt}
 use Rattle.paging.specs.Pages.{clearPage, freePage}
+use Rattle.paging.specs.Found.{pageFound}
 use Rattle.paging.specs.declared.Entered.{Entered}
 use Rattle.paging.specs.Kept.{lentMemory}
 
@@ -90,6 +94,21 @@ copyTo up m root v f user = goOn (copyPage up m root v f) (λ _ m′. remapped u
 -- 'new frame', then the same
 unfoldable pub copyOnWrite : ℕ → Memory → ℕ → ℕ → Bool → Out
 copyOnWrite up m root v user = goOn (rawFrame m) (λ f m′. copyTo up m′ root v f user)
+
+-- what the remapping found of the old frame: 'its one, or none where the remapping unmapped no page'; none where it is refused. What is unmapped at the temporary page
+-- is not counted
+abbrev pub remapFound : ℕ → Memory → ℕ → ℕ → ℕ → Bool → Tally
+remapFound up m root v f user = andThen (remapped up m root v f user .walked) (λ _. noneFound) (λ _. pageFound up m root v)
+
+abbrev pub copyToFound : ℕ → Memory → ℕ → ℕ → ℕ → Bool → Tally
+copyToFound up m root v f user =
+    let o = copyPage up m root v f in
+    andThen (o .walked) (λ _. noneFound) (λ _. remapFound up (o .mem) root v f user)
+
+unfoldable pub copyFound : ℕ → Memory → ℕ → ℕ → Bool → Tally
+copyFound up m root v user =
+    let o = rawFrame m in
+    andThen (o .walked) (λ _. noneFound) (λ f. copyToFound up (o .mem) root v f user)
 
 -- what code returns of a step, beside the words and bitmap that it was lent
 abbrev pub outOf : Entered → List ℕ → List ℕ → Out

@@ -9,21 +9,32 @@ use answer::Outcome;
 use entry::paging::PageTableEntry;
 use frame::FrameAllocator;
 use frame::Marks;
+use frame::Tally;
+use frame::tallies;
 use paging::Entered;
 ghost use mathlib.Core.Path.{_≡_};
 ghost use mathlib.Core.Bool.{true};
 ghost use mathlib.Core.List.{List};
 ghost use Prim.Native.Nat.{ℕ, _+_, _*_, _^_, _<_, _≤_};
 ghost use lib.ListN.{length};
+ghost use Rattle.answer.specs.Outcomes.{andThen};
 ghost use Rattle.frame.specs.Frames.{inside, RoomToCount};
+ghost use Rattle.frame.specs.Found.{noneFound};
 ghost use Rattle.paging.specs.Walk.{WordsLent};
 ghost use Rattle.paging.specs.Levels.{mostAbove};
 ghost use Rattle.paging.specs.Map.{out, RoomToTake};
 ghost use Rattle.paging.specs.Kept.{lentMemory};
-ghost use Rattle.copying.specs.Copying.{rawFrame, mapFrame, clearedIfMapped, copyWords, copiedFrom, copyPage, remapped, copyTo, copyOnWrite, outOf};
+ghost use Rattle.copying.specs.Copying.{rawFrame, mapFrame, clearedIfMapped, copyWords, copiedFrom, copyPage, remapped, copyTo, copyOnWrite, remapFound, copyToFound, copyFound, outOf};
 
 // The page through which a copy is made.
 pub const TEMP_MAP_ADDR: u64 = 0xFFFF_FFFF_FFFF_0000;
+
+// What a copy comes to, beside what the old frame was found to be and the record that is left.
+pub struct Copied {
+    pub walked: Outcome,
+    pub found: Tally,
+    pub frames: FrameAllocator,
+}
 
 // The lowest free frame, as it is.
 pub fn raw_frame(bitmap: &mut Marks, frames: FrameAllocator) -> Entered
@@ -172,6 +183,16 @@ fn copy_page(
     }
 }
 
+// A tally where the step was met, and none where it was refused.
+fn if_met(walked: Outcome, found: Tally) -> Tally
+    ensures { λ r. ⌜ r ≡ andThen walked (λ _. noneFound) (λ _. found) ⌝ }
+{
+    match walked {
+        Outcome::Stop(_) => tallies::none(),
+        Outcome::Value(_) => found,
+    }
+}
+
 // A page mapped to frame f, its old frame freed.
 fn remap_page(
     words: &mut [u64],
@@ -182,15 +203,25 @@ fn remap_page(
     page: VirtAddr,
     f: u64,
     user: bool,
-) -> Entered
+) -> Copied
     requires { ⌜ RoomToTake (lentMemory (now words) (now bitmap) frames) mostAbove ⌝ }
     requires { ⌜ f < 2 ^ 40 ⌝ }
     requires { ⌜ up ≤ mostAbove ⌝ }
-    ensures { λ r. ⌜ outOf r (now (words .exit)) (now (bitmap .exit))
+    ensures { λ r. ⌜ out (r .walked) (lentMemory (now (words .exit)) (now (bitmap .exit)) (r .frames))
         ≡ remapped up (lentMemory (now (words .entry)) (now (bitmap .entry)) frames) (root .0) (page .0) f user ⌝ }
+    ensures { λ r. ⌜ r .found ≡ remapFound up (lentMemory (now (words .entry)) (now (bitmap .entry)) frames) (root .0) (page .0) f user ⌝ }
 {
-    let left = pages::free_page(words, bitmap, frames, up, root, page);
-    map_frame(words, bitmap, left, up, root, page, f, true, user)
+    let freed = pages::free_page(words, bitmap, frames, up, root, page);
+    let found = freed.found;
+    let left = freed.frames;
+    let mapped = map_frame(words, bitmap, left, up, root, page, f, true, user);
+    let walked = mapped.walked;
+    let after = mapped.frames;
+    Copied {
+        walked,
+        found: if_met(walked, found),
+        frames: after,
+    }
 }
 
 // A page that is written to gets a frame of its own, with its words.
@@ -202,18 +233,20 @@ pub fn copy_on_write(
     root: Frame,
     page: VirtAddr,
     user: bool,
-) -> Entered
+) -> Copied
     requires { ⌜ RoomToTake (lentMemory (now words) (now bitmap) frames) (1 + 2 * mostAbove) ⌝ }
     requires { ⌜ up ≤ mostAbove ⌝ }
-    ensures { λ r. ⌜ outOf r (now (words .exit)) (now (bitmap .exit))
+    ensures { λ r. ⌜ out (r .walked) (lentMemory (now (words .exit)) (now (bitmap .exit)) (r .frames))
         ≡ copyOnWrite up (lentMemory (now (words .entry)) (now (bitmap .entry)) frames) (root .0) (page .0) user ⌝ }
+    ensures { λ r. ⌜ r .found ≡ copyFound up (lentMemory (now (words .entry)) (now (bitmap .entry)) frames) (root .0) (page .0) user ⌝ }
 {
     let taken = raw_frame(bitmap, frames);
     let walked = taken.walked;
     let left = taken.frames;
     match walked {
-        Outcome::Stop(n) => Entered {
+        Outcome::Stop(n) => Copied {
             walked: Outcome::Stop(n),
+            found: tallies::none(),
             frames: left,
         },
         Outcome::Value(f) => copy_to(words, bitmap, left, up, root, page, f, user),
@@ -230,19 +263,21 @@ fn copy_to(
     page: VirtAddr,
     f: u64,
     user: bool,
-) -> Entered
+) -> Copied
     requires { ⌜ RoomToTake (lentMemory (now words) (now bitmap) frames) (2 * mostAbove) ⌝ }
     requires { ⌜ inside (frames .start) (frames .total) f ≡ true ⌝ }
     requires { ⌜ up ≤ mostAbove ⌝ }
-    ensures { λ r. ⌜ outOf r (now (words .exit)) (now (bitmap .exit))
+    ensures { λ r. ⌜ out (r .walked) (lentMemory (now (words .exit)) (now (bitmap .exit)) (r .frames))
         ≡ copyTo up (lentMemory (now (words .entry)) (now (bitmap .entry)) frames) (root .0) (page .0) f user ⌝ }
+    ensures { λ r. ⌜ r .found ≡ copyToFound up (lentMemory (now (words .entry)) (now (bitmap .entry)) frames) (root .0) (page .0) f user ⌝ }
 {
     let copied = copy_page(words, bitmap, frames, up, root, page, f);
     let walked = copied.walked;
     let left = copied.frames;
     match walked {
-        Outcome::Stop(n) => Entered {
+        Outcome::Stop(n) => Copied {
             walked: Outcome::Stop(n),
+            found: tallies::none(),
             frames: left,
         },
         Outcome::Value(_) => remap_page(words, bitmap, left, up, root, page, f, user),

@@ -16,7 +16,10 @@ use Rattle.address.specs.declared.FrameAnswer.{FrameAnswer}
 use Rattle.entry.specs.Entry.{entryOf, indices}
 use Rattle.packed.proofs.RoundTrip.{Bytes}
 use Rattle.frame.specs.declared.FrameAllocator.{FrameAllocator}
+use Rattle.frame.specs.declared.Tally.{Tally}
+use Rattle.frame.specs.declared.TallyLine.{TallyLine}
 use Rattle.frame.specs.Frames.{FramesDid, inside, withMark}
+use Rattle.frame.specs.Found.{noneFound, tallyLine, tallyOf}
 use Rattle.frame.proofs.Laws.{take-cases}
 use Rattle.answer.specs.declared.Outcome.{Outcome}
 use Rattle.answer.specs.declared.Outcome.the-variants.{Value, Stop}
@@ -34,14 +37,14 @@ use Rattle.cow.proofs.RoundTrip.{marked-back}
 use Rattle.error_code.specs.ErrorCode.{isPresent, isWrite, isUser, isReserved, isFetch}
 use Rattle.copying.specs.Copying.{asTaken, rawFrame, onlyError, mapFrame, temporary, translated, clearedIfMapped, copied, copyPage, copyTo, copyOnWrite}
 use Rattle.fault.specs.Faults.{inHeap, valid, demandPage, Faulting, faulting, FaultDid, soundFaulting, unmarking, handled, handleFault, handleFaultOf}
-use Rattle.fault.specs.Packed.{onPages}
+use Rattle.fault.specs.Packed.{onPages, foundOnPages, faultFoundOn}
 use Rattle.handler.specs.Handler.{overwrite, putOver, mapOver, handleFaultSecond, handleFaultSecondOf}
 use Rattle.layout.specs.Parts.{fieldsIn, fieldsOut, fieldsFit}
 use Rattle.layout.specs.Left.{left, brokenLine, IsRefusal, Unchanged, noLeftovers, faultLeftovers, secondLeftovers}
 use Rattle.layout.specs.Memory.{ListParts, listParts, plainLine, memoryParts}
 use Rattle.layout.proofs.Left.{broken-left, unchanged-left, fields-same, memory-unchanged, list-met}
 use Rattle.layout.proofs.Numbers.{Listed, make-listed}
-use Rattle.desk_faults.specs.Faults.{leftMarked, packedMarkCow, packedUnmarkCow, packedIsCow, faultFit, faultPacked, onFault, packedFault, packedFaultSecond}
+use Rattle.desk_faults.specs.Faults.{leftMarked, packedMarkCow, packedUnmarkCow, packedIsCow, faultFit, faultPacked, onFault, packedFault, packedFaultFound, packedFaultSecond}
 
 -- ---- the marked pages
 
@@ -91,6 +94,17 @@ module _ (call : Faulting → FaultDid) (words fields bits marked : List ℕ) wh
       unchanged-left leftovers (faultFit faultLent) faultLent _ (λ fit n.
       let f = both-true (fieldsFit fields) (markedFit marked) fit in
       ap faultPacked (law _ n) ∙ (λ j. listParts words (fields-same fields (f .0) b j) bits (marked-back marked (f .1) c j)))
+
+-- what it found
+module _ (words fields bits marked : List ℕ) (root addr code : ℕ) (a : Answer) {r : TallyLine} where
+  pub fault-none : fieldsFit fields ≡ false → r ≡ tallyLine a noneFound → tallyOf r ≡ packedFaultFound (listParts words fields bits marked) root addr code
+  unfolding packedFaultFound
+  fault-none h l = rw h (ap tallyOf l)
+
+  pub fault-found : {f : FrameAllocator} → fieldsFit fields ≡ true → f ≡ fieldsIn fields → {t : Tally} → t ≡ faultFoundOn (lentMemory words bits f) marked root addr code
+      → r ≡ tallyLine a t → tallyOf r ≡ packedFaultFound (listParts words fields bits marked) root addr code
+  unfolding packedFaultFound foundOnPages
+  fault-found h f e l = rw h (ap tallyOf l ∙ e ∙ (λ j. faultFoundOn (lentMemory words bits (f j)) marked root addr code))
 
 -- ---- refusals of the marked pages: 10, and 20 of mark_cow
 

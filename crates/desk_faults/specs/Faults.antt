@@ -5,11 +5,13 @@ use mathlib.Core.List.{List}
 use Rattle.bits.specs.Bit.{unless, both}
 use Rattle.answer.specs.Numbers.{answerLine, flagLine}
 use Rattle.answer.specs.declared.Line.{Line}
+use Rattle.frame.specs.declared.Tally.{Tally}
+use Rattle.frame.specs.Found.{noneFound}
 use Rattle.paging.specs.Map.{Memory}
 use Rattle.slots.specs.Slots.{Slots}
 use Rattle.cow.specs.Marked.{MarkedDid, markCow, unmarkCow, isCow}
 use Rattle.cow.specs.Packed.{markedIn, markedOut, markedFit}
-use Rattle.fault.specs.Faults.{Faulting, faulting, FaultDid, handleFaultOf}
+use Rattle.fault.specs.Faults.{Faulting, faulting, FaultDid, handleFaultOf, faultFoundOf}
 use Rattle.handler.specs.Handler.{handleFaultSecondOf}
 use Rattle.layout.specs.Parts.{fieldsFit}
 use Rattle.layout.specs.Left.{Left, left, brokenLine, unlessFit}
@@ -45,6 +47,10 @@ onFault call p = unlessFit (faultFit p) p (left (plainLine (call (faultingIn p) 
 
 abbrev pub packedFault : ListParts → ℕ → ℕ → ℕ → Left ListParts
 packedFault p root addr code = onFault (λ (s : Faulting). handleFaultOf s root addr code) p
+
+-- what it found; none where the parts do not fit
+unfoldable pub packedFaultFound : ListParts → ℕ → ℕ → ℕ → Tally
+packedFaultFound p root addr code = unless (faultFit p) noneFound (faultFoundOf (faultingIn p) root addr code)
 
 -- the second path: no marked pages
 abbrev pub packedFaultSecond : MemoryParts → ℕ → ℕ → ℕ → Left MemoryParts

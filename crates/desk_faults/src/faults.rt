@@ -3,11 +3,14 @@ use address::Frame;
 use address::VirtAddr;
 use answer::Line;
 use frame::Marks;
+use frame::TallyLine;
+use frame::tallies;
 use layout::parts;
 ghost use mathlib.Core.Path.{_≡_};
+ghost use Rattle.frame.specs.Found.{keyLine, tallyOf};
 ghost use Rattle.layout.specs.Left.{left, Unchanged, noLeftovers, faultLeftovers, secondLeftovers};
 ghost use Rattle.layout.specs.Memory.{listParts, memoryParts};
-ghost use Rattle.desk_faults.specs.Faults.{packedMarkCow, packedUnmarkCow, packedIsCow, packedFault, packedFaultSecond};
+ghost use Rattle.desk_faults.specs.Faults.{packedMarkCow, packedUnmarkCow, packedIsCow, packedFault, packedFaultFound, packedFaultSecond};
 
 #[no_mangle]
 pub extern "C" fn gadulnos_mark_cow(marked: &mut [u8], addr: u64) -> Line
@@ -46,14 +49,16 @@ pub extern "C" fn gadulnos_handle_page_fault(
     marked: &mut [u8],
     addr: u64,
     code: u64,
-) -> Line
-    ensures { λ r. ⌜ left r (listParts (now (words .exit)) (now (fields .exit)) (now (bits .exit)) (now (marked .exit)))
+) -> TallyLine
+    ensures { λ r. ⌜ left (keyLine r) (listParts (now (words .exit)) (now (fields .exit)) (now (bits .exit)) (now (marked .exit)))
         ≡ packedFault (listParts (now (words .entry)) (now (fields .entry)) (now (bits .entry)) (now (marked .entry))) root addr code ⌝ }
+    ensures { λ r. ⌜ tallyOf r
+        ≡ packedFaultFound (listParts (now (words .entry)) (now (fields .entry)) (now (bits .entry)) (now (marked .entry))) root addr code ⌝ }
     ensures refused { λ r. ⌜ Unchanged faultLeftovers (listParts (now (words .entry)) (now (fields .entry)) (now (bits .entry)) (now (marked .entry)))
-        (left r (listParts (now (words .exit)) (now (fields .exit)) (now (bits .exit)) (now (marked .exit)))) ⌝ }
+        (left (keyLine r) (listParts (now (words .exit)) (now (fields .exit)) (now (bits .exit)) (now (marked .exit)))) ⌝ }
 {
     if fields.len() != parts::FIELDS_SIZE {
-        return parts::broken();
+        return parts::broken_tally();
     }
     let frames = parts::get_fields(fields);
     let did = fault::handle_page_fault(
@@ -67,8 +72,9 @@ pub extern "C" fn gadulnos_handle_page_fault(
     );
     let left = did.frames;
     let a = did.answer;
+    let found = did.found;
     parts::put_fields(fields, left);
-    answer::answer_line(a)
+    tallies::tally_line(a, found)
 }
 
 // The second path.

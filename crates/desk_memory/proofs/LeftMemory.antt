@@ -17,6 +17,8 @@ use Rattle.entry.specs.Entry.{indices}
 use Rattle.packed.proofs.RoundTrip.{Bytes}
 use Rattle.bitmap.specs.Bitmap.{marksIn}
 use Rattle.frame.specs.declared.FrameAllocator.{FrameAllocator}
+use Rattle.frame.specs.declared.FoundAnswer.{FoundAnswer}
+use Rattle.frame.specs.Found.{foundLine}
 use Rattle.frame.specs.Frames.{Frames, lentFrames, FramesDid, inside, sound, init, markAllocated, allocate, deallocate}
 use Rattle.frame.proofs.Laws.{init-cases, take-cases}
 use Rattle.answer.specs.declared.Outcome.{Outcome}
@@ -87,9 +89,10 @@ pub mark-clean : (n : ℕ) (fr : Frames) → IsRefusal noLeftovers (answerLine (
 unfolding markAllocated
 mark-clean n fr = pick-cases (λ (d : FramesDid Answer). IsRefusal noLeftovers (answerLine (d .answer) .number) → d .frames ≡ fr) (sound fr) _ _ (λ _ h. absurd (h refl)) (λ _ _. refl)
 
-pub deallocate-clean : (n : ℕ) (fr : Frames) → IsRefusal noLeftovers (answerLine (deallocate fr n .answer) .number) → deallocate fr n .frames ≡ fr
+pub deallocate-clean : (n : ℕ) (fr : Frames) → IsRefusal noLeftovers (foundLine (deallocate fr n .answer) .number) → deallocate fr n .frames ≡ fr
 unfolding deallocate
-deallocate-clean n fr = pick-cases (λ (d : FramesDid Answer). IsRefusal noLeftovers (answerLine (d .answer) .number) → d .frames ≡ fr) (sound fr) _ _ (λ _ h. absurd (h refl)) (λ _ _. refl)
+deallocate-clean n fr =
+    pick-cases (λ (d : FramesDid FoundAnswer). IsRefusal noLeftovers (foundLine (d .answer) .number) → d .frames ≡ fr) (sound fr) _ _ (λ _ h. absurd (h refl)) (λ _ _. refl)
 
 pub allocate-clean : (fr : Frames) → IsRefusal noLeftovers (frameLine (allocate fr .answer) .number) → allocate fr .frames ≡ fr
 unfolding allocate

@@ -7,6 +7,7 @@ use Rattle.answer.specs.Numbers.{answerLine, countLine, flagLine}
 use Rattle.answer.specs.declared.Line.{Line}
 use Rattle.address.specs.Address.{frameLine, physLine, asFrame, asPhys}
 use Rattle.bitmap.specs.Bitmap.{marksIn}
+use Rattle.frame.specs.Found.{foundLine}
 use Rattle.frame.specs.Frames.{Frames, FramesDid, init, isAllocated, markAllocated, allocate, deallocate, freeFrames, allocatedFrames, totalFrames}
 use Rattle.paging.specs.declared.HugePageSize.{HugePageSize}
 use Rattle.paging.specs.declared.HugePageSize.the-variants.{Size2MB, Size1GB}
@@ -53,7 +54,7 @@ abbrev pub packedAllocate : FramesParts → Left FramesParts
 packedAllocate p = onFrames frameLine allocate p
 
 abbrev pub packedDeallocate : FramesParts → ℕ → Left FramesParts
-packedDeallocate p n = onFrames answerLine (λ (fr : Frames). deallocate fr n) p
+packedDeallocate p n = onFrames foundLine (λ (fr : Frames). deallocate fr n) p
 
 abbrev pub packedFreeFrames : FramesParts → Line
 packedFreeFrames p = readFrames countLine freeFrames p

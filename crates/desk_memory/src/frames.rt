@@ -3,6 +3,7 @@ use address::Frame;
 use answer::Line;
 use frame::Marks;
 use frame::held;
+use frame::tallies;
 use layout::parts;
 ghost use mathlib.Core.Path.{_≡_};
 ghost use Rattle.layout.specs.Left.{left, Unchanged, noLeftovers};
@@ -88,7 +89,7 @@ pub extern "C" fn gadulnos_deallocate_frame(
     let left = did.frames;
     let a = did.answer;
     parts::put_fields(fields, left);
-    answer::answer_line(a)
+    tallies::found_line(a)
 }
 
 #[no_mangle]

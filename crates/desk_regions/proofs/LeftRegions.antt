@@ -18,6 +18,8 @@ use Rattle.answer.specs.declared.Line.{Line}
 use Rattle.address.specs.Address.{virtLine, asVirt}
 use Rattle.packed.proofs.RoundTrip.{Bytes}
 use Rattle.frame.specs.declared.FrameAllocator.{FrameAllocator}
+use Rattle.frame.specs.declared.Tally.{Tally}
+use Rattle.frame.specs.Found.{noneFound}
 use Rattle.paging.specs.Levels.{aboveLast}
 use Rattle.paging.specs.Map.{Memory}
 use Rattle.paging.specs.Kept.{kept, lentMemory}
@@ -26,7 +28,7 @@ use Rattle.regions.specs.Regions.{firstFit, usedSize}
 use Rattle.vm_list.specs.Packed.{vmFit}
 use Rattle.vm_list.proofs.RoundTrip.{vm-back}
 use Rattle.vmalloc.specs.Calls.{Kernel, KernelDid, soundKernel, kernelPages, kernelMapped, kernelPlaced, kernelSized, released, vmalloc, vmallocOf, vfree, vfreeOf}
-use Rattle.vmalloc.specs.Packed.{keptKernel, onVmList}
+use Rattle.vmalloc.specs.Packed.{keptKernel, onVmList, vfreeFoundOn}
 use Rattle.mappings.specs.declared.MappedRegion.{MappedRegion}
 use Rattle.mappings.specs.declared.Searched.{Searched}
 use Rattle.mappings.specs.Regions.{findFree, holds}
@@ -37,7 +39,7 @@ use Rattle.mappings.proofs.RoundTrip.{mmap-back}
 use Rattle.mmap.specs.declared.OptAddr.{OptAddr}
 use Rattle.mmap.specs.Flags.{writable}
 use Rattle.mmap.specs.Calls.{User, UserDid, soundUser, onPage, chosen, full, userPages, userMapped, userPlaced, userSized, unmapped, mmap, mmapOf, munmap, munmapOf}
-use Rattle.mmap.specs.Packed.{keptUser, onMmapList}
+use Rattle.mmap.specs.Packed.{keptUser, onMmapList, munmapFoundOn}
 use Rattle.mprotect.specs.Calls.{ProtectDid, protectDid, mprotect}
 use Rattle.mprotect.specs.Packed.{ProtectKept, protectKept, keptProtected, mprotectOn}
 use Rattle.mprotect.proofs.Cases.{mprotect-cases}
@@ -47,7 +49,7 @@ use Rattle.layout.specs.Memory.{ListParts, listParts, plainLine}
 use Rattle.layout.proofs.Left.{broken-left, met-left, unchanged-left, fields-same, list-met}
 use Rattle.layout.proofs.Numbers.{pages-listed}
 use Rattle.desk_regions.specs.Regions.{addressLine, kernelFit, kernelIn, kernelPacked, onKernel, userFit, userIn, userPacked, onUser}
-use Rattle.desk_regions.specs.Regions.{packedVmalloc, packedVfree, packedMmap, packedMunmap, packedFindFree, searchLeftovers, ProtectParts, protectParts, protectPacked, packedMprotect}
+use Rattle.desk_regions.specs.Regions.{packedVmalloc, packedVfree, packedVfreeFound, packedMmap, packedMunmap, packedMunmapFound, packedFindFree, searchLeftovers, ProtectParts, protectParts, protectPacked, packedMprotect}
 
 -- what is worked out for a call beside its parts
 pub all-three : {A B C : Type 0} {a a′ : A} {b b′ : B} {c c′ : C} → a ≡ a′ → b ≡ b′ → c ≡ c′ → _≡_ {A = A × (B × C)} (a, (b, c)) (a′, (b′, c′))
@@ -114,6 +116,28 @@ module _ {A : Type 0} (form : Outcome → A) (line : A → Line) (call : User �
       unchanged-left leftovers (userFit userLent) userLent _ (λ fit n.
       let f = both-true (fieldsFit fields) (mmapFit list) fit in
       ap userPacked (law _ n) ∙ (λ j. listParts words (fields-same fields (f .0) b j) bits (mmap-back list (f .1) c j)))
+
+-- ---- what vfree and munmap find
+
+module _ (words fields bits list : List ℕ) (root addr : ℕ) {t : Tally} where
+  pub vfree-none : fieldsFit fields ≡ false → t ≡ noneFound → t ≡ packedVfreeFound (listParts words fields bits list) root addr
+  unfolding packedVfreeFound
+  vfree-none h e = rw h e
+
+  pub vfree-found : {f : FrameAllocator} → fieldsFit fields ≡ true → f ≡ fieldsIn fields → t ≡ vfreeFoundOn (lentMemory words bits f) list root addr
+      → t ≡ packedVfreeFound (listParts words fields bits list) root addr
+  unfolding packedVfreeFound vfreeFoundOn
+  vfree-found h f e = rw h (e ∙ (λ j. vfreeFoundOn (lentMemory words bits (f j)) list root addr))
+
+  module _ (size : ℕ) where
+    pub munmap-none : fieldsFit fields ≡ false → t ≡ noneFound → t ≡ packedMunmapFound (listParts words fields bits list) root addr size
+    unfolding packedMunmapFound
+    munmap-none h e = rw h e
+
+    pub munmap-found : {f : FrameAllocator} → fieldsFit fields ≡ true → f ≡ fieldsIn fields → t ≡ munmapFoundOn (lentMemory words bits f) list root addr size
+        → t ≡ packedMunmapFound (listParts words fields bits list) root addr size
+    unfolding packedMunmapFound munmapFoundOn
+    munmap-found h f e = rw h (e ∙ (λ j. munmapFoundOn (lentMemory words bits (f j)) list root addr size))
 
 -- ---- refusals of vmalloc: 10, 1, 3 and 15; 11 and 13 have leftovers
 

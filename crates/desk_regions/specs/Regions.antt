@@ -3,18 +3,20 @@ use Prim.Native.Nat.{ℕ}
 use mathlib.Core.Bool.{Bool}
 use mathlib.Core.List.{List, [], _∷_}
 use lib.IntN.{ℤ}
-use Rattle.bits.specs.Bit.{both}
+use Rattle.bits.specs.Bit.{unless, both}
 use Rattle.answer.specs.Numbers.{noRegion, countLine}
 use Rattle.answer.specs.declared.Line.{Line}
 use Rattle.address.specs.Address.{virtLine, asVirt}
 use Rattle.answer.specs.declared.Outcome.{Outcome}
+use Rattle.frame.specs.declared.Tally.{Tally}
+use Rattle.frame.specs.Found.{noneFound}
 use Rattle.vm_list.specs.Packed.{vmIn, vmOut, vmFit}
 use Rattle.slots.specs.Slots.{listed}
 use Rattle.mappings.specs.Regions.{findFree}
 use Rattle.mappings.specs.Compared.{compared}
 use Rattle.mappings.specs.Packed.{mmapIn, nextIn, mmapOut, mmapFit, soundList}
-use Rattle.vmalloc.specs.Calls.{Kernel, kernel, KernelDid, vmallocOf, vfreeOf}
-use Rattle.mmap.specs.Calls.{User, user, UserDid, mmapOf, munmapOf}
+use Rattle.vmalloc.specs.Calls.{Kernel, kernel, KernelDid, vmallocOf, vfreeOf, vfreeFoundOf}
+use Rattle.mmap.specs.Calls.{User, user, UserDid, mmapOf, munmapOf, munmapFoundOf}
 use Rattle.mmap.specs.declared.OptAddr.{OptAddr}
 use Rattle.mprotect.specs.Calls.{ProtectDid, mprotect}
 use Rattle.layout.specs.Parts.{fieldsFit}
@@ -45,6 +47,10 @@ packedVmalloc p root size = onKernel addressLine (λ (k : Kernel). vmallocOf k r
 abbrev pub packedVfree : ListParts → ℕ → ℕ → Left ListParts
 packedVfree p root addr = onKernel plainLine (λ (k : Kernel). vfreeOf k root addr) p
 
+-- what it finds (document 02, slip 5); none where the parts do not fit
+unfoldable pub packedVfreeFound : ListParts → ℕ → ℕ → Tally
+packedVfreeFound p root addr = unless (kernelFit p) noneFound (vfreeFoundOf (kernelIn p) root addr)
+
 -- ---- mmap and munmap: the list is the user's, with next_addr
 
 abbrev pub userFit : ListParts → Bool
@@ -64,6 +70,9 @@ packedMmap p root hint size prot flags = onUser addressLine (λ (u : User). mmap
 
 abbrev pub packedMunmap : ListParts → ℕ → ℕ → ℕ → Left ListParts
 packedMunmap p root addr size = onUser plainLine (λ (u : User). munmapOf u root addr size) p
+
+unfoldable pub packedMunmapFound : ListParts → ℕ → ℕ → ℕ → Tally
+packedMunmapFound p root addr size = unless (userFit p) noneFound (munmapFoundOf (userIn p) root addr size)
 
 -- ---- mprotect: the words and the user's list; of the frame record it is lent three numbers
 

@@ -3,12 +3,15 @@ use address::Frame;
 use address::VirtAddr;
 use answer::Line;
 use frame::Marks;
+use frame::TallyLine;
+use frame::tallies;
 use layout::parts;
 ghost use mathlib.Core.Path.{_≡_};
 ghost use Rattle.vmalloc.specs.Calls.{isVmallocAddr};
+ghost use Rattle.frame.specs.Found.{keyLine, tallyOf};
 ghost use Rattle.layout.specs.Memory.{listParts};
 ghost use Rattle.layout.specs.Left.{left, Unchanged, noLeftovers, regionLeftovers};
-ghost use Rattle.desk_regions.specs.Regions.{packedVmalloc, packedVfree};
+ghost use Rattle.desk_regions.specs.Regions.{packedVmalloc, packedVfree, packedVfreeFound};
 
 #[no_mangle]
 pub extern "C" fn gadulnos_vmalloc(
@@ -49,14 +52,16 @@ pub extern "C" fn gadulnos_vfree(
     root: u64,
     list: &mut [u8],
     addr: u64,
-) -> Line
-    ensures { λ r. ⌜ left r (listParts (now (words .exit)) (now (fields .exit)) (now (bits .exit)) (now (list .exit)))
+) -> TallyLine
+    ensures { λ r. ⌜ left (keyLine r) (listParts (now (words .exit)) (now (fields .exit)) (now (bits .exit)) (now (list .exit)))
         ≡ packedVfree (listParts (now (words .entry)) (now (fields .entry)) (now (bits .entry)) (now (list .entry))) root addr ⌝ }
+    ensures { λ r. ⌜ tallyOf r
+        ≡ packedVfreeFound (listParts (now (words .entry)) (now (fields .entry)) (now (bits .entry)) (now (list .entry))) root addr ⌝ }
     ensures refused { λ r. ⌜ Unchanged noLeftovers (listParts (now (words .entry)) (now (fields .entry)) (now (bits .entry)) (now (list .entry)))
-        (left r (listParts (now (words .exit)) (now (fields .exit)) (now (bits .exit)) (now (list .exit)))) ⌝ }
+        (left (keyLine r) (listParts (now (words .exit)) (now (fields .exit)) (now (bits .exit)) (now (list .exit)))) ⌝ }
 {
     if fields.len() != parts::FIELDS_SIZE {
-        return parts::broken();
+        return parts::broken_tally();
     }
     let did = vmalloc::vfree(
         words,
@@ -68,8 +73,9 @@ pub extern "C" fn gadulnos_vfree(
     );
     let left = did.frames;
     let a = did.answer;
+    let found = did.found;
     parts::put_fields(fields, left);
-    answer::answer_line(a)
+    tallies::tally_line(a, found)
 }
 
 #[no_mangle]

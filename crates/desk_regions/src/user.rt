@@ -3,12 +3,15 @@ use address::Frame;
 use address::VirtAddr;
 use answer::Line;
 use frame::Marks;
+use frame::TallyLine;
+use frame::tallies;
 use layout::parts;
 ghost use mathlib.Core.Path.{_≡_};
 ghost use Rattle.mmap.specs.Packed.{optAddr};
+ghost use Rattle.frame.specs.Found.{keyLine, tallyOf};
 ghost use Rattle.layout.specs.Left.{left, Unchanged, noLeftovers, regionLeftovers};
 ghost use Rattle.layout.specs.Memory.{listParts};
-ghost use Rattle.desk_regions.specs.Regions.{packedMmap, packedMunmap, packedFindFree, searchLeftovers, protectParts, packedMprotect};
+ghost use Rattle.desk_regions.specs.Regions.{packedMmap, packedMunmap, packedMunmapFound, packedFindFree, searchLeftovers, protectParts, packedMprotect};
 
 #[no_mangle]
 pub extern "C" fn gadulnos_mmap(
@@ -58,14 +61,16 @@ pub extern "C" fn gadulnos_munmap(
     list: &mut [u8],
     addr: u64,
     size: u64,
-) -> Line
-    ensures { λ r. ⌜ left r (listParts (now (words .exit)) (now (fields .exit)) (now (bits .exit)) (now (list .exit)))
+) -> TallyLine
+    ensures { λ r. ⌜ left (keyLine r) (listParts (now (words .exit)) (now (fields .exit)) (now (bits .exit)) (now (list .exit)))
         ≡ packedMunmap (listParts (now (words .entry)) (now (fields .entry)) (now (bits .entry)) (now (list .entry))) root addr size ⌝ }
+    ensures { λ r. ⌜ tallyOf r
+        ≡ packedMunmapFound (listParts (now (words .entry)) (now (fields .entry)) (now (bits .entry)) (now (list .entry))) root addr size ⌝ }
     ensures refused { λ r. ⌜ Unchanged noLeftovers (listParts (now (words .entry)) (now (fields .entry)) (now (bits .entry)) (now (list .entry)))
-        (left r (listParts (now (words .exit)) (now (fields .exit)) (now (bits .exit)) (now (list .exit)))) ⌝ }
+        (left (keyLine r) (listParts (now (words .exit)) (now (fields .exit)) (now (bits .exit)) (now (list .exit)))) ⌝ }
 {
     if fields.len() != parts::FIELDS_SIZE {
-        return parts::broken();
+        return parts::broken_tally();
     }
     let did = mmap::munmap(
         words,
@@ -78,8 +83,9 @@ pub extern "C" fn gadulnos_munmap(
     );
     let left = did.frames;
     let a = did.answer;
+    let found = did.found;
     parts::put_fields(fields, left);
-    answer::answer_line(a)
+    tallies::tally_line(a, found)
 }
 
 // The search of mmap.rs by itself, the size as it stands.

@@ -10,6 +10,8 @@ use Rattle.answer.specs.Outcomes.{asAnswer}
 use Rattle.answer.specs.declared.Answer.{Answer}
 use Rattle.answer.specs.declared.Answer.the-variants.{Refused}
 use Rattle.packed.proofs.RoundTrip.{Bytes}
+use Rattle.frame.specs.declared.Tally.{Tally}
+use Rattle.frame.specs.Found.{noneFound}
 use Rattle.answer.specs.declared.Outcome.{Outcome}
 use Rattle.answer.specs.declared.Outcome.the-variants.{Value, Stop}
 use Rattle.paging.specs.Map.{Memory, out}
@@ -21,50 +23,51 @@ use Rattle.cow.specs.Marked.{pageOf, pageKey, soundMarked, storePages}
 use Rattle.cow.specs.Packed.{markedIn, markedOut, markedFit}
 use Rattle.cow.proofs.RoundTrip.{marked-back}
 use Rattle.error_code.specs.ErrorCode.{isPresent, isWrite, isUser, isReserved, isFetch, denied}
-use Rattle.copying.specs.Copying.{rawFrame, mapFrame, copyOnWrite}
-use Rattle.fault.specs.Faults.{inHeap, valid, demandPage, Faulting, faulting, FaultDid, faultDid, protected, handled, handleFault}
-use Rattle.fault.specs.Packed.{onPages, FaultReads}
+use Rattle.copying.specs.Copying.{rawFrame, mapFrame, copyOnWrite, copyFound}
+use Rattle.fault.specs.Faults.{inHeap, valid, demandPage, Faulting, faulting, FaultDid, faultDid, protected, handled, handleFault, protectedFound, handledFound, faultFound}
+use Rattle.fault.specs.Packed.{onPages, foundOnPages, FaultReads}
 
--- ---- what code says: an answer, words and frames, and bytes; and the pages that these stand for
+-- ---- what code says: an answer, words and frames, and bytes; the pages that these stand for; and what it found
 
-module _ (call : Faulting → FaultDid) (m : Memory) (bs : List ℕ) where
-  abbrev pub Says : Answer → Memory → List ℕ → Type 0
-  Says a m′ left = (kept a m′ left ≡ onPages call m bs) × FaultReads call m bs left
+module _ (call : Faulting → FaultDid) (found : Faulting → Tally) (m : Memory) (bs : List ℕ) where
+  abbrev pub Says : Answer → Tally → Memory → List ℕ → Type 0
+  Says a t m′ left = (kept a m′ left ≡ onPages call m bs) × (FaultReads call m bs left × (t ≡ foundOnPages found m bs))
 
-  module _ (fit : markedFit bs ≡ true) {w : Outcome} {m′ : Memory} {a : Answer} (q : a ≡ asAnswer w) where
+  module _ (fit : markedFit bs ≡ true) {w : Outcome} {m′ : Memory} {a : Answer} (q : a ≡ asAnswer w) {t : Tally} (g : t ≡ found (faulting m (markedIn bs))) where
     -- pages are left, and the bytes stand for them
     pub says : {s : Slots ℕ} → call (faulting m (markedIn bs)) ≡ faultDid w (faulting m′ s) → (left : List ℕ) → markedFit left ≡ true → Bytes left → markedIn left ≡ s
-        → Says a m′ left
-    unfolding onPages
+        → Says a t m′ left
+    unfolding onPages foundOnPages
     says d left f b e = (
       rw fit
           ((λ j. kept (q j) m′ ((sym (marked-back left f b) ∙ ap markedOut e) j))
           ∙ ap (λ (x : FaultDid). kept (asAnswer (x .answer)) (x .state .mem) (markedOut (x .state .marked))) (sym d)),
-      λ _. (f, e ∙ ap (λ (x : FaultDid). x .state .marked) (sym d)),
+      (λ _. (f, e ∙ ap (λ (x : FaultDid). x .state .marked) (sym d)), rw fit g),
     )
 
     -- .. as before
-    pub says-same : call (faulting m (markedIn bs)) ≡ faultDid w (faulting m′ (markedIn bs)) → Bytes bs → Says a m′ bs
+    pub says-same : call (faulting m (markedIn bs)) ≡ faultDid w (faulting m′ (markedIn bs)) → Bytes bs → Says a t m′ bs
     says-same d b = says d bs fit b refl
 
   -- 10, also where the bytes stand for no pages
-  pub says-broken : (markedFit bs ≡ true → call (faulting m (markedIn bs)) ≡ faultDid (Stop brokenRecord) (faulting m (markedIn bs))) → Bytes bs
-      → Says (Refused brokenRecord) m bs
-  unfolding onPages
-  says-broken d b = by (markedFit bs) refl
+  pub says-broken : (markedFit bs ≡ true → call (faulting m (markedIn bs)) ≡ faultDid (Stop brokenRecord) (faulting m (markedIn bs)))
+      → (markedFit bs ≡ true → found (faulting m (markedIn bs)) ≡ noneFound) → {t : Tally} → t ≡ noneFound → Bytes bs → Says (Refused brokenRecord) t m bs
+  unfolding onPages foundOnPages
+  says-broken d g {t} q b = by (markedFit bs) refl
     where
-      by : (x : Bool) → markedFit bs ≡ x → Says (Refused brokenRecord) m bs
-      by true fit = says-same fit refl (d fit) b
-      by false fit = (rw fit, λ f. absurd (false≢true (sym fit ∙ f)))
+      by : (x : Bool) → markedFit bs ≡ x → Says (Refused brokenRecord) t m bs
+      by true fit = says-same fit refl (q ∙ sym (g fit)) (d fit) b
+      by false fit = (rw fit, (λ f. absurd (false≢true (sym fit ∙ f)), rw fit q))
 
 -- what a step below says is what the path says
-pub says-on : (call step : Faulting → FaultDid) (m : Memory) (bs : List ℕ) → step (faulting m (markedIn bs)) ≡ call (faulting m (markedIn bs))
-    → {a : Answer} {m′ : Memory} {left : List ℕ} → Says step m bs a m′ left → Says call m bs a m′ left
-unfolding onPages
-says-on call step m bs e p = (
+pub says-on : (call step : Faulting → FaultDid) (found below : Faulting → Tally) (m : Memory) (bs : List ℕ)
+    → step (faulting m (markedIn bs)) ≡ call (faulting m (markedIn bs)) → below (faulting m (markedIn bs)) ≡ found (faulting m (markedIn bs))
+    → {a : Answer} {t : Tally} {m′ : Memory} {left : List ℕ} → Says step below m bs a t m′ left → Says call found m bs a t m′ left
+unfolding onPages foundOnPages
+says-on call step found below m bs e g p = (
   p .0
       ∙ ap (λ (d : FaultDid). unless (markedFit bs) (kept (Refused brokenRecord) m bs) (kept (asAnswer (d .answer)) (d .state .mem) (markedOut (d .state .marked)))) e,
-  λ f. (p .1 f .0, p .1 f .1 ∙ ap (λ (d : FaultDid). d .state .marked) e),
+  (λ f. (p .1 .0 f .0, p .1 .0 f .1 ∙ ap (λ (d : FaultDid). d .state .marked) e), p .1 .1 ∙ ap (unless (markedFit bs) noneFound) g),
 )
 
 -- ---- demand paging
@@ -136,3 +139,41 @@ module _ (up : ℕ) (m : Memory) (bs : List ℕ) (root a code : ℕ) where
     pub fault-is : both (markedFit bs) (soundMarked (markedIn bs)) ≡ true → {v : ℕ} → v ≡ pageOf a → handled up s root v code ≡ handleFault up s root a code
     unfolding handleFault
     fault-is k e = rw (h, both-true (markedFit bs) (soundMarked (markedIn bs)) k .1, e)
+
+-- ---- what it found
+
+module _ (up : ℕ) (s : Faulting) (root v code : ℕ) where
+  pub read-none : isWrite code ≡ false → protectedFound up s root v code ≡ noneFound
+  read-none h = rw h
+
+  module _ (h : isWrite code ≡ true) where
+    pub plain-none : hasKey pageKey v (listed (s .marked)) ≡ false → protectedFound up s root v code ≡ noneFound
+    plain-none k = rw (h, k)
+
+    pub copy-finds : hasKey pageKey v (listed (s .marked)) ≡ true → {u : Bool} → u ≡ isUser code → copyFound up (s .mem) root v u ≡ protectedFound up s root v code
+    copy-finds k e = rw (h, k, ← e)
+
+  pub reserved-none : isReserved code ≡ true → handledFound up s root v code ≡ noneFound
+  reserved-none h = rw h
+
+  module _ (h : isReserved code ≡ false) where
+    pub present-finds : isPresent code ≡ true → protectedFound up s root v code ≡ handledFound up s root v code
+    present-finds k = rw (h, k)
+
+    pub absent-none : isPresent code ≡ false → handledFound up s root v code ≡ noneFound
+    absent-none k = rw (h, k)
+
+module _ (up : ℕ) (m : Memory) (bs : List ℕ) (root a code : ℕ) where
+  pub broken-none : whole m root ≡ false → faultFound up (faulting m (markedIn bs)) root a code ≡ noneFound
+  unfolding faultFound
+  broken-none h = rw h
+
+  module _ (h : whole m root ≡ true) where
+    pub unsorted-none : both (markedFit bs) (soundMarked (markedIn bs)) ≡ false → markedFit bs ≡ true → faultFound up (faulting m (markedIn bs)) root a code ≡ noneFound
+    unfolding faultFound
+    unsorted-none k fit = let z : soundMarked (markedIn bs) ≡ false = rw fit at k in rw (h, z)
+
+    pub fault-finds : both (markedFit bs) (soundMarked (markedIn bs)) ≡ true → {v : ℕ} → v ≡ pageOf a
+        → handledFound up (faulting m (markedIn bs)) root v code ≡ faultFound up (faulting m (markedIn bs)) root a code
+    unfolding faultFound
+    fault-finds k e = rw (h, both-true (markedFit bs) (soundMarked (markedIn bs)) k .1, e)

@@ -6,6 +6,7 @@ use answer::Answer;
 use answer::Outcome;
 use frame::FrameAllocator;
 use frame::Marks;
+use frame::tallies;
 use paging::Entered;
 ghost use mathlib.Core.Path.{_≡_};
 ghost use mathlib.Core.Bool.{true};
@@ -18,8 +19,8 @@ ghost use Rattle.cow.specs.Marked.{soundMarked};
 ghost use Rattle.cow.specs.Packed.{markedIn, markedFit};
 ghost use Rattle.error_code.specs.ErrorCode.{isFetch};
 ghost use Rattle.copying.specs.Copying.{outOf};
-ghost use Rattle.fault.specs.Faults.{inHeap, valid, demandPage, protected as protectedBy, handled};
-ghost use Rattle.fault.specs.Packed.{onPages, faulted, FaultReads};
+ghost use Rattle.fault.specs.Faults.{inHeap, valid, demandPage, protected as protectedBy, handled, protectedFound, handledFound};
+ghost use Rattle.fault.specs.Packed.{onPages, foundOnPages, faulted, FaultReads};
 
 // The kernel's heap, and the end of user space.
 const HEAP_START: u64 = 0xFFFF_FF00_0000_0000;
@@ -119,39 +120,39 @@ fn protected(
         (now (marked .entry)) ⌝ }
     ensures { λ _. ⌜ FaultReads (λ s. protectedBy up s (root .0) (page .0) code) (lentMemory (now (words .entry)) (now (bitmap .entry)) frames)
         (now (marked .entry)) (now (marked .exit)) ⌝ }
+    ensures { λ r. ⌜ r .found ≡ foundOnPages (λ s. protectedFound up s (root .0) (page .0) code) (lentMemory (now (words .entry)) (now (bitmap .entry)) frames)
+        (now (marked .entry)) ⌝ }
 {
     if !error_code::is_write(code) {
         return Faulted {
             answer: Answer::Refused(error_code::denied(code)),
+            found: tallies::none(),
             frames,
         };
     }
     if !cow::list::is_listed(marked, page.0) {
         return Faulted {
             answer: Answer::Refused(answer::WRITE_TO_READ_ONLY),
+            found: tallies::none(),
             frames,
         };
     }
-    let r = copying::copy_on_write(
-        words,
-        bitmap,
-        frames,
-        up,
-        root,
-        page,
-        error_code::is_user(code),
-    );
+    let user = error_code::is_user(code);
+    let r = copying::copy_on_write(words, bitmap, frames, up, root, page, user);
     let walked = r.walked;
+    let found = r.found;
     let left = r.frames;
     match walked {
         Outcome::Stop(n) => Faulted {
             answer: Answer::Refused(n),
+            found,
             frames: left,
         },
         Outcome::Value(_) => {
             cow::list::unmark(marked, page.0);
             Faulted {
                 answer: Answer::Met,
+                found,
                 frames: left,
             }
         }
@@ -177,10 +178,13 @@ pub fn handle(
         (now (marked .entry)) ⌝ }
     ensures { λ _. ⌜ FaultReads (λ s. handled up s (root .0) (page .0) code) (lentMemory (now (words .entry)) (now (bitmap .entry)) frames)
         (now (marked .entry)) (now (marked .exit)) ⌝ }
+    ensures { λ r. ⌜ r .found ≡ foundOnPages (λ s. handledFound up s (root .0) (page .0) code) (lentMemory (now (words .entry)) (now (bitmap .entry)) frames)
+        (now (marked .entry)) ⌝ }
 {
     if error_code::is_reserved(code) {
         return Faulted {
             answer: Answer::Refused(answer::RESERVED_BIT),
+            found: tallies::none(),
             frames,
         };
     }
@@ -190,8 +194,10 @@ pub fn handle(
     let r = demand_page(words, bitmap, frames, up, root, page, code);
     let walked = r.walked;
     let left = r.frames;
+    let none = tallies::none();
     Faulted {
         answer: mapper::inner::as_answer(walked),
+        found: none,
         frames: left,
     }
 }

@@ -6,14 +6,17 @@ use address::VirtAddr;
 use answer::Answer;
 use frame::FrameAllocator;
 use frame::Marks;
+use frame::Tally;
+use frame::tallies;
 ghost use mathlib.Core.Path.{_≡_};
 ghost use Rattle.paging.specs.Kept.{lentMemory};
 ghost use Rattle.fault.specs.Faults.{handleFaultOf};
-ghost use Rattle.fault.specs.Packed.{faultOn, faulted, FaultReads};
+ghost use Rattle.fault.specs.Packed.{faultOn, faultFoundOn, faulted, FaultReads};
 
-// The answer of the first path, beside the frame record that it leaves.
+// The answer of the first path, beside what a copy's old frame was found to be and the frame record that is left.
 pub struct Faulted {
     pub answer: Answer,
+    pub found: Tally,
     pub frames: FrameAllocator,
 }
 
@@ -31,16 +34,19 @@ pub fn handle_page_fault(
         ≡ faultOn (lentMemory (now (words .entry)) (now (bitmap .entry)) frames) (now (marked .entry)) (root .0) (addr .0) code ⌝ }
     ensures { λ _. ⌜ FaultReads (λ s. handleFaultOf s (root .0) (addr .0) code) (lentMemory (now (words .entry)) (now (bitmap .entry)) frames)
         (now (marked .entry)) (now (marked .exit)) ⌝ }
+    ensures { λ r. ⌜ r .found ≡ faultFoundOn (lentMemory (now (words .entry)) (now (bitmap .entry)) frames) (now (marked .entry)) (root .0) (addr .0) code ⌝ }
 {
     if !mapper::is_whole(words, bitmap, frames, root) {
         return Faulted {
             answer: Answer::Refused(answer::BROKEN_RECORD),
+            found: tallies::none(),
             frames,
         };
     }
     if !cow::list::is_sound(marked) {
         return Faulted {
             answer: Answer::Refused(answer::BROKEN_RECORD),
+            found: tallies::none(),
             frames,
         };
     }

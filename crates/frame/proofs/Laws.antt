@@ -22,6 +22,7 @@ use Rattle.bitmap.proofs.Marks.{is-marked, is-free, marked-true, marked-false, 
 use Rattle.bitmap.proofs.Search.{free-is-free, free-below-marked}
 use Rattle.frame.specs.declared.Found.{Found}
 use Rattle.frame.specs.declared.Found.the-variants.{Freed, AlreadyFree, NotHere}
+use Rattle.frame.specs.declared.FoundAnswer.the-variants.{Was, NoFound}
 use Rattle.frame.specs.Frames.{Frames, frames, FramesDid, framesDid, inside, sound, init, withMark, withoutMark, takeFrame, frameMarked, markFrame, giveFrame, isAllocated, markAllocated, allocate, deallocate, counted, RoomToCount, isLevels, unused}
 
 -- what a contract says of a call: what the code returns of it, and the bitmap that it leaves
@@ -288,11 +289,11 @@ module _ (fr : Frames) (n : ℕ) where
   unfolding markAllocated
   mark-whole h = rw h
 
-  pub deallocate-broken : sound fr ≡ false → deallocate fr n ≡ framesDid (Refused brokenRecord) fr
+  pub deallocate-broken : sound fr ≡ false → deallocate fr n ≡ framesDid (NoFound brokenRecord) fr
   unfolding deallocate
   deallocate-broken h = rw h
 
-  pub deallocate-whole : sound fr ≡ true → deallocate fr n ≡ framesDid Met (giveFrame fr n .frames)
+  pub deallocate-whole : sound fr ≡ true → deallocate fr n ≡ framesDid (Was (giveFrame fr n .answer)) (giveFrame fr n .frames)
   unfolding deallocate
   deallocate-whole h = rw h
 

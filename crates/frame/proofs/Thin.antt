@@ -43,7 +43,7 @@ use denote.Exit.{yes}
 use Rattle.frame.specs.declared.FrameAllocator.{FrameAllocator}
 use Rattle.bitmap.specs.Bitmap.{marksIn}
 use Rattle.frame.specs.Frames.{Frames, frames, lentFrames, FramesDid, framesDid}
-use Rattle.frame.specs.Results.{changed, allocated}
+use Rattle.frame.specs.Results.{changed, allocated, deallocated}
 use Rattle.answer.proofs.Answer as E
 use Rattle.answer.proofs.Answer.Laws as E′
 use Rattle.address.proofs.FrameAnswer as G
@@ -52,6 +52,10 @@ use Rattle.frame.proofs.Changed as O
 use Rattle.frame.proofs.Changed.Laws as O′
 use Rattle.frame.proofs.Allocated as P
 use Rattle.frame.proofs.Allocated.Laws as P′
+use Rattle.frame.proofs.FoundAnswer as F
+use Rattle.frame.proofs.FoundAnswer.Laws as F′
+use Rattle.frame.proofs.Deallocated as Q
+use Rattle.frame.proofs.Deallocated.Laws as Q′
 use Rattle.frame.proofs.FrameAllocator as T
 use Rattle.frame.proofs.FrameAllocator.Laws as T′
 use Rattle.frame.proofs.Passed.{Passed, Values, Fine, slots, rows, values, args, values-args, spells, tellss, spelled, vals, fine, own-all, keeps, stays, ends, has-all, fits, locals, operands, behind, after, rooms, make-own, make-has, goes-all, forgets⊢, alloc-all, pass-all, free-all, past, reads-all}
@@ -83,7 +87,7 @@ pub record Returned : Type 2 where
   pub shut : {M : Type 1} (𝓤 : URA M) (H : Heap 𝓤) (A : Atoms 𝓤) → Given 𝓤 H A → (x : FramesDid (Ans .Denot)) → ent 𝓤 (sem 𝓤 H A (fsep (Ans .own (x .answer) (ans (x .answer) ∷ [])) (fsep (T.the-row .own (x .frames .fa) (mach (x .frames .fa) ∷ [])) ftrue)))
       (sem 𝓤 H A (Out .own (made x) (vstruct (vcons (ans (x .answer)) (vcons (mach (x .frames .fa)) vnil)) ∷ [])))
 
--- `Changed`, and `Allocated`
+-- `Changed`, `Allocated` and `Deallocated`
 abbrev pub changes : Returned
 changes = record {
   Ans = E.the-row;
@@ -120,6 +124,25 @@ allocates = record {
   typed = λ 𝓤 H A W r w is. LL.lawful P.the-type P′.the-laws 𝓤 H A W .typed r (w ∷ []) is .0;
   opened = λ 𝓤 H A W r w. own-open 𝓤 H A W P.the-type P′.the-laws (r .answer, (r .frames, tt)) w;
   shut = λ 𝓤 H A W x. own-shut 𝓤 H A W P.the-type P′.the-laws (x .answer, (x .frames .fa, tt));
+}
+
+abbrev pub deallocates : Returned
+deallocates = record {
+  Ans = F.the-row;
+  ty = F′.mir;
+  ans = EL.val F.the-type F′.the-laws;
+  ans-tells = EL.tells F.the-type F′.the-laws;
+  ans-typed = λ 𝓤 H A W x w is. EL.lawful F.the-type F′.the-laws 𝓤 H A W tt .typed x (w ∷ []) is .0;
+  Out = Q.the-row;
+  name = Q.the-type .name;
+  answer = λ r. r .answer;
+  left = λ r. r .frames;
+  made = deallocated;
+  made-answer = λ x. refl;
+  made-left = λ x. refl;
+  typed = λ 𝓤 H A W r w is. LL.lawful Q.the-type Q′.the-laws 𝓤 H A W .typed r (w ∷ []) is .0;
+  opened = λ 𝓤 H A W r w. own-open 𝓤 H A W Q.the-type Q′.the-laws (r .answer, (r .frames, tt)) w;
+  shut = λ 𝓤 H A W x. own-shut 𝓤 H A W Q.the-type Q′.the-laws (x .answer, (x .frames .fa, tt));
 }
 
 -- a contract with no `requires` asks for `emp`

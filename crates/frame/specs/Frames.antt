@@ -18,6 +18,8 @@ use Rattle.bitmap.specs.Bitmap.{isMarked, freeFrom, mark, unmark, count, marksI
 use Rattle.frame.specs.declared.FrameAllocator.{FrameAllocator}
 use Rattle.frame.specs.declared.Found.{Found}
 use Rattle.frame.specs.declared.Found.the-variants.{Freed, AlreadyFree, NotHere}
+use Rattle.frame.specs.declared.FoundAnswer.{FoundAnswer}
+use Rattle.frame.specs.declared.FoundAnswer.the-variants.{Was, NoFound}
 
 -- the allocator as a call sees it: the bitmap words lent to it, and its record
 pub record Frames : Type 0 where
@@ -121,8 +123,9 @@ markAllocated fr n = unless (sound fr) (framesDid (Refused brokenRecord) fr) (fr
 unfoldable pub allocate : Frames → FramesDid FrameAnswer
 allocate fr = unless (sound fr) (framesDid (NoFrame brokenRecord) fr) (takeFrame fr)
 
-unfoldable pub deallocate : Frames → ℕ → FramesDid Answer
-deallocate fr n = unless (sound fr) (framesDid (Refused brokenRecord) fr) (framesDid Met (giveFrame fr n .frames))
+-- '`deallocate_frame` answers one of three' (document 02, slip 5)
+unfoldable pub deallocate : Frames → ℕ → FramesDid FoundAnswer
+deallocate fr n = unless (sound fr) (framesDid (NoFound brokenRecord) fr) (let d = giveFrame fr n in framesDid (Was (d .answer)) (d .frames))
 
 -- the three counts
 unfoldable pub counted : Frames → ℕ → Outcome

@@ -6,6 +6,8 @@ use Rattle.frame.specs.declared.Found.{Found}
 use Rattle.frame.specs.declared.Changed.{Changed}
 use Rattle.frame.specs.declared.Allocated.{Allocated}
 use Rattle.frame.specs.declared.Given.{Given}
+use Rattle.frame.specs.declared.FoundAnswer.{FoundAnswer}
+use Rattle.frame.specs.declared.Deallocated.{Deallocated}
 
 abbrev pub changed : FramesDid Answer → Changed
 changed d = record { answer = d .answer; frames = d .frames .fa }
@@ -15,3 +17,6 @@ allocated d = record { answer = d .answer; frames = d .frames .fa }
 
 abbrev pub given : FramesDid Found → Given
 given d = record { found = d .answer; frames = d .frames .fa }
+
+abbrev pub deallocated : FramesDid FoundAnswer → Deallocated
+deallocated d = record { answer = d .answer; frames = d .frames .fa }

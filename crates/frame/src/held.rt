@@ -1,6 +1,7 @@
 // The same calls for a caller that holds the record: it is lent to the call and comes back with the answer.
 use crate::Allocated;
 use crate::Changed;
+use crate::Deallocated;
 use crate::FrameAllocator;
 use crate::Marks;
 use crate::lent;
@@ -10,7 +11,7 @@ use answer::Outcome;
 ghost use mathlib.Core.Path.{_≡_};
 ghost use Rattle.bitmap.specs.Bitmap.{marksIn};
 ghost use Rattle.frame.specs.Frames.{lentFrames, init as initOf, isAllocated, markAllocated, allocate, deallocate, freeFrames, allocatedFrames, totalFrames};
-ghost use Rattle.frame.specs.Results.{changed, allocated as allocatedOf};
+ghost use Rattle.frame.specs.Results.{changed, allocated as allocatedOf, deallocated as deallocatedOf};
 
 pub fn init(frames: FrameAllocator, bitmap: &mut Marks, from: u64, to: u64) -> Changed
     ensures { λ r. ⌜ r ≡ changed (initOf (lentFrames (now (bitmap .entry)) frames) from to) ⌝ }
@@ -39,13 +40,13 @@ pub fn allocate_frame(frames: FrameAllocator, bitmap: &mut Marks) -> Allocated
     Allocated { answer, frames: fa }
 }
 
-pub fn deallocate_frame(frames: FrameAllocator, bitmap: &mut Marks, frame: Frame) -> Changed
-    ensures { λ r. ⌜ r ≡ changed (deallocate (lentFrames (now (bitmap .entry)) frames) (frame .0)) ⌝ }
+pub fn deallocate_frame(frames: FrameAllocator, bitmap: &mut Marks, frame: Frame) -> Deallocated
+    ensures { λ r. ⌜ r ≡ deallocatedOf (deallocate (lentFrames (now (bitmap .entry)) frames) (frame .0)) ⌝ }
     ensures { λ r. ⌜ marksIn (now (bitmap .exit)) ≡ deallocate (lentFrames (now (bitmap .entry)) frames) (frame .0) .frames .bits ⌝ }
 {
     let mut fa = frames;
     let answer = lent::deallocate_frame(&mut fa, bitmap, frame);
-    Changed { answer, frames: fa }
+    Deallocated { answer, frames: fa }
 }
 
 pub fn is_allocated(frames: FrameAllocator, bitmap: &Marks, number: u64) -> FlagAnswer

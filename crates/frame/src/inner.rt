@@ -3,13 +3,16 @@ use crate::Allocated;
 use crate::Found;
 use crate::FrameAllocator;
 use crate::Given;
+use crate::GivenBack;
 use crate::Marks;
+use crate::tallies;
 use address::Frame;
 use address::FrameAnswer;
 ghost use mathlib.Core.Path.{_≡_};
 ghost use Prim.Native.Nat.{_+_, _-_, _^_, _<_, _≤_};
 ghost use Rattle.bitmap.specs.Bitmap.{marked, marksIn};
 ghost use Rattle.frame.specs.Frames.{lentFrames, inside, withMark, RoomToCount, frameMarked, markFrame, takeFrame, giveFrame};
+ghost use Rattle.frame.specs.Found.{oneFound};
 ghost use Rattle.frame.specs.Results.{allocated as allocatedOf, given as givenOf};
 
 // Whether frame `number` is one of the `total` from `start` on: one comparison, since a difference that wraps is at least `total`.
@@ -96,6 +99,21 @@ pub fn give_frame(bitmap: &mut Marks, mut frames: FrameAllocator, frame: Frame) 
     Given {
         found: Found::Freed,
         frames,
+    }
+}
+
+// The same, with the tally of one frame.
+pub fn give_back(bitmap: &mut Marks, frames: FrameAllocator, frame: Frame) -> GivenBack
+    requires { ⌜ RoomToCount frames 0 ⌝ }
+    ensures { λ r. ⌜ lentFrames (now (bitmap .exit)) (r .frames) ≡ giveFrame (lentFrames (now (bitmap .entry)) frames) (frame .0) .frames ⌝ }
+    ensures { λ r. ⌜ r .found ≡ oneFound (giveFrame (lentFrames (now (bitmap .entry)) frames) (frame .0) .answer) ⌝ }
+{
+    let given = give_frame(bitmap, frames, frame);
+    let found = given.found;
+    let left = given.frames;
+    GivenBack {
+        found: tallies::one(found),
+        frames: left,
     }
 }
 

@@ -1,4 +1,5 @@
 // The calls on a record that is lent beside its bitmap. Those that change it hand it to the call by value and put back what that leaves; the reads write nothing.
+use crate::FoundAnswer;
 use crate::FrameAllocator;
 use crate::Marks;
 use address::Frame;
@@ -35,7 +36,7 @@ pub fn allocate_frame(fa: &mut FrameAllocator, bitmap: &mut Marks) -> FrameAnswe
     out.answer
 }
 
-pub fn deallocate_frame(fa: &mut FrameAllocator, bitmap: &mut Marks, frame: Frame) -> Answer
+pub fn deallocate_frame(fa: &mut FrameAllocator, bitmap: &mut Marks, frame: Frame) -> FoundAnswer
     ensures { λ r. ⌜ framesDid r (lentFrames (now (bitmap .exit)) (now (fa .exit)))
         ≡ deallocate (lentFrames (now (bitmap .entry)) (now (fa .entry))) (frame .0) ⌝ }
 {

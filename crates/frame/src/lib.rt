@@ -3,6 +3,7 @@
 pub mod held;
 pub mod inner;
 pub mod lent;
+pub mod tallies;
 
 use address::Frame;
 use address::FrameAnswer;
@@ -13,7 +14,7 @@ ghost use mathlib.Core.Path.{_≡_};
 ghost use Prim.Native.Nat.{min};
 ghost use Rattle.bitmap.specs.Bitmap.{marksIn};
 ghost use Rattle.frame.specs.Frames.{lentFrames, isLevels, unused, sound, init as initOf, isAllocated, markAllocated, allocate, deallocate, freeFrames, allocatedFrames, totalFrames};
-ghost use Rattle.frame.specs.Results.{changed, allocated as allocatedOf};
+ghost use Rattle.frame.specs.Results.{changed, allocated as allocatedOf, deallocated as deallocatedOf};
 
 pub const FRAME_SIZE: u64 = 4096;
 
@@ -59,9 +60,41 @@ pub enum Found {
     NotHere,
 }
 
+pub enum FoundAnswer {
+    Was(Found),
+    NoFound(u64),
+}
+
 pub struct Given {
     pub found: Found,
     pub frames: FrameAllocator,
+}
+
+pub struct Deallocated {
+    pub answer: FoundAnswer,
+    pub frames: FrameAllocator,
+}
+
+// How many frames that were given back were found to be each of the three.
+pub struct Tally {
+    pub freed: u64,
+    pub already_free: u64,
+    pub not_here: u64,
+}
+
+// The record after frames were given back, beside their tally.
+pub struct GivenBack {
+    pub found: Tally,
+    pub frames: FrameAllocator,
+}
+
+// What a call that frees prints: its number, 0 if met, and its tally.
+#[repr(C)]
+pub struct TallyLine {
+    pub number: u64,
+    pub freed: u64,
+    pub already_free: u64,
+    pub not_here: u64,
 }
 
 impl FrameAllocator {
@@ -159,20 +192,21 @@ impl FrameAllocator {
         inner::take_frame(bitmap, self)
     }
 
-    fn deallocate_frame(self, bitmap: &mut Marks, frame: Frame) -> Changed
-        ensures { λ r. ⌜ r ≡ changed (deallocate (lentFrames (now (bitmap .entry)) self) (frame .0)) ⌝ }
+    fn deallocate_frame(self, bitmap: &mut Marks, frame: Frame) -> Deallocated
+        ensures { λ r. ⌜ r ≡ deallocatedOf (deallocate (lentFrames (now (bitmap .entry)) self) (frame .0)) ⌝ }
         ensures { λ r. ⌜ marksIn (now (bitmap .exit)) ≡ deallocate (lentFrames (now (bitmap .entry)) self) (frame .0) .frames .bits ⌝ }
     {
         if !self.is_sound(bitmap) {
-            return Changed {
-                answer: Answer::Refused(answer::BROKEN_RECORD),
+            return Deallocated {
+                answer: FoundAnswer::NoFound(answer::BROKEN_RECORD),
                 frames: self,
             };
         }
         let given = inner::give_frame(bitmap, self, frame);
+        let found = given.found;
         let left = given.frames;
-        Changed {
-            answer: Answer::Met,
+        Deallocated {
+            answer: FoundAnswer::Was(found),
             frames: left,
         }
     }

@@ -17,10 +17,10 @@ use Rattle.frame.specs.Frames.{inside}
 use Rattle.paging.specs.Walk.{place}
 use Rattle.paging.specs.Map.{Memory, memory, startFrame, totalOf, Left, takeLeaf}
 use Rattle.paging.specs.Pages.{freed}
-use Rattle.paging.proofs.Map.{take-leaf-none}
+use Rattle.paging.proofs.Map.{set-own, take-leaf-none}
 use Rattle.tree.proofs.Ordered.{insideIn}
 use Rattle.freeing.specs.Freeing.{freeLeaf, freeLeaves, Blank}
-use Rattle.freeing.proofs.Fewer.{Fewer, set-own}
+use Rattle.freeing.proofs.Fewer.{Fewer}
 use Rattle.freeing.proofs.Less.{Less, less-refl, less-trans, leaf-less}
 
 -- none of n entries of table t from entry i on is present

@@ -25,11 +25,6 @@ pub fewer-trans : {a b c : List ℕ} → Fewer a b → Fewer b c → Fewer a c
 fewer-trans f g = record { from = λ x h. g .from x h ∙ f .from x (subst (λ (n : ℕ). flag 0 n ≡ true) (g .from x h) h) }
 
 -- a word set to 0
-pub set-own : (ws : List ℕ) (p : ℕ) → getD (set ws p 0) p 0 ≡ 0
-set-own [] p = refl
-set-own (w ∷ ws) zero = refl
-set-own (w ∷ ws) (suc p) = set-own ws p
-
 set-zero : (ws : List ℕ) (p x : ℕ) → (getD (set ws p 0) x 0 ≡ 0) ⊎ (getD (set ws p 0) x 0 ≡ getD ws x 0)
 set-zero [] p x = inr refl
 set-zero (w ∷ ws) zero zero = inl refl

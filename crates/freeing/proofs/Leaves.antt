@@ -3,13 +3,17 @@ use Prim.Native.Nat.{ℕ, suc, _+_, _-_, _*_, _<_, _≤_}
 use mathlib.Core.Path.{_≡_, sym, subst}
 use mathlib.Core.List.{List}
 use native.Mathlib.Omega.{arith}
-use Rattle.frame.specs.Frames.{giveFrame}
+use Rattle.frame.specs.declared.Tally.{Tally}
+use Rattle.frame.specs.Frames.{Frames, giveFrame}
+use Rattle.frame.specs.Found.{noneFound, oneFound}
 use Rattle.answer.specs.declared.Outcome.{Outcome}
 use Rattle.answer.specs.declared.Outcome.the-variants.{Value, Stop}
 use Rattle.paging.specs.Map.{Memory, memory, startFrame, totalOf, left, takeLeaf, RoomToTake}
 use Rattle.paging.specs.Pages.{freed}
+use Rattle.paging.specs.Found.{Tells}
 use Rattle.paging.proofs.Map.{take-leaf-length}
 use Rattle.paging.proofs.Pages.{give-roomy}
+use Rattle.paging.proofs.Found.{take-tells}
 use Rattle.freeing.specs.Freeing.{freeLeaf, freeLeaves}
 
 -- after `take_leaf`
@@ -21,6 +25,16 @@ module _ (m : Memory) (t i : ℕ) (ws : List ℕ) where
   pub leaf-freed : (f : ℕ) → takeLeaf (m .words) (startFrame m) (totalOf m) t i ≡ left (Value f) ws → freeLeaf m t i ≡ memory ws (giveFrame (m .frames) f .frames)
   unfolding freeLeaf
   leaf-freed f e = rw e
+
+-- .. and what it tells
+module _ (m : Memory) (t i : ℕ) (small : i < 512) (ws : List ℕ) where
+  pub leaf-told-none : (n : ℕ) → takeLeaf (m .words) (startFrame m) (totalOf m) t i ≡ left (Stop n) ws → {u : Tally} → u ≡ noneFound
+      → Tells m (memory ws (m .frames)) u
+  leaf-told-none n e h = rw h (rw e at (take-tells m t i small))
+
+  pub leaf-told : (f : ℕ) → takeLeaf (m .words) (startFrame m) (totalOf m) t i ≡ left (Value f) ws → {fr : Frames} {u : Tally}
+      → fr ≡ giveFrame (m .frames) f .frames → u ≡ oneFound (giveFrame (m .frames) f .answer) → Tells m (memory ws fr) u
+  leaf-told f e g h = rw (g, h) (rw e at (take-tells m t i small))
 
 -- the room that is left
 leaf-roomy : (m : Memory) (t i n : ℕ) → RoomToTake m n → RoomToTake (freeLeaf m t i) n

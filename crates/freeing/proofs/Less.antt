@@ -21,7 +21,8 @@ use Rattle.tree.proofs.Paths.{path, upper, last, path-split}
 use Rattle.tree.proofs.Walks.{entry-cases, reach-back}
 use Rattle.tree.proofs.Ordered.{reachIn}
 use Rattle.freeing.specs.Freeing.{freeLeaf}
-use Rattle.freeing.proofs.Fewer.{Fewer, fewer-refl, fewer-trans, fewer-set, set-own, fewer-entry, fewer-reach, fewer-stop}
+use Rattle.paging.proofs.Map.{set-own}
+use Rattle.freeing.proofs.Fewer.{Fewer, fewer-refl, fewer-trans, fewer-set, fewer-entry, fewer-reach, fewer-stop}
 
 pub record Less (m m′ : Memory) : Type 0 where
   pub start : startFrame m′ ≡ startFrame m

@@ -5,7 +5,9 @@ use address::Frame;
 use address::VirtAddr;
 use answer::Outcome;
 use frame::FrameAllocator;
+use frame::GivenBack;
 use frame::Marks;
+use frame::tallies;
 use spans::Span;
 ghost use mathlib.Core.Path.{_≡_};
 ghost use mathlib.Core.Bool.{true};
@@ -18,6 +20,7 @@ ghost use Rattle.frame.specs.Frames.{inside};
 ghost use Rattle.paging.specs.Walk.{WordsLent, reach};
 ghost use Rattle.paging.specs.Map.{RoomToTake};
 ghost use Rattle.paging.specs.Pages.{freePages};
+ghost use Rattle.paging.specs.Found.{Tells};
 ghost use Rattle.paging.specs.Levels.{mostAbove};
 ghost use Rattle.paging.specs.Kept.{lentMemory};
 ghost use Rattle.freeing.specs.Freeing.{Blank, Barren};
@@ -93,16 +96,24 @@ fn free_below(
     ensures { λ r. ⌜ r .done ≤ n ⌝ }
     ensures { λ r. ⌜ lentMemory (now (words .exit)) (now (bitmap .exit)) (r .frames)
         ≡ freePages up (lentMemory (now (words .entry)) (now (bitmap .entry)) frames) (root .0) (virt .0) (r .done) ⌝ }
+    ensures { λ r. ⌜ Tells (lentMemory (now (words .entry)) (now (bitmap .entry)) frames)
+        (lentMemory (now (words .exit)) (now (bitmap .exit)) (r .frames)) (r .found) ⌝ }
 {
     let place = (t - frames.start) as usize;
     let i = entry::page_index(virt, 1) as u64;
     let k = wide(barren[place]);
     if i < k {
         let done = spans::at_most(spans::to_end(virt, 2) - (512 - k) * 512, n);
-        return Freed { done, frames };
+        return Freed {
+            done,
+            found: tallies::none(),
+            frames,
+        };
     }
     let done = spans::at_most(spans::to_end(virt, 1), n);
-    let left = run::free_run(words, bitmap, empty, frames, up, root, virt, done);
+    let pages = run::free_run(words, bitmap, empty, frames, up, root, virt, done);
+    let found = pages.found;
+    let left = pages.frames;
     if i == k && done == 512 {
         match find_above(words, left.start, left.total, up, root, virt) {
             Outcome::Stop(_) => {}
@@ -111,7 +122,11 @@ fn free_below(
             }
         }
     }
-    Freed { done, frames: left }
+    Freed {
+        done,
+        found,
+        frames: left,
+    }
 }
 
 // Some of n pages from `virt` on, at least one: below a table with one level below it, or those that a look tells of where there is no such table.
@@ -139,6 +154,8 @@ fn free_block(
     ensures { λ r. ⌜ r .done ≤ n ⌝ }
     ensures { λ r. ⌜ lentMemory (now (words .exit)) (now (bitmap .exit)) (r .frames)
         ≡ freePages up (lentMemory (now (words .entry)) (now (bitmap .entry)) frames) (root .0) (virt .0) (r .done) ⌝ }
+    ensures { λ r. ⌜ Tells (lentMemory (now (words .entry)) (now (bitmap .entry)) frames)
+        (lentMemory (now (words .exit)) (now (bitmap .exit)) (r .frames)) (r .found) ⌝ }
 {
     match find_above(words, frames.start, frames.total, up, root, virt) {
         Outcome::Stop(_) => {}
@@ -152,8 +169,14 @@ fn free_block(
         span_length(words, frames.start, frames.total, up, root, virt),
         n,
     );
-    let left = run::free_run(words, bitmap, empty, frames, up, root, virt, done);
-    Freed { done, frames: left }
+    let pages = run::free_run(words, bitmap, empty, frames, up, root, virt, done);
+    let found = pages.found;
+    let left = pages.frames;
+    Freed {
+        done,
+        found,
+        frames: left,
+    }
 }
 
 // The same as `free_run`, by blocks: the pages of one table with one level below it are passed over at once where it was gone through before. A lent record may lead
@@ -167,17 +190,20 @@ pub fn free_blocks(
     root: Frame,
     virt: VirtAddr,
     n: u64,
-) -> FrameAllocator
+) -> GivenBack
     requires { ⌜ RoomToTake (lentMemory (now words) (now bitmap) frames) 0 ⌝ }
     requires { ⌜ Blank (now words) (marksIn (now empty)) ⌝ }
     requires { ⌜ virt .0 + n * 4096 < 2 ^ 64 ⌝ }
     requires { ⌜ 1 ≤ up ⌝ }
     requires { ⌜ up ≤ mostAbove ⌝ }
-    ensures { λ r. ⌜ lentMemory (now (words .exit)) (now (bitmap .exit)) r
+    ensures { λ r. ⌜ lentMemory (now (words .exit)) (now (bitmap .exit)) (r .frames)
         ≡ freePages up (lentMemory (now (words .entry)) (now (bitmap .entry)) frames) (root .0) (virt .0) n ⌝ }
+    ensures { λ r. ⌜ Tells (lentMemory (now (words .entry)) (now (bitmap .entry)) frames)
+        (lentMemory (now (words .exit)) (now (bitmap .exit)) (r .frames)) (r .found) ⌝ }
 {
     let mut barren: Counts = [0u16; 8192];
     let mut left = frames;
+    let mut found = tallies::none();
     let mut done = 0;
     while done < n {
         let step = free_block(
@@ -191,8 +217,13 @@ pub fn free_blocks(
             VirtAddr(virt.0 + done * 4096),
             n - done,
         );
+        let more = step.found;
         left = step.frames;
+        found = tallies::and(found, more);
         done = done + step.done;
     }
-    left
+    GivenBack {
+        found,
+        frames: left,
+    }
 }

@@ -5,11 +5,14 @@ mod run;
 use address::Frame;
 use address::VirtAddr;
 use frame::FrameAllocator;
+use frame::GivenBack;
 use frame::Marks;
+use frame::tallies;
 ghost use mathlib.Core.Path.{_≡_};
 ghost use Prim.Native.Nat.{_+_, _*_, _^_, _≤_, _<_};
 ghost use Rattle.paging.specs.Map.{RoomToTake};
 ghost use Rattle.paging.specs.Pages.{freePages};
+ghost use Rattle.paging.specs.Found.{pagesFound};
 ghost use Rattle.paging.specs.Levels.{mostAbove};
 ghost use Rattle.paging.specs.Kept.{lentMemory};
 
@@ -25,18 +28,26 @@ fn free_few(
     root: Frame,
     virt: VirtAddr,
     n: u64,
-) -> FrameAllocator
+) -> GivenBack
     requires { ⌜ RoomToTake (lentMemory (now words) (now bitmap) frames) 0 ⌝ }
     requires { ⌜ virt .0 + n * 4096 < 2 ^ 64 ⌝ }
     requires { ⌜ up ≤ mostAbove ⌝ }
-    ensures { λ r. ⌜ lentMemory (now (words .exit)) (now (bitmap .exit)) r
+    ensures { λ r. ⌜ lentMemory (now (words .exit)) (now (bitmap .exit)) (r .frames)
         ≡ freePages up (lentMemory (now (words .entry)) (now (bitmap .entry)) frames) (root .0) (virt .0) n ⌝ }
+    ensures { λ r. ⌜ r .found ≡ pagesFound up (lentMemory (now (words .entry)) (now (bitmap .entry)) frames) (root .0) (virt .0) n ⌝ }
 {
     let mut left = frames;
+    let mut found = tallies::none();
     for i in 0..n {
-        left = pages::free_page(words, bitmap, left, up, root, VirtAddr(virt.0 + i * 4096));
+        let page = pages::free_page(words, bitmap, left, up, root, VirtAddr(virt.0 + i * 4096));
+        let more = page.found;
+        left = page.frames;
+        found = tallies::and(found, more);
     }
-    left
+    GivenBack {
+        found,
+        frames: left,
+    }
 }
 
 // The same, by what is found at once. `free_blocks` is called from two places, so that the compiler leaves it a function of its own: it has 16 KB of counts, which
@@ -49,12 +60,13 @@ fn free_many(
     root: Frame,
     virt: VirtAddr,
     n: u64,
-) -> FrameAllocator
+) -> GivenBack
     requires { ⌜ RoomToTake (lentMemory (now words) (now bitmap) frames) 0 ⌝ }
     requires { ⌜ virt .0 + n * 4096 < 2 ^ 64 ⌝ }
     requires { ⌜ up ≤ mostAbove ⌝ }
-    ensures { λ r. ⌜ lentMemory (now (words .exit)) (now (bitmap .exit)) r
+    ensures { λ r. ⌜ lentMemory (now (words .exit)) (now (bitmap .exit)) (r .frames)
         ≡ freePages up (lentMemory (now (words .entry)) (now (bitmap .entry)) frames) (root .0) (virt .0) n ⌝ }
+    ensures { λ r. ⌜ r .found ≡ pagesFound up (lentMemory (now (words .entry)) (now (bitmap .entry)) frames) (root .0) (virt .0) n ⌝ }
 {
     let most = spans::at_most(n, spans::all_pages(up));
     let mut empty: Marks = [0u8; 1024];
@@ -76,12 +88,13 @@ pub fn free_pages(
     root: Frame,
     virt: VirtAddr,
     n: u64,
-) -> FrameAllocator
+) -> GivenBack
     requires { ⌜ RoomToTake (lentMemory (now words) (now bitmap) frames) 0 ⌝ }
     requires { ⌜ virt .0 + n * 4096 < 2 ^ 64 ⌝ }
     requires { ⌜ up ≤ mostAbove ⌝ }
-    ensures { λ r. ⌜ lentMemory (now (words .exit)) (now (bitmap .exit)) r
+    ensures { λ r. ⌜ lentMemory (now (words .exit)) (now (bitmap .exit)) (r .frames)
         ≡ freePages up (lentMemory (now (words .entry)) (now (bitmap .entry)) frames) (root .0) (virt .0) n ⌝ }
+    ensures { λ r. ⌜ r .found ≡ pagesFound up (lentMemory (now (words .entry)) (now (bitmap .entry)) frames) (root .0) (virt .0) n ⌝ }
 {
     if n <= FEW {
         return free_few(words, bitmap, frames, up, root, virt, n);

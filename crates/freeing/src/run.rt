@@ -3,7 +3,10 @@ use address::Frame;
 use address::VirtAddr;
 use answer::Outcome;
 use frame::FrameAllocator;
+use frame::GivenBack;
 use frame::Marks;
+use frame::Tally;
+use frame::tallies;
 use spans::Span;
 ghost use mathlib.Core.Path.{_≡_};
 ghost use mathlib.Core.Bool.{true};
@@ -13,13 +16,15 @@ ghost use Rattle.bitmap.specs.Bitmap.{marksIn};
 ghost use Rattle.frame.specs.Frames.{inside};
 ghost use Rattle.paging.specs.Map.{RoomToTake};
 ghost use Rattle.paging.specs.Pages.{freePages};
+ghost use Rattle.paging.specs.Found.{Tells};
 ghost use Rattle.paging.specs.Levels.{mostAbove};
 ghost use Rattle.paging.specs.Kept.{lentMemory};
 ghost use Rattle.freeing.specs.Freeing.{freeLeaf, freeLeaves, Blank};
 
-// How many pages were freed.
+// How many pages were gone through, and what their frames were found to be.
 pub struct Freed {
     pub done: u64,
+    pub found: Tally,
     pub frames: FrameAllocator,
 }
 
@@ -30,18 +35,20 @@ fn free_leaf(
     frames: FrameAllocator,
     t: u64,
     i: usize,
-) -> FrameAllocator
+) -> GivenBack
     requires { ⌜ RoomToTake (lentMemory (now words) (now bitmap) frames) 0 ⌝ }
     requires { ⌜ i < 512 ⌝ }
-    ensures { λ r. ⌜ lentMemory (now (words .exit)) (now (bitmap .exit)) r
+    ensures { λ r. ⌜ lentMemory (now (words .exit)) (now (bitmap .exit)) (r .frames)
         ≡ freeLeaf (lentMemory (now (words .entry)) (now (bitmap .entry)) frames) t i ⌝ }
+    ensures { λ r. ⌜ Tells (lentMemory (now (words .entry)) (now (bitmap .entry)) frames)
+        (lentMemory (now (words .exit)) (now (bitmap .exit)) (r .frames)) (r .found) ⌝ }
 {
     match mapper::inner::take_leaf(words, frames.start, frames.total, t, i) {
-        Outcome::Stop(_) => frames,
-        Outcome::Value(f) => {
-            let given = frame::inner::give_frame(bitmap, frames, Frame(f));
-            given.frames
-        }
+        Outcome::Stop(_) => GivenBack {
+            found: tallies::none(),
+            frames,
+        },
+        Outcome::Value(f) => frame::inner::give_back(bitmap, frames, Frame(f)),
     }
 }
 
@@ -53,17 +60,26 @@ fn free_leaves(
     t: u64,
     i: usize,
     n: u64,
-) -> FrameAllocator
+) -> GivenBack
     requires { ⌜ RoomToTake (lentMemory (now words) (now bitmap) frames) 0 ⌝ }
     requires { ⌜ i + n ≤ 512 ⌝ }
-    ensures { λ r. ⌜ lentMemory (now (words .exit)) (now (bitmap .exit)) r
+    ensures { λ r. ⌜ lentMemory (now (words .exit)) (now (bitmap .exit)) (r .frames)
         ≡ freeLeaves (lentMemory (now (words .entry)) (now (bitmap .entry)) frames) t i n ⌝ }
+    ensures { λ r. ⌜ Tells (lentMemory (now (words .entry)) (now (bitmap .entry)) frames)
+        (lentMemory (now (words .exit)) (now (bitmap .exit)) (r .frames)) (r .found) ⌝ }
 {
     let mut left = frames;
+    let mut found = tallies::none();
     for j in 0..n {
-        left = free_leaf(words, bitmap, left, t, i + j as usize);
+        let leaf = free_leaf(words, bitmap, left, t, i + j as usize);
+        let more = leaf.found;
+        left = leaf.frames;
+        found = tallies::and(found, more);
     }
-    left
+    GivenBack {
+        found,
+        frames: left,
+    }
 }
 
 // The same where `empty` marks tables without a present entry, which are passed over; a table that was gone through whole is one of them.
@@ -75,18 +91,23 @@ fn free_table(
     t: u64,
     i: usize,
     n: u64,
-) -> FrameAllocator
+) -> GivenBack
     requires { ⌜ RoomToTake (lentMemory (now words) (now bitmap) frames) 0 ⌝ }
     requires { ⌜ Blank (now words) (marksIn (now empty)) ⌝ }
     requires { ⌜ inside (frames .start) (frames .total) t ≡ true ⌝ }
     requires { ⌜ i + n ≤ 512 ⌝ }
-    ensures { λ r. ⌜ lentMemory (now (words .exit)) (now (bitmap .exit)) r
+    ensures { λ r. ⌜ lentMemory (now (words .exit)) (now (bitmap .exit)) (r .frames)
         ≡ freeLeaves (lentMemory (now (words .entry)) (now (bitmap .entry)) frames) t i n ⌝ }
+    ensures { λ r. ⌜ Tells (lentMemory (now (words .entry)) (now (bitmap .entry)) frames)
+        (lentMemory (now (words .exit)) (now (bitmap .exit)) (r .frames)) (r .found) ⌝ }
     ensures { λ _. ⌜ Blank (now (words .exit)) (marksIn (now (empty .exit))) ⌝ }
 {
     let place = (t - frames.start) as usize;
     if bitmap::is_marked(empty, place) {
-        return frames;
+        return GivenBack {
+            found: tallies::none(),
+            frames,
+        };
     }
     let left = free_leaves(words, bitmap, frames, t, i, n);
     if n == 512 {
@@ -116,18 +137,25 @@ fn free_span(
     ensures { λ r. ⌜ r .done ≤ n ⌝ }
     ensures { λ r. ⌜ lentMemory (now (words .exit)) (now (bitmap .exit)) (r .frames)
         ≡ freePages up (lentMemory (now (words .entry)) (now (bitmap .entry)) frames) (root .0) (virt .0) (r .done) ⌝ }
+    ensures { λ r. ⌜ Tells (lentMemory (now (words .entry)) (now (bitmap .entry)) frames)
+        (lentMemory (now (words .exit)) (now (bitmap .exit)) (r .frames)) (r .found) ⌝ }
 {
     match spans::find_span(words, frames.start, frames.total, up, root, virt) {
         Span::Gap(k) => Freed {
             done: spans::at_most(k, n),
+            found: tallies::none(),
             frames,
         },
         Span::Leaves(t, k) => {
             let i = entry::page_index(virt, 0);
             let done = spans::at_most(k, n);
+            let table = free_table(words, bitmap, empty, frames, t, i, done);
+            let found = table.found;
+            let left = table.frames;
             Freed {
                 done,
-                frames: free_table(words, bitmap, empty, frames, t, i, done),
+                found,
+                frames: left,
             }
         }
     }
@@ -143,16 +171,19 @@ pub fn free_run(
     root: Frame,
     virt: VirtAddr,
     n: u64,
-) -> FrameAllocator
+) -> GivenBack
     requires { ⌜ RoomToTake (lentMemory (now words) (now bitmap) frames) 0 ⌝ }
     requires { ⌜ Blank (now words) (marksIn (now empty)) ⌝ }
     requires { ⌜ virt .0 + n * 4096 < 2 ^ 64 ⌝ }
     requires { ⌜ up ≤ mostAbove ⌝ }
     ensures { λ _. ⌜ Blank (now (words .exit)) (marksIn (now (empty .exit))) ⌝ }
-    ensures { λ r. ⌜ lentMemory (now (words .exit)) (now (bitmap .exit)) r
+    ensures { λ r. ⌜ lentMemory (now (words .exit)) (now (bitmap .exit)) (r .frames)
         ≡ freePages up (lentMemory (now (words .entry)) (now (bitmap .entry)) frames) (root .0) (virt .0) n ⌝ }
+    ensures { λ r. ⌜ Tells (lentMemory (now (words .entry)) (now (bitmap .entry)) frames)
+        (lentMemory (now (words .exit)) (now (bitmap .exit)) (r .frames)) (r .found) ⌝ }
 {
     let mut left = frames;
+    let mut found = tallies::none();
     let mut done = 0;
     while done < n {
         let step = free_span(
@@ -165,8 +196,13 @@ pub fn free_run(
             VirtAddr(virt.0 + done * 4096),
             n - done,
         );
+        let more = step.found;
         left = step.frames;
+        found = tallies::and(found, more);
         done = done + step.done;
     }
-    left
+    GivenBack {
+        found,
+        frames: left,
+    }
 }

@@ -8,10 +8,14 @@ use borrow.Author.Tests.{eqb-true}
 use Rattle.bits.specs.Bit.{unless, both}
 use Rattle.bits.proofs.Choice.{pick-cases}
 use Rattle.answer.specs.Numbers.{answerLine}
+use Rattle.answer.specs.declared.Answer.{Answer}
+use Rattle.answer.specs.declared.Answer.the-variants.{Met, Refused}
 use Rattle.answer.specs.declared.Line.{Line}
 use Rattle.packed.proofs.RoundTrip.{Bytes}
 use Rattle.frame.specs.declared.Changed.{Changed}
 use Rattle.frame.specs.declared.FrameAllocator.{FrameAllocator}
+use Rattle.frame.specs.declared.Tally.{Tally}
+use Rattle.frame.specs.Found.{tallyLine, keyLine}
 use Rattle.bitmap.specs.Bitmap.{marksIn}
 use Rattle.paging.specs.Map.{Memory, Out}
 use Rattle.paging.specs.Calls.{asChanged}
@@ -48,6 +52,11 @@ contract-met {P} leftovers e h =
 -- .. where it has changed nothing
 pub contract-broken : {P : Type 0} (leftovers : List ℕ) {r : Line} {p : P} {d : Left P} → left r p ≡ d → (left r p ≡ d) × Unchanged leftovers p (left r p)
 contract-broken leftovers e = (e, λ _. refl)
+
+-- the line of a call that frees, beside its tally
+pub key-line : (a : Answer) (t : Tally) → keyLine (tallyLine a t) ≡ answerLine a
+key-line Met t = refl
+key-line (Refused n) t = refl
 
 -- ---- the frame record
 

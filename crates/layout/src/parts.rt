@@ -1,10 +1,12 @@
 // The frame record, taken out of packed bytes and put back.
 use answer::Line;
 use frame::FrameAllocator;
+use frame::TallyLine;
 ghost use mathlib.Core.Path.{_≡_};
 ghost use lib.ListN.{length};
 ghost use Rattle.answer.specs.Numbers.{brokenRecord, answerLine};
 ghost use Rattle.answer.specs.declared.Answer.the-variants.{Refused};
+ghost use Rattle.frame.specs.Found.{tallyLine, noneFound};
 ghost use Rattle.layout.specs.Parts.{fieldsSize, fieldsIn, fieldsOut};
 
 pub const FIELDS_SIZE: usize = 32;
@@ -16,6 +18,18 @@ pub fn broken() -> Line
     Line {
         number: answer::BROKEN_RECORD,
         value: 0,
+    }
+}
+
+// .. by a call that frees.
+pub fn broken_tally() -> TallyLine
+    ensures { λ r. ⌜ r ≡ tallyLine (Refused brokenRecord) noneFound ⌝ }
+{
+    TallyLine {
+        number: answer::BROKEN_RECORD,
+        freed: 0,
+        already_free: 0,
+        not_here: 0,
     }
 }
 

@@ -9,6 +9,8 @@ use Rattle.answer.specs.Outcomes.{asAnswer}
 use Rattle.answer.specs.declared.Answer.the-variants.{Refused}
 use Rattle.address.specs.declared.VirtAnswer.the-variants.{NoVirt}
 use Rattle.frame.specs.declared.FrameAllocator.{FrameAllocator}
+use Rattle.frame.specs.declared.Tally.{Tally}
+use Rattle.frame.specs.Found.{noneFound}
 use Rattle.packed.proofs.RoundTrip.{Bytes}
 use Rattle.answer.specs.declared.Outcome.{Outcome}
 use Rattle.answer.specs.declared.Outcome.the-variants.{Stop}
@@ -40,8 +42,11 @@ module _ (bm : List ℕ) {e : ℕ} {fr : FrameAllocator} {ws list : List ℕ} {d
   pub no-mapping-left : {r : Mmapped} → r ≡ record { answer = NoVirt e; frames = fr } → UserLeaves asVirt (mmapped r ws bm list) d
   no-mapping-left q = subst (λ (x : Mmapped). UserLeaves asVirt (mmapped x ws bm list) d) (sym q) (leaves-alone asVirt b fit h)
 
-  pub not-unmapped-left : {r : Munmapped} → r ≡ record { answer = Refused e; frames = fr } → UserLeaves asAnswer (munmapped r ws bm list) d
+  pub not-unmapped-left : {r : Munmapped} → r ≡ record { answer = Refused e; found = noneFound; frames = fr } → UserLeaves asAnswer (munmapped r ws bm list) d
   not-unmapped-left q = subst (λ (x : Munmapped). UserLeaves asAnswer (munmapped x ws bm list) d) (sym q) (leaves-alone asAnswer b fit h)
+
+pub not-unmapped-found : {r : Munmapped} {e : ℕ} {fr : FrameAllocator} {t : Tally} → r ≡ record { answer = Refused e; found = noneFound; frames = fr } → t ≡ noneFound → r .found ≡ t
+not-unmapped-found q e = ap (λ (x : Munmapped). x .found) q ∙ sym e
 
 module _ {A : Type 0} (told : Outcome → A) (call : User → UserDid) (m : Memory) (list : List ℕ) where
   -- a call on bytes that stand for a list

@@ -10,17 +10,20 @@ use lib.IntN.{ℤ}
 use lib.Dec.{lit≤}
 use lib.ListN.{length}
 use borrow.Author.Tests.{eq-eqb, ne-eqb, le-leb, lt-leb}
+use Rattle.bits.specs.Bit.{both}
 use Rattle.bits.proofs.Choice.{both-true}
 use Rattle.allocator.specs.Round.{rounded, roundUp, lastPage}
 use Rattle.allocator.proofs.Round.{rounded-met, rounded-above, round-multiple, round-last}
 use Rattle.answer.specs.Numbers.{sizeZero, unaligned, tooLarge, brokenRecord, mapPageFailed, regionNotFound, listFull}
 use Rattle.answer.specs.declared.Outcome.the-variants.{Value, Stop}
 use Rattle.answer.specs.declared.Outcome.{Outcome}
-use Rattle.paging.specs.Levels.{mostLevels, mostAbove}
+use Rattle.frame.specs.Found.{noneFound}
+use Rattle.paging.specs.Levels.{mostLevels, mostAbove, aboveLast}
 use Rattle.paging.specs.Walk.{WordsLent}
 use Rattle.paging.specs.Map.{Memory, startFrame, totalOf, out, RoomToTake}
 use Rattle.paging.specs.Calls.{whole}
 use Rattle.paging.specs.Pages.{Ran, ran, mapFresh, mapPages, clearPages, freePages}
+use Rattle.paging.specs.Found.{pagesFound}
 use Rattle.paging.proofs.Pages.{map-pages-none, map-pages-on, map-pages-stop, map-pages-roomy}
 use Rattle.paging.proofs.Map.{roomy-less, roomy-lent}
 use Rattle.slots.specs.Slots.{listed, store}
@@ -31,8 +34,8 @@ use Rattle.mappings.specs.Packed.{mmapFit, soundList}
 use Rattle.mmap.specs.declared.OptAddr.{OptAddr}
 use Rattle.mmap.specs.declared.OptAddr.the-variants.{NoAddr, SomeAddr}
 use Rattle.mmap.specs.Flags.{fixed}
-use Rattle.mmap.specs.Packed.{userIn}
-use Rattle.mmap.specs.Calls.{User, user, userDid, soundUser, fixedAt, hintedAt, chosen, full, userPages, leftover, mapRegion, chosenRegion, mmap, unmapRegion, munmap}
+use Rattle.mmap.specs.Packed.{userIn, munmapFoundOn}
+use Rattle.mmap.specs.Calls.{User, user, userDid, soundUser, fixedAt, hintedAt, chosen, full, userPages, leftover, mapRegion, chosenRegion, mmap, unmapRegion, munmap, regionFound, munmapFound}
 
 -- ---- what is lent
 
@@ -209,6 +212,42 @@ module _ (up : ℕ) (s : User) (root a size : ℕ) where
         pub munmap-sized : (n : ℕ) → rounded size ≡ Value n → munmap up s root a size ≡ unmapRegion up s root a n
         unfolding munmap
         munmap-sized n r = rw (h, ne-eqb _ _ k, eq-eqb _ _ o, r)
+
+-- .. and what a munmap finds
+module _ (up : ℕ) (s : User) (root a n : ℕ) where
+  pub tally-none : holds a n (listed (s .regions)) ≡ false → regionFound up s root a n ≡ noneFound
+  tally-none h = rw h
+
+  pub tally-met : holds a n (listed (s .regions)) ≡ true → regionFound up s root a n ≡ pagesFound up (s .mem) root a (n / 4096)
+  tally-met h = rw h
+
+module _ (m : Memory) (list : List ℕ) (root a size : ℕ) where
+  pub tally-broken : both (mmapFit list) (soundUser (userIn m list) root) ≡ false → munmapFoundOn m list root a size ≡ noneFound
+  unfolding munmapFoundOn munmapFound
+  tally-broken h = by (mmapFit list) refl
+    where
+      by : (f : Bool) → mmapFit list ≡ f → munmapFoundOn m list root a size ≡ noneFound
+      by true e = rw (e, sym (ap (λ (f : Bool). both f (soundUser (userIn m list) root)) e) ∙ h)
+      by false e = rw e
+
+  module _ (fit : mmapFit list ≡ true) (h : soundUser (userIn m list) root ≡ true) where
+    pub tally-empty : size ≡ 0 → munmapFoundOn m list root a size ≡ noneFound
+    unfolding munmapFoundOn munmapFound
+    tally-empty z = rw (fit, h, eq-eqb _ _ z)
+
+    module _ (k : size ≡ 0 → ⊥) where
+      pub tally-odd : (a % 4096 ≡ 0 → ⊥) → munmapFoundOn m list root a size ≡ noneFound
+      unfolding munmapFoundOn munmapFound
+      tally-odd o = rw (fit, h, ne-eqb _ _ k, ne-eqb _ _ o)
+
+      module _ (o : a % 4096 ≡ 0) where
+        pub tally-large : (e : ℕ) → rounded size ≡ Stop e → munmapFoundOn m list root a size ≡ noneFound
+        unfolding munmapFoundOn munmapFound
+        tally-large e r = rw (fit, h, ne-eqb _ _ k, eq-eqb _ _ o, r)
+
+        pub tally-sized : (n : ℕ) → rounded size ≡ Value n → munmapFoundOn m list root a size ≡ regionFound (aboveLast m) (userIn m list) root a n
+        unfolding munmapFoundOn munmapFound
+        tally-sized n r = rw (fit, h, ne-eqb _ _ k, eq-eqb _ _ o, r)
 
 -- what a rounded size is
 pub rounded-whole : (size n : ℕ) → rounded size ≡ Value n → (n % 4096 ≡ 0) × (n ≤ lastPage)

@@ -10,11 +10,14 @@ use Rattle.allocator.specs.Round.{rounded, lastPage}
 use Rattle.answer.specs.Numbers.{sizeZero, unaligned, tooLarge, brokenRecord, mapPageFailed, regionNotFound, listFull}
 use Rattle.answer.specs.declared.Outcome.{Outcome}
 use Rattle.answer.specs.declared.Outcome.the-variants.{Value, Stop}
+use Rattle.frame.specs.declared.Tally.{Tally}
+use Rattle.frame.specs.Found.{noneFound}
 use Rattle.paging.specs.Levels.{aboveLast}
 use Rattle.paging.specs.Map.{Memory}
 use Rattle.paging.specs.Calls.{whole}
 use Rattle.slots.specs.Slots.{Slots, listed, store}
 use Rattle.paging.specs.Pages.{Ran, mapPages, clearPages, freePages}
+use Rattle.paging.specs.Found.{pagesFound}
 use Rattle.mappings.specs.declared.MappedRegion.{MappedRegion}
 use Rattle.mappings.specs.Regions.{mappedRegion, noMappedRegion, soundMappings, inTheWay, orPast, findFree, starts, insert, holds, remove}
 use Rattle.mmap.specs.declared.OptAddr.{OptAddr}
@@ -126,3 +129,22 @@ munmap up s root a size =
 -- on a board, by its own levels
 abbrev pub munmapOf : User → ℕ → ℕ → ℕ → UserDid
 munmapOf s root a size = munmap (aboveLast (s .mem)) s root a size
+
+-- what its frames were found to be, none where it is refused
+abbrev pub regionFound : ℕ → User → ℕ → ℕ → ℕ → Tally
+regionFound up s root a n = unless (holds a n (listed (s .regions))) noneFound (pagesFound up (s .mem) root a (n / 4096))
+
+abbrev pub unmappedFound : ℕ → User → ℕ → ℕ → Outcome → Tally
+unmappedFound up s root a (Value n) = regionFound up s root a n
+unmappedFound up s root a (Stop e) = noneFound
+
+-- 'munmap and vfree return how many frames fell in each', by munmap's checks
+unfoldable pub munmapFound : ℕ → User → ℕ → ℕ → ℕ → Tally
+munmapFound up s root a size =
+    unless (soundUser s root) noneFound
+    (pick (eqb size 0) noneFound
+    (unless (onPage a) noneFound
+    (unmappedFound up s root a (rounded size))))
+
+abbrev pub munmapFoundOf : User → ℕ → ℕ → ℕ → Tally
+munmapFoundOf s root a size = munmapFound (aboveLast (s .mem)) s root a size

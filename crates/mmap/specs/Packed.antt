@@ -10,6 +10,8 @@ use Rattle.answer.specs.Outcomes.{asAnswer}
 use Rattle.answer.specs.declared.Answer.{Answer}
 use Rattle.address.specs.declared.VirtAnswer.{VirtAnswer}
 use Rattle.frame.specs.declared.FrameAllocator.{FrameAllocator}
+use Rattle.frame.specs.declared.Tally.{Tally}
+use Rattle.frame.specs.Found.{noneFound}
 use Rattle.answer.specs.declared.Outcome.{Outcome}
 use Rattle.answer.specs.declared.Outcome.the-variants.{Stop}
 use Rattle.paging.specs.Map.{Memory}
@@ -20,7 +22,7 @@ use Rattle.mmap.specs.declared.OptAddr.{OptAddr}
 use Rattle.mmap.specs.declared.OptAddr.the-variants.{NoAddr, SomeAddr}
 use Rattle.mmap.specs.declared.Mmapped.{Mmapped}
 use Rattle.mmap.specs.declared.Munmapped.{Munmapped}
-use Rattle.mmap.specs.Calls.{User, user, UserDid, mmapOf, munmapOf}
+use Rattle.mmap.specs.Calls.{User, user, UserDid, mmapOf, munmapOf, munmapFoundOf}
 
 -- the address where one is given
 abbrev pub optAddr : Bool → ℕ → OptAddr
@@ -48,6 +50,10 @@ mmapOn m list root hint size prot flags = onMmapList asVirt (λ s. mmapOf s root
 
 abbrev pub munmapOn : Memory → List ℕ → ℕ → ℕ → ℕ → Kept Answer
 munmapOn m list root a size = onMmapList asAnswer (λ s. munmapOf s root a size) m list
+
+-- what a munmap finds on the list that packed bytes stand for
+unfoldable pub munmapFoundOn : Memory → List ℕ → ℕ → ℕ → ℕ → Tally
+munmapFoundOn m list root a size = unless (mmapFit list) noneFound (munmapFoundOf (userIn m list) root a size)
 
 -- what code returns, beside the words, bitmap and list that it was lent
 abbrev pub mmapped : Mmapped → List ℕ → List ℕ → List ℕ → Kept VirtAnswer

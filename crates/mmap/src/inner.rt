@@ -9,6 +9,7 @@ use answer::Answer;
 use answer::Outcome;
 use frame::FrameAllocator;
 use frame::Marks;
+use frame::tallies;
 use mappings::InTheWay;
 use mappings::MappedRegion;
 ghost use mathlib.Core.Path.{_≡_};
@@ -18,6 +19,7 @@ ghost use mathlib.Core.Logic.{_⊎_};
 ghost use lib.ListN.{length};
 ghost use Prim.Native.Nat.{ℕ, _+_, _-_, _*_, _%_, _^_, _<_, _≤_};
 ghost use Rattle.allocator.specs.Round.{lastPage};
+ghost use Rattle.frame.specs.Found.{noneFound};
 ghost use Rattle.paging.specs.Levels.{mostAbove};
 ghost use Rattle.paging.specs.Walk.{WordsLent};
 ghost use Rattle.paging.specs.Kept.{lentMemory};
@@ -28,7 +30,7 @@ ghost use Rattle.slots.specs.Slots.{listed};
 ghost use Rattle.mappings.specs.Regions.{findFree, starts};
 ghost use Rattle.mappings.specs.Packed.{mmapIn, nextIn, mmapFit, soundList};
 ghost use Rattle.mmap.specs.Flags.{writable, fixed};
-ghost use Rattle.mmap.specs.Calls.{soundUser, fixedAt, hintedAt, chosen, full, leftover, mapRegion, chosenRegion, unmapRegion};
+ghost use Rattle.mmap.specs.Calls.{soundUser, fixedAt, hintedAt, chosen, full, leftover, mapRegion, chosenRegion, unmapRegion, regionFound};
 ghost use Rattle.mmap.specs.Packed.{userIn, lentUser, mmapped, munmapped, UserLeaves};
 
 pub fn is_writable(prot: i32) -> bool
@@ -53,10 +55,11 @@ pub fn no_mapping(number: u64, frames: FrameAllocator) -> Mmapped
 }
 
 pub fn not_unmapped(number: u64, frames: FrameAllocator) -> Munmapped
-    ensures { λ r. ⌜ r ≡ record { answer = Answer.Refused number; frames = frames } ⌝ }
+    ensures { λ r. ⌜ r ≡ record { answer = Answer.Refused number; found = noneFound; frames = frames } ⌝ }
 {
     Munmapped {
         answer: Answer::Refused(number),
+        found: tallies::none(),
         frames,
     }
 }
@@ -263,16 +266,21 @@ pub fn unmap_region(
     requires { ⌜ soundUser (lentUser (now words) (now bitmap) frames (now list)) (root .0) ≡ true ⌝ }
     ensures { λ r. ⌜ UserLeaves asAnswer (munmapped r (now (words .exit)) (now (bitmap .exit)) (now (list .exit)))
         (unmapRegion (frames .levels - 1) (lentUser (now (words .entry)) (now (bitmap .entry)) frames (now (list .entry))) (root .0) (addr .0) n) ⌝ }
+    ensures { λ r. ⌜ r .found
+        ≡ regionFound (frames .levels - 1) (lentUser (now (words .entry)) (now (bitmap .entry)) frames (now (list .entry))) (root .0) (addr .0) n ⌝ }
 {
     let at = mappings::list::place_of(list, addr.0);
     if !mappings::list::holds_at(list, at, addr.0, n) {
         return not_unmapped(answer::REGION_NOT_FOUND, frames);
     }
     let up = frames.levels - 1;
-    let left = freeing::free_pages(words, bitmap, frames, up, root, addr, n / 4096);
+    let given = freeing::free_pages(words, bitmap, frames, up, root, addr, n / 4096);
+    let found = given.found;
+    let left = given.frames;
     mappings::list::remove_at(list, at);
     Munmapped {
         answer: Answer::Met,
+        found,
         frames: left,
     }
 }

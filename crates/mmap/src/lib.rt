@@ -8,12 +8,13 @@ use answer::Answer;
 use answer::Outcome;
 use frame::FrameAllocator;
 use frame::Marks;
+use frame::Tally;
 ghost use mathlib.Core.Path.{_≡_};
 ghost use Rattle.bits.specs.Bit.{both};
 ghost use Rattle.paging.specs.Kept.{lentMemory};
 ghost use Rattle.mappings.specs.Packed.{mmapFit};
 ghost use Rattle.mmap.specs.Calls.{soundUser, mmapOf, munmapOf};
-ghost use Rattle.mmap.specs.Packed.{optAddr, lentUser, mmapOn, munmapOn, mmapped, munmapped, UserReads};
+ghost use Rattle.mmap.specs.Packed.{optAddr, lentUser, mmapOn, munmapOn, munmapFoundOn, mmapped, munmapped, UserReads};
 
 pub const PROT_READ: i32 = 0x1;
 
@@ -46,8 +47,10 @@ pub struct Mmapped {
     pub frames: FrameAllocator,
 }
 
+// .. and with what the frames of its pages were found to be.
 pub struct Munmapped {
     pub answer: Answer,
+    pub found: Tally,
     pub frames: FrameAllocator,
 }
 
@@ -115,6 +118,7 @@ pub fn munmap(
         ≡ munmapOn (lentMemory (now (words .entry)) (now (bitmap .entry)) frames) (now (list .entry)) (root .0) (addr .0) size ⌝ }
     ensures { λ _. ⌜ UserReads (λ s. munmapOf s (root .0) (addr .0) size)
         (lentMemory (now (words .entry)) (now (bitmap .entry)) frames) (now (list .entry)) (now (list .exit)) ⌝ }
+    ensures { λ r. ⌜ r .found ≡ munmapFoundOn (lentMemory (now (words .entry)) (now (bitmap .entry)) frames) (now (list .entry)) (root .0) (addr .0) size ⌝ }
 {
     if !is_whole(words, bitmap, frames, root, list) {
         return inner::not_unmapped(answer::BROKEN_RECORD, frames);

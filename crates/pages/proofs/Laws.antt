@@ -12,9 +12,8 @@ use Rattle.address.specs.declared.FrameAnswer.the-variants.{AtFrame, NoFrame}
 use Rattle.entry.specs.Entry.{entryOf}
 use Rattle.frame.specs.declared.Allocated.{Allocated}
 use Rattle.frame.specs.declared.Changed.{Changed}
-use Rattle.frame.specs.declared.Given.{Given}
-use Rattle.frame.specs.Frames.{Frames, frames, takeFrame, giveFrame}
-use Rattle.frame.specs.Results.{allocated, given}
+use Rattle.frame.specs.Frames.{frames, takeFrame}
+use Rattle.frame.specs.Results.{allocated}
 use Rattle.answer.specs.declared.Outcome.{Outcome}
 use Rattle.answer.specs.declared.Outcome.the-variants.{Value, Stop}
 use Rattle.paging.specs.Walk.{place}
@@ -126,8 +125,3 @@ module _ (root v i n : ℕ) (over : n ≤ i) (m : Memory) where
 
 pub unmapped : {l : Left} {w w′ : Outcome} {ws : List ℕ} → w ≡ l .walked → ws ≡ l .words → w ≡ w′ → l ≡ left w′ ws
 unmapped a b c = λ j. left ((sym a ∙ c) j) (sym b j)
-
--- the frame that was given back
-pub given-back : (ws : List ℕ) (fr : Frames) (f : ℕ) {r : Given} {bm : List ℕ} → r ≡ given (giveFrame fr f) → bm ≡ giveFrame fr f .frames .bits
-    → memory ws (frames bm (r .frames)) ≡ memory ws (giveFrame fr f .frames)
-given-back ws fr f a b = λ j. memory ws (frames (b j) (a j .frames))

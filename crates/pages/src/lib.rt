@@ -7,7 +7,9 @@ use answer::Answer;
 use answer::Outcome;
 use entry::paging::PageTableEntry;
 use frame::FrameAllocator;
+use frame::GivenBack;
 use frame::Marks;
+use frame::tallies;
 use paging::Entered;
 ghost use mathlib.Core.Path.{_≡_};
 ghost use mathlib.Core.List.{List};
@@ -15,6 +17,7 @@ ghost use Prim.Native.Nat.{ℕ, _+_, _*_, _^_, _<_, _≤_};
 ghost use Rattle.paging.specs.Walk.{WordsLent};
 ghost use Rattle.paging.specs.Map.{out, RoomToTake};
 ghost use Rattle.paging.specs.Pages.{ran, freshFrame, orFailed, mapFresh, mapPages, clearPage, freePage, clearPages};
+ghost use Rattle.paging.specs.Found.{pageFound};
 ghost use Rattle.paging.specs.Levels.{mostAbove, mostLevels};
 ghost use Rattle.paging.specs.Kept.{lentMemory};
 ghost use Rattle.pages.specs.Answers.{asOutcome};
@@ -164,18 +167,19 @@ pub fn free_page(
     up: u64,
     root: Frame,
     virt: VirtAddr,
-) -> FrameAllocator
+) -> GivenBack
     requires { ⌜ RoomToTake (lentMemory (now words) (now bitmap) frames) 0 ⌝ }
     requires { ⌜ up ≤ mostAbove ⌝ }
-    ensures { λ r. ⌜ lentMemory (now (words .exit)) (now (bitmap .exit)) r
+    ensures { λ r. ⌜ lentMemory (now (words .exit)) (now (bitmap .exit)) (r .frames)
         ≡ freePage up (lentMemory (now (words .entry)) (now (bitmap .entry)) frames) (root .0) (virt .0) ⌝ }
+    ensures { λ r. ⌜ r .found ≡ pageFound up (lentMemory (now (words .entry)) (now (bitmap .entry)) frames) (root .0) (virt .0) ⌝ }
 {
     match mapper::inner::unmap_leaf(words, frames.start, frames.total, up, root, virt) {
-        Outcome::Stop(_) => frames,
-        Outcome::Value(f) => {
-            let given = frame::inner::give_frame(bitmap, frames, Frame(f));
-            given.frames
-        }
+        Outcome::Stop(_) => GivenBack {
+            found: tallies::none(),
+            frames,
+        },
+        Outcome::Value(f) => frame::inner::give_back(bitmap, frames, Frame(f)),
     }
 }
 

@@ -35,6 +35,13 @@ goOn-cases P o k a b = go (o .walked) refl
 
 -- ---- words set to 0
 
+-- a word set to 0
+pub set-own : (ws : List ℕ) (p : ℕ) → getD (set ws p 0) p 0 ≡ 0
+set-own [] p = refl
+set-own (w ∷ ws) zero = refl
+set-own (w ∷ ws) (suc p) = set-own ws p
+
+-- .. and many
 pub clear-none : (ws : List ℕ) (at : ℕ) → clear ws at 0 ≡ ws
 unfolding clear
 clear-none ws at = refl

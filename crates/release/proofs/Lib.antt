@@ -15,3 +15,4 @@ pub mod Orders
 pub mod Window
 pub mod Half
 pub mod Theorem
+pub mod Found

@@ -40,6 +40,13 @@ perm-concat f (List·Permᴰ·swap {a = a} {b = b} {a′ = a′} {b′ = b′} {
     (subst (λ x. List·Permᴰ (f a ++ (f b ++ concat f l)) (f b ++ (f x ++ concat f l))) e (exchange (f a) (f b) (concat f l)))
 perm-concat f (List·Permᴰ·trans d d′) = List·Permᴰ·trans (perm-concat f d) (perm-concat f d′)
 
+-- a member in front
+pub perm-front : {A : Type 0} {x : A} (l : List A) → List·Memᴰ x l → (k : List A) × List·Permᴰ l (x ∷ k)
+perm-front [] m = absurd (List·Memᴰ·not-nil m)
+perm-front (y ∷ l) m =
+    ⊎-elim (λ e. (l, List·Permᴰ·cons (sym e) (Permᴰ·refl l)))
+    (λ q. let r = perm-front l q in (y ∷ r .0, List·Permᴰ·trans (List·Permᴰ·cons refl (r .1)) (List·Permᴰ·swap refl refl))) (List·Memᴰ·cases-cons m)
+
 -- the statement's reorderings
 pub reordered : {l k : List Region} → Reordered l k → List·Permᴰ l k
 reordered none = List·Permᴰ·nil

@@ -1,9 +1,10 @@
--- All live regions released, in whatever order: each release is met, and every two orders end in one board.
+-- All live regions released, in whatever order: each release is met and frees each frame of its region, and every two orders end in one board.
 use Prim.Native.Nat.{ℕ, _/_}
-use mathlib.Core.Path.{_≡_, refl, sym, _∙_, ap, subst}
+use mathlib.Core.Path.{_≡_, refl, sym, _∙_, ap, ap₂, subst}
 use mathlib.Core.Bool.{Bool, true, false}
-use mathlib.Core.List.{List, [], _∷_, foldl, foldl-append, List·Memᴰ·not-nil, List·Permᴰ, List·Permᴰ·trans, Permᴰ·symm}
+use mathlib.Core.List.{List, [], _∷_, map, foldl, foldl-append, List·Memᴰ·not-nil, List·Permᴰ, List·Permᴰ·trans, Permᴰ·symm}
 use Rattle.bits.specs.Bit.{pick}
+use Rattle.frame.specs.declared.Tally.{Tally}
 use Rattle.paging.specs.Map.{Memory}
 use Rattle.paging.specs.Pages.{freePage}
 use Rattle.tree.proofs.Orders.{one-end}
@@ -20,13 +21,14 @@ use Rattle.mappings.proofs.Rising.{holds-nothing}
 use Rattle.board.specs.Board.{Board}
 use Rattle.release.specs.Calls.{Call, after, events, isMet}
 use Rattle.release.specs.Demand3.{Region, kernelRegion, userRegion, startIs, sizeIs, Releases, by-vfree, by-munmap, EachReleased, done, next, Order, pagesOf, concat}
+use Rattle.release.specs.Found.{eachFound, wholeFreed}
 use Rattle.release.proofs.Lists.{perm-concat, reordered}
 use Rattle.release.proofs.Regions.{UserList}
 use Rattle.release.proofs.Paged.{run-is}
 use Rattle.release.proofs.Invariant.{Leftover, Inv, Tidy, inv-perm}
 use Rattle.release.proofs.Ends.{board, memoryAfter, kernelAfter, userAfter, Gave, kernel-gave, user-gave}
 
-gave : {up : ℕ} {b : Board} {k : List VMRegion} {u : List MappedRegion} {l : List Region} {left : Leftover} {r : Region} {c : Call} → Releases r c → Inv up left b k u (r ∷ l) → Gave up left b k u r l c
+pub gave : {up : ℕ} {b : Board} {k : List VMRegion} {u : List MappedRegion} {l : List Region} {left : Leftover} {r : Region} {c : Call} → Releases r c → Inv up left b k u (r ∷ l) → Gave up left b k u r l c
 gave (by-vfree {a = a} {n = n}) h = kernel-gave a n h
 gave (by-munmap {a = a} {n = n} {size = size} q) h = user-gave a n size q h
 
@@ -36,19 +38,21 @@ ended up b k u m = board b (foldl (memoryAfter up (b .root)) (b .mem) m) (foldl 
 
 pub record Ended (up : ℕ) (left : Leftover) (b : Board) (k : List VMRegion) (u : List MappedRegion) (m : List Region) (cs : List Call) : Type 0 where
   pub met : every (λ e. isMet (e .answer)) (events b cs) ≡ true
+  pub found : eachFound b cs ≡ map wholeFreed m
   pub leaves : after b cs ≡ ended up b k u m
   pub inv : Inv up left (ended up b k u m) (foldl kernelAfter k m) (foldl userAfter u m) []
 
 pub end-of : {m : List Region} {cs : List Call} → EachReleased m cs → {up : ℕ} {b : Board} {k : List VMRegion} {u : List MappedRegion} {left : Leftover} → Inv up left b k u m → Ended up left b k u m cs
-unfolding after events every
+unfolding after events every eachFound
 end-of done {up} {b} {k} {u} {left} h =
     let same : b ≡ board b (b .mem) k u = λ i. record { mem = b .mem; root = b .root; kernel = h .kernelIs i; user = h .userIs i; next = b .next; marked = b .marked } in
-    record { met = refl; leaves = same; inv = subst (λ (x : Board). Inv up left x k u []) same h }
+    record { met = refl; found = refl; leaves = same; inv = subst (λ (x : Board). Inv up left x k u []) same h }
 end-of (next {r = r} {c = c} {cs = cs} x xs) {up} {b} {k} {u} {left} h =
     let g = gave x h in
     let e = end-of xs (g .inv) in
     record {
       met = rw (g .met, g .leaves) (e .met);
+      found = ap₂ (λ (t : Tally) (ts : List Tally). t ∷ ts) (g .found) (ap (λ (y : Board). eachFound y cs) (g .leaves) ∙ e .found);
       leaves = ap (λ (y : Board). after y cs) (g .leaves) ∙ e .leaves;
       inv = e .inv;
     }

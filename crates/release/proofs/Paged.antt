@@ -6,17 +6,19 @@ use mathlib.Core.Logic.{⊎-elim}
 use mathlib.Core.List.{List, _∷_, _++_, List·Permᴰ}
 use native.Mathlib.Omega.{arith}
 use Rattle.answer.specs.Numbers.{noFreeFrame, mapPageFailed}
+use Rattle.frame.specs.Found.{tally}
 use Rattle.frame.proofs.Steps.{span-give}
 use Rattle.answer.specs.declared.Outcome.{Outcome}
 use Rattle.answer.specs.declared.Outcome.the-variants.{Value, Stop}
 use Rattle.paging.specs.Map.{Memory, startFrame}
 use Rattle.paging.specs.Pages.{Ran, mapFresh, mapPages, unmapLeaf, freePage, freePages, freed}
+use Rattle.paging.specs.Found.{pagesFound}
 use Rattle.frame.specs.Frames.{Frames}
 use Rattle.tree.proofs.Ordered.{PlainIn, Ordered}
 use Rattle.tree.proofs.Accounts.{Accounted}
 use Rattle.tree.proofs.Books.{Takes, none, more, takes-plain, takes-accounted, takes-live, takes-tabled, Live, live-perm, Tabled}
 use Rattle.tree.proofs.Taking.{take-met, take-number}
-use Rattle.tree.proofs.Runs.{run, map-pages-on, map-pages-stop, map-pages-met, free-all-plain, free-all-accounted, free-all-live, free-all-tabled, free-pages}
+use Rattle.tree.proofs.Runs.{run, map-pages-on, map-pages-stop, map-pages-met, free-all-plain, free-all-accounted, free-all-live, free-all-tabled, free-pages, free-pages-found}
 use Rattle.release.specs.Calls.{turnedAway}
 use Rattle.release.specs.Demand3.{pagesFrom}
 
@@ -105,6 +107,12 @@ paged-give {up} {m} {root} {pages} {lost} v n h =
       plain = free-all-plain (run v n) (g .account .order) (g .plain);
       live = free-all-live (run v n) pages (g .account .order) (g .live);
     })
+
+-- each frame is found marked
+pub paged-found : {up : ℕ} {m : Memory} {root : ℕ} {lost : List ℕ} (v n : ℕ) (pages : List ℕ) → Paged up m root (pagesFrom v n ++ pages) lost → pagesFound up m root v n ≡ tally n 0 0
+paged-found {up} {m} {root} {lost} v n pages h =
+    let g : Paged up m root (run v n ++ pages) lost = rw (run-is v n) h in
+    free-pages-found n v pages (g .account .order) (g .live)
 
 pub tabled-give : {up : ℕ} {m : Memory} {root : ℕ} {ever : List ℕ} (v n : ℕ) → Ordered m root (suc up) → Tabled m root up ever → Tabled (freePages up m root v n) root up ever
 tabled-give {up} {m} {root} v n o t = rw (free-pages up root n m v) (free-all-tabled (run v n) o t)

@@ -8,6 +8,7 @@ use Rattle.answer.specs.Numbers.{brokenRecord, answerLine}
 use Rattle.answer.specs.Outcomes.{asAnswer}
 use Rattle.answer.specs.declared.Answer.{Answer}
 use Rattle.address.specs.declared.FrameAnswer.{FrameAnswer}
+use Rattle.frame.specs.declared.FoundAnswer.{FoundAnswer}
 use Rattle.frame.specs.Frames.{Frames, FramesDid, isLevels, sound, allocate, deallocate, markAllocated, isAllocated, counted}
 use Rattle.frame.proofs.Laws.{sound-levels, init-cases}
 use Rattle.frame.proofs.Steps.{span-take, span-give, span-mark, span-with}
@@ -97,7 +98,7 @@ module _ (fr : Frames) where
 
   kept-deallocate : (n : ℕ) → deallocate fr n .frames .fa .levels ≡ fr .fa .levels
   unfolding deallocate
-  kept-deallocate n = pick-cases (λ (d : FramesDid Answer). d .frames .fa .levels ≡ fr .fa .levels) (sound fr) _ _ (λ _. span-give fr n .levels) (λ _. refl)
+  kept-deallocate n = pick-cases (λ (d : FramesDid FoundAnswer). d .frames .fa .levels ≡ fr .fa .levels) (sound fr) _ _ (λ _. span-give fr n .levels) (λ _. refl)
 
   kept-mark : (n : ℕ) → markAllocated fr n .frames .fa .levels ≡ fr .fa .levels
   unfolding markAllocated

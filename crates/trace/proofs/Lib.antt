@@ -3,3 +3,4 @@ pub mod Theorem
 pub mod Levels
 pub mod Shown
 pub mod Nine
+pub mod Found

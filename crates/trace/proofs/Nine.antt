@@ -20,6 +20,8 @@ use Rattle.answer.specs.declared.Outcome.the-variants.{Value, Stop}
 use Rattle.address.specs.Address.{aligned, asVirt, asPhys, asFrame, virtLine, physLine, frameLine}
 use Rattle.address.specs.declared.FrameAnswer.{FrameAnswer}
 use Rattle.entry.specs.Entry.{frameOf, indices, entryOf, hugeEntryOf}
+use Rattle.frame.specs.declared.FoundAnswer.{FoundAnswer}
+use Rattle.frame.specs.Found.{foundLine}
 use Rattle.frame.specs.Frames.{Frames, FramesDid, inside, sound, allocate, deallocate, markAllocated, isAllocated, counted}
 use Rattle.frame.proofs.Laws.{take-cases, init-cases}
 use Rattle.paging.specs.declared.Leaf.{Leaf}
@@ -416,7 +418,7 @@ no-nine b (userMayCall v write) =
 no-nine b allocateCall =
     pick-cases (λ (d : FramesDid FrameAnswer). frameLine (d .answer) .number ≡ 9 → ⊥) (sound (b .mem .frames)) _ _
     (λ _. take-cases (b .mem .frames) (λ (d : FramesDid FrameAnswer). frameLine (d .answer) .number ≡ 9 → ⊥) (λ _ _ _ _ e. omega arith) (λ _ e. omega arith)) (λ _ e. omega arith)
-no-nine b (deallocateCall n) = pick-cases (λ (d : FramesDid Answer). answerLine (d .answer) .number ≡ 9 → ⊥) (sound (b .mem .frames)) _ _ (λ _ e. omega arith) (λ _ e. omega arith)
+no-nine b (deallocateCall n) = pick-cases (λ (d : FramesDid FoundAnswer). foundLine (d .answer) .number ≡ 9 → ⊥) (sound (b .mem .frames)) _ _ (λ _ e. omega arith) (λ _ e. omega arith)
 no-nine b (markAllocatedCall n) = pick-cases (λ (d : FramesDid Answer). answerLine (d .answer) .number ≡ 9 → ⊥) (sound (b .mem .frames)) _ _ (λ _ e. omega arith) (λ _ e. omega arith)
 no-nine b (isAllocatedCall n) = pick-cases (λ (r : FlagAnswer). flagLine r .number ≡ 9 → ⊥) (sound (b .mem .frames)) _ _ (λ _ e. omega arith) (λ _ e. omega arith)
 no-nine b freeFramesCall = count-other (counted-other (b .mem .frames) _)

@@ -3,3 +3,4 @@ pub mod Untouched
 pub mod Levels
 pub mod Shown
 pub mod Nine
+pub mod Found

@@ -10,6 +10,7 @@ use Rattle.answer.specs.Outcomes.{asAnswer}
 use Rattle.address.specs.Address.{virtLine, physLine, frameLine, asFrame, asPhys, asVirt}
 use Rattle.frame.specs.Frames.{Frames, init, allocate, deallocate, markAllocated, isAllocated, freeFrames, allocatedFrames, totalFrames}
 use Rattle.frame.specs.Frames.{FramesDid}
+use Rattle.frame.specs.Found.{foundLine}
 use Rattle.answer.specs.declared.Outcome.{Outcome}
 use Rattle.paging.specs.declared.HugePageSize.{HugePageSize}
 use Rattle.paging.specs.Map.{Memory, memory, startFrame, totalOf, Out, Left}
@@ -120,7 +121,7 @@ play b (translateCall v) = played (physLine (asPhys (translate (levelsOf (b .mem
 play b (showTranslateCall v) = played (physLine (asPhys (showTranslate (levelsOf (b .mem)) (b .mem .words) (startFrame (b .mem)) (totalOf (b .mem)) (b .root) v .answer))) b
 play b (userMayCall v write) = played (flagLine (userMay (levelsOf (b .mem)) (b .mem .words) (startFrame (b .mem)) (totalOf (b .mem)) (b .root) v write)) b
 play b allocateCall = let d = allocate (b .mem .frames) in played (frameLine (d .answer)) (withFrames b (d .frames))
-play b (deallocateCall n) = byFrames b (deallocate (b .mem .frames) n)
+play b (deallocateCall n) = let d = deallocate (b .mem .frames) n in played (foundLine (d .answer)) (withFrames b (d .frames))
 play b (markAllocatedCall n) = byFrames b (markAllocated (b .mem .frames) n)
 play b (isAllocatedCall n) = played (flagLine (isAllocated (b .mem .frames) n)) b
 play b freeFramesCall = played (countLine (freeFrames (b .mem .frames))) b

@@ -7,8 +7,10 @@ use lib.ListN.{length, getD, take}
 use lib.Seq.{set-comm}
 use Rattle.answer.specs.Numbers.{notMapped}
 use Rattle.bitmap.proofs.Marks.{is-marked, unmark-comm}
+use Rattle.frame.specs.declared.Found.{Found}
 use Rattle.frame.specs.declared.Found.the-variants.{Freed}
 use Rattle.frame.specs.Frames.{FramesDid, withoutMark, giveFrame, withCounter}
+use Rattle.frame.specs.Found.{oneFound}
 use Rattle.frame.proofs.Laws.{inside-from, give-marked}
 use Rattle.answer.specs.declared.Outcome.{Outcome}
 use Rattle.answer.specs.declared.Outcome.the-variants.{Value, Stop}
@@ -16,6 +18,8 @@ use Rattle.paging.specs.Walk.{place}
 use Rattle.paging.specs.Map.{Memory, memory, startFrame, totalOf, Left, left, unmapEntry}
 use Rattle.paging.specs.Pages.{unmapLeaf, clearPage, freePage}
 use Rattle.paging.specs.Pages.{freed as freedOf}
+use Rattle.paging.specs.Found.{pageFound}
+use Rattle.paging.proofs.Found.{page-found}
 use Rattle.tree.proofs.Paths.{path, upper, last, length-path, length-upper, last-small, path-split, take-leads, same-path}
 use Rattle.tree.proofs.Walks.{place-table, place-index, reach-lead}
 use Rattle.tree.proofs.Tree.{stored}
@@ -66,6 +70,9 @@ module _ {m : Memory} {root up : ℕ} (o : Ordered m root (suc up)) (v t f : ℕ
   free-met =
       ap (λ (l : Left). memory (l .words) (freedOf (l .walked) (m .frames))) its-leaf
       ∙ ap (λ (d : FramesDid _). memory (stored (m .words) (startFrame m) t (last up v) 0) (d .frames)) gives
+
+  pub free-found : pageFound up m root v ≡ oneFound Freed
+  free-found = page-found up m root v f _ its-leaf ∙ ap (λ (d : FramesDid Found). oneFound (d .answer)) gives
 
   pub clear-met : clearPage up m root v ≡ cleared m t (last up v)
   unfolding clearPage

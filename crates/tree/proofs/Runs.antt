@@ -1,18 +1,21 @@
 -- Runs of pages: n pages from v on, taken one after the other or freed one after the other.
 use Prim.Native.Nat.{ℕ, zero, suc, _+_}
-use mathlib.Core.Path.{_≡_, refl, sym, _∙_, ap}
+use mathlib.Core.Path.{_≡_, refl, sym, _∙_, ap, ap₂}
 use mathlib.Core.Bool.{Bool}
-use mathlib.Core.List.{List, [], _∷_, _++_, foldl-append, List·Permᴰ·append-comm}
+use mathlib.Core.List.{List, [], _∷_, _++_, foldl-append, List·Memᴰ·head, List·Permᴰ·append-comm}
+use native.Mathlib.Omega.{arith}
 use Rattle.answer.specs.declared.Outcome.{Outcome}
 use Rattle.answer.specs.declared.Outcome.the-variants.{Value, Stop}
+use Rattle.frame.specs.Found.{tally, andFound}
 use Rattle.paging.specs.Map.{Memory}
 use Rattle.paging.specs.Pages.{Ran, mapFresh, mapPages, freePage, freePages}
+use Rattle.paging.specs.Found.{pagesFound}
 use Rattle.tree.proofs.Walks.{nowhere}
 use Rattle.tree.proofs.Ordered.{PlainIn, Ordered}
 use Rattle.tree.proofs.Accounts.{Accounted}
 use Rattle.tree.proofs.Books.{Takes, none, more, Live, Tabled}
 use Rattle.tree.proofs.Taking.{take-met}
-use Rattle.tree.proofs.Freeing.{free-ordered, free-plain, free-accounted, free-live, free-tabled, freeAll, pages-end}
+use Rattle.tree.proofs.Freeing.{way-to, free-found, free-ordered, free-plain, free-accounted, free-live, free-tabled, freeAll, pages-end}
 
 -- the addresses of n pages from v on
 abbrev pub run : ℕ → ℕ → List ℕ
@@ -74,6 +77,16 @@ pub free-pages : (up root n : ℕ) (m : Memory) (v : ℕ) → freePages up m roo
 unfolding freePages
 free-pages up root zero m v = refl
 free-pages up root (suc n) m v = free-pages up root n (freePage up m root v) (v + 4096)
+
+-- .. and finds each frame of pages that are reached, each once, to be freed
+pub free-pages-found : {root up : ℕ} (n : ℕ) {m : Memory} (v : ℕ) (k : List ℕ) → Ordered m root (suc up) → Live m root up (run v n ++ k) → pagesFound up m root v n ≡ tally n 0 0
+unfolding pagesFound
+free-pages-found zero v k o a = refl
+free-pages-found {root} {up} (suc n) {m} v k o a =
+    let b = a .here v (List·Memᴰ·head refl) in
+    let t = way-to up m root v (b .0) (b .1) in
+    let one : 1 + n ≡ suc n = omega arith in
+    ap₂ andFound (free-found o v (t .0) (b .0) (t .1) (b .1)) (free-pages-found n (v + 4096) k (free-ordered o v) (free-live o a)) ∙ ap (λ (x : ℕ). tally x 0 0) one
 
 -- two runs are freed in either order alike
 pub free-runs : {m : Memory} {root up : ℕ} → Ordered m root (suc up) → (v n v′ n′ : ℕ)

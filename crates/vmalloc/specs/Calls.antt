@@ -7,6 +7,8 @@ use Rattle.allocator.specs.Round.{rounded}
 use Rattle.answer.specs.Numbers.{sizeZero, brokenRecord, regionNotFound}
 use Rattle.answer.specs.declared.Outcome.{Outcome}
 use Rattle.answer.specs.declared.Outcome.the-variants.{Value, Stop}
+use Rattle.frame.specs.declared.Tally.{Tally}
+use Rattle.frame.specs.Found.{noneFound}
 use Rattle.paging.specs.Levels.{aboveLast}
 use Rattle.paging.specs.Map.{Memory}
 use Rattle.paging.specs.Calls.{whole}
@@ -14,6 +16,7 @@ use Rattle.slots.specs.Slots.{Slots, listed, store}
 use Rattle.regions.specs.declared.VMRegion.{VMRegion}
 use Rattle.regions.specs.Regions.{windowStart, windowEnd, noVmRegion, soundRegions, firstFit, takenSlots, usedSize, freeFirst, merge}
 use Rattle.paging.specs.Pages.{Ran, mapPages, freePages}
+use Rattle.paging.specs.Found.{pagesFound}
 
 -- what vmalloc and vfree are lent: words and frames, the root beside them, and the list
 pub record Kernel : Type 0 where
@@ -78,6 +81,21 @@ vfree up k root a =
 -- on a board, by its own levels
 abbrev pub vfreeOf : Kernel → ℕ → ℕ → KernelDid
 vfreeOf k root a = vfree (aboveLast (k .mem)) k root a
+
+-- what its frames were found to be, none where it is refused
+abbrev pub releasedFound : ℕ → Kernel → ℕ → ℕ → Outcome → Tally
+releasedFound up k root a (Value n) = pagesFound up (k .mem) root a (n / 4096)
+releasedFound up k root a (Stop e) = noneFound
+
+-- 'munmap and vfree return how many frames fell in each', by vfree's checks
+unfoldable pub vfreeFound : ℕ → Kernel → ℕ → ℕ → Tally
+vfreeFound up k root a =
+    unless (soundKernel k root) noneFound
+    (pick (eqb a 0) noneFound
+    (releasedFound up k root a (usedSize a (listed (k .regions)))))
+
+abbrev pub vfreeFoundOf : Kernel → ℕ → ℕ → Tally
+vfreeFoundOf k root a = vfreeFound (aboveLast (k .mem)) k root a
 
 abbrev pub isVmallocAddr : ℕ → Bool
 isVmallocAddr a = both (leb windowStart a) (ltb a windowEnd)

@@ -10,6 +10,8 @@ use Rattle.answer.specs.declared.Answer.{Answer}
 use Rattle.address.specs.declared.VirtAnswer.{VirtAnswer}
 use Rattle.answer.specs.declared.Outcome.{Outcome}
 use Rattle.answer.specs.declared.Outcome.the-variants.{Stop}
+use Rattle.frame.specs.declared.Tally.{Tally}
+use Rattle.frame.specs.Found.{noneFound}
 use Rattle.paging.specs.Levels.{aboveLast}
 use Rattle.paging.specs.Map.{Memory}
 use Rattle.address.specs.Address.{asVirt}
@@ -19,7 +21,7 @@ use Rattle.regions.specs.Regions.{firstFit, usedSize}
 use Rattle.vm_list.specs.Packed.{vmIn, vmOut, vmFit}
 use Rattle.vmalloc.specs.declared.Vmalloced.{Vmalloced}
 use Rattle.vmalloc.specs.declared.Vfreed.{Vfreed}
-use Rattle.vmalloc.specs.Calls.{Kernel, kernel, KernelDid, soundKernel, kernelPlaced, released, vmallocOf, vfreeOf}
+use Rattle.vmalloc.specs.Calls.{Kernel, kernel, KernelDid, soundKernel, kernelPlaced, released, releasedFound, vmallocOf, vfreeOf, vfreeFoundOf}
 
 -- what a call leaves, its list packed again
 abbrev pub keptKernel : {A : Type 0} → (Outcome → A) → KernelDid → Kept A
@@ -34,6 +36,10 @@ vmallocOn m list root size = onVmList asVirt (λ (k : Kernel). vmallocOf k root 
 
 abbrev pub vfreeOn : Memory → List ℕ → ℕ → ℕ → Kept Answer
 vfreeOn m list root a = onVmList asAnswer (λ (k : Kernel). vfreeOf k root a) m list
+
+-- what a vfree finds on the list that bytes stand for
+unfoldable pub vfreeFoundOn : Memory → List ℕ → ℕ → ℕ → Tally
+vfreeFoundOn m list root a = unless (vmFit list) noneFound (vfreeFoundOf (kernel m (vmIn list)) root a)
 
 -- what code returns, beside the words, bitmap and list that it was lent
 abbrev pub vmalloced : Vmalloced → List ℕ → List ℕ → List ℕ → Kept VirtAnswer
@@ -60,3 +66,6 @@ placedOn m list root n = kernelPlaced (aboveLast m) (kernel m (vmIn list)) root 
 
 abbrev pub releasedOn : Memory → List ℕ → ℕ → ℕ → KernelDid
 releasedOn m list root a = released (aboveLast m) (kernel m (vmIn list)) root a (usedSize a (listed (vmIn list)))
+
+abbrev pub releasedFoundOn : Memory → List ℕ → ℕ → ℕ → Tally
+releasedFoundOn m list root a = releasedFound (aboveLast m) (kernel m (vmIn list)) root a (usedSize a (listed (vmIn list)))

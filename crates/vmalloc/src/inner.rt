@@ -8,12 +8,13 @@ use answer::Answer;
 use answer::Outcome;
 use frame::FrameAllocator;
 use frame::Marks;
+use frame::tallies;
 ghost use mathlib.Core.Path.{_≡_};
 ghost use mathlib.Core.Bool.{true};
 ghost use Rattle.answer.specs.Outcomes.{asAnswer};
 ghost use Rattle.address.specs.Address.{asVirt};
 ghost use Rattle.paging.specs.Kept.{lentMemory};
-ghost use Rattle.vmalloc.specs.Packed.{keptKernel, vmalloced, vfreed, KernelStands, soundLent, placedOn, releasedOn};
+ghost use Rattle.vmalloc.specs.Packed.{keptKernel, vmalloced, vfreed, KernelStands, soundLent, placedOn, releasedOn, releasedFoundOn};
 
 // `size` bytes at the first free region large enough, its pages mapped; 15 where there is none. The region of a refused call is free, with its size cut.
 pub fn allocate(
@@ -86,21 +87,26 @@ pub fn free(
         ≡ keptKernel asAnswer (releasedOn (lentMemory (now (words .entry)) (now (bitmap .entry)) frames) (now (list .entry)) (root .0) (addr .0)) ⌝ }
     ensures { λ _. ⌜ KernelStands (releasedOn (lentMemory (now (words .entry)) (now (bitmap .entry)) frames) (now (list .entry)) (root .0) (addr .0))
         (now (list .exit)) ⌝ }
+    ensures { λ r. ⌜ r .found ≡ releasedFoundOn (lentMemory (now (words .entry)) (now (bitmap .entry)) frames) (now (list .entry)) (root .0) (addr .0) ⌝ }
 {
     let n = vm_list::count(list) as usize;
     let i = vm_list::find_used(list, n, addr.0);
     if i == n {
         return Vfreed {
             answer: Answer::Refused(answer::REGION_NOT_FOUND),
+            found: tallies::none(),
             frames,
         };
     }
     let r = vm_list::slot(list, i);
     let up = frames.levels - 1;
-    let left = freeing::free_pages(words, bitmap, frames, up, root, addr, r.size / 4096);
+    let given = freeing::free_pages(words, bitmap, frames, up, root, addr, r.size / 4096);
+    let found = given.found;
+    let left = given.frames;
     vm_list::free_region(list, n, i);
     Vfreed {
         answer: Answer::Met,
+        found,
         frames: left,
     }
 }

@@ -8,10 +8,12 @@ use answer::Answer;
 use answer::Outcome;
 use frame::FrameAllocator;
 use frame::Marks;
+use frame::Tally;
+use frame::tallies;
 ghost use mathlib.Core.Path.{_≡_};
 ghost use Rattle.paging.specs.Kept.{lentMemory};
 ghost use Rattle.vmalloc.specs.Calls.{vmallocOf, vfreeOf, isVmallocAddr};
-ghost use Rattle.vmalloc.specs.Packed.{vmallocOn, vfreeOn, vmalloced, vfreed, KernelReads, soundLent};
+ghost use Rattle.vmalloc.specs.Packed.{vmallocOn, vfreeOn, vfreeFoundOn, vmalloced, vfreed, KernelReads, soundLent};
 
 // What a vmalloc answers, and the frame record that it leaves.
 pub struct Vmalloced {
@@ -19,9 +21,10 @@ pub struct Vmalloced {
     pub frames: FrameAllocator,
 }
 
-// The same of a vfree.
+// The same of a vfree, with what the frames of its pages were found to be.
 pub struct Vfreed {
     pub answer: Answer,
+    pub found: Tally,
     pub frames: FrameAllocator,
 }
 
@@ -87,16 +90,19 @@ pub fn vfree(
         ≡ vfreeOn (lentMemory (now (words .entry)) (now (bitmap .entry)) frames) (now (list .entry)) (root .0) (addr .0) ⌝ }
     ensures { λ _. ⌜ KernelReads (λ k. vfreeOf k (root .0) (addr .0))
         (lentMemory (now (words .entry)) (now (bitmap .entry)) frames) (now (list .entry)) (now (list .exit)) ⌝ }
+    ensures { λ r. ⌜ r .found ≡ vfreeFoundOn (lentMemory (now (words .entry)) (now (bitmap .entry)) frames) (now (list .entry)) (root .0) (addr .0) ⌝ }
 {
     if !is_whole(words, bitmap, frames, root, list) {
         return Vfreed {
             answer: Answer::Refused(answer::BROKEN_RECORD),
+            found: tallies::none(),
             frames,
         };
     }
     if addr.0 == 0 {
         return Vfreed {
             answer: Answer::Refused(answer::REGION_NOT_FOUND),
+            found: tallies::none(),
             frames,
         };
     }

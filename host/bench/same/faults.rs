@@ -3,8 +3,8 @@
 use super::memory::Memory;
 use super::packed::{put, shift, word};
 use super::tables::entry;
-use super::{line, Answer, BROKEN, PAGE};
-use gadulnos::{Line, Marks};
+use super::{found, line, Answer, Giving, BROKEN, PAGE};
+use gadulnos::{Found, Line, Marks};
 
 const SLOTS: usize = 256;
 const BYTES: usize = 8 + 8 * SLOTS;
@@ -88,15 +88,15 @@ pub fn handle_page_fault(
     marked: &mut [u8],
     addr: u64,
     code: u64,
-) -> Line {
+) -> Found {
     match (sound(marked), Memory::sound(words, fields, bits, root)) {
-        (Some(n), Some(memory)) => line(first_path(memory, marked, n, page_of(addr), code)),
-        _ => Line::refused(BROKEN),
+        (Some(n), Some(memory)) => found(first_path(memory, marked, n, page_of(addr), code)),
+        _ => Found::refused(BROKEN),
     }
 }
 
 #[inline]
-fn first_path(mut memory: Memory, marked: &mut [u8], n: usize, page: u64, code: u64) -> Answer {
+fn first_path(mut memory: Memory, marked: &mut [u8], n: usize, page: u64, code: u64) -> Giving {
     let [present, write, user, reserved, fetch] = bits_of(code);
     if reserved {
         return Err(5);
@@ -110,20 +110,21 @@ fn first_path(mut memory: Memory, marked: &mut [u8], n: usize, page: u64, code: 
             return Err(7);
         }
         let frame = memory.frames.take()?;
-        return memory.map(page, 1, user, entry(frame * PAGE, write, user)).map_err(|_| 18);
+        memory.map(page, 1, user, entry(frame * PAGE, write, user)).map_err(|_| 18u64)?;
+        return Ok([0; 3]);
     }
     if !write {
         return Err(if fetch { 7 } else { 8 });
     }
     let k = find(marked, n, page).map_err(|_| 17u64)?;
-    copy(&mut memory, page, user)?;
+    let tally = copy(&mut memory, page, user)?;
     unmark(marked, n, k);
-    Ok(0)
+    Ok(tally)
 }
 
-/// A frame of its own for a page, with its words, by way of the temporary page.
+/// A frame of its own for a page, with its words, by way of the temporary page: what was found of the old one.
 #[inline]
-fn copy(memory: &mut Memory, page: u64, user: bool) -> Answer {
+fn copy(memory: &mut Memory, page: u64, user: bool) -> Giving {
     let frame = memory.frames.take()?;
     // Where a translation would find nothing there is nothing to unmap either.
     let _ = memory.unmap(TEMPORARY);
@@ -136,10 +137,12 @@ fn copy(memory: &mut Memory, page: u64, user: bool) -> Answer {
     }
     let _ = memory.unmap(TEMPORARY);
     source.ok_or(18u64)?;
+    let mut tally = [0; 3];
     if let Ok(old) = memory.unmap(page) {
-        memory.frames.free(old);
+        memory.frames.free(old, &mut tally);
     }
-    memory.map(page, 1, user, entry(frame * PAGE, true, user)).map_err(|_| 18)
+    memory.map(page, 1, user, entry(frame * PAGE, true, user)).map_err(|_| 18u64)?;
+    Ok(tally)
 }
 
 #[inline(never)]

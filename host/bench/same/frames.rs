@@ -1,8 +1,8 @@
 //! The frame record and its bitmap.
 
 use super::packed::{are_zero, put, word};
-use super::{is_levels, line, Answer, BROKEN};
-use gadulnos::{Line, Marks};
+use super::{is_levels, line, Answer, Tally, BROKEN};
+use gadulnos::{Finding, Line, Marks};
 
 /// A record that was tested.
 #[derive(Clone, Copy)]
@@ -108,23 +108,35 @@ impl<'a> Frames<'a> {
         Err(11)
     }
 
-    /// Marks a frame or frees it; only a bit that changes moves the counter.
+    /// Marks a frame or frees it; only a bit that changes moves the counter. Whether it changed, of a lent frame.
     #[inline]
-    fn set(&mut self, frame: u64, marked: bool) {
-        let Some(i) = self.record.place(frame) else { return };
+    fn set(&mut self, frame: u64, marked: bool) -> Option<bool> {
+        let i = self.record.place(frame)?;
         let (k, bit) = (i as usize / 64, 1 << (i % 64));
         let marks = word(self.bits, k);
         if (marks & bit != 0) == marked {
-            return;
+            return Some(false);
         }
         put(self.bits, k, marks ^ bit);
         let allocated = self.record.allocated;
         self.set_allocated(if marked { allocated + 1 } else { allocated - 1 });
+        Some(true)
     }
 
+    /// What is found of a frame that is freed.
     #[inline]
-    pub fn free(&mut self, frame: u64) {
-        self.set(frame, false);
+    fn find(&mut self, frame: u64) -> Finding {
+        match self.set(frame, false) {
+            Some(true) => Finding::Freed,
+            Some(false) => Finding::AlreadyFree,
+            None => Finding::NotHere,
+        }
+    }
+
+    /// Frees a frame, and counts what was found.
+    #[inline]
+    pub fn free(&mut self, frame: u64, tally: &mut Tally) {
+        tally[self.find(frame) as usize] += 1;
     }
 }
 
@@ -133,21 +145,17 @@ pub fn allocate_frame(fields: &mut [u8], bits: &mut Marks) -> Line {
     line(Frames::sound(fields, bits).ok_or(BROKEN).and_then(|mut frames| frames.take()))
 }
 
-#[inline]
-fn set_frame(fields: &mut [u8], bits: &mut Marks, frame: u64, marked: bool) -> Line {
-    let Some(mut frames) = Frames::sound(fields, bits) else { return Line::refused(BROKEN) };
-    frames.set(frame, marked);
-    Line::met(0)
-}
-
 #[inline(never)]
 pub fn deallocate_frame(fields: &mut [u8], bits: &mut Marks, frame: u64) -> Line {
-    set_frame(fields, bits, frame, false)
+    let Some(mut frames) = Frames::sound(fields, bits) else { return Line::refused(BROKEN) };
+    Line::met(frames.find(frame) as u64)
 }
 
 #[inline(never)]
 pub fn mark_allocated(fields: &mut [u8], bits: &mut Marks, frame: u64) -> Line {
-    set_frame(fields, bits, frame, true)
+    let Some(mut frames) = Frames::sound(fields, bits) else { return Line::refused(BROKEN) };
+    frames.set(frame, true);
+    Line::met(0)
 }
 
 /// A question to a record that is only read.

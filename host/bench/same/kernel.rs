@@ -2,8 +2,8 @@
 
 use super::memory::Memory;
 use super::packed::{are_zero, clear, put, shift, word};
-use super::{is_placed, line, rounded, Answer, BROKEN, PAGE};
-use gadulnos::{Line, Marks};
+use super::{found, is_placed, line, rounded, Answer, Giving, BROKEN, PAGE};
+use gadulnos::{Found, Line, Marks};
 
 const SLOTS: usize = 256;
 const BYTES: usize = 8 + 24 * SLOTS;
@@ -69,21 +69,21 @@ pub fn vfree(
     root: u64,
     list: &mut [u8],
     addr: u64,
-) -> Line {
+) -> Found {
     match (sound(list), Memory::sound(words, fields, bits, root)) {
-        (Some(n), Some(memory)) => line(free(memory, list, n, addr)),
-        _ => Line::refused(BROKEN),
+        (Some(n), Some(memory)) => found(free(memory, list, n, addr)),
+        _ => Found::refused(BROKEN),
     }
 }
 
 #[inline]
-fn free(mut memory: Memory, list: &mut [u8], n: usize, addr: u64) -> Answer {
+fn free(mut memory: Memory, list: &mut [u8], n: usize, addr: u64) -> Giving {
     let is_it = |i: &usize| word(list, at(*i)) == addr && word(list, at(*i) + 2) == 1;
     let i = (0..n).find(is_it).filter(|_| addr != 0).ok_or(16u64)?;
-    memory.free_pages(addr, word(list, at(i) + 1) / PAGE);
+    let tally = memory.free_pages(addr, word(list, at(i) + 1) / PAGE);
     put(list, at(i) + 2, 0);
     merge(list, n);
-    Ok(0)
+    Ok(tally)
 }
 
 /// Joins adjoining free neighbours.

@@ -2,7 +2,7 @@
 
 use super::frames::Frames;
 use super::tables::{down, entry, frame_of, index, Tables, PRESENT};
-use super::{Answer, PAGE};
+use super::{Answer, Tally, PAGE};
 use gadulnos::Marks;
 
 pub struct Memory<'a> {
@@ -96,14 +96,14 @@ impl<'a> Memory<'a> {
         Ok(())
     }
 
-    /// Unmaps pages and frees their frames, passing over those that are not mapped, span by span. From 2^18
-    /// pages on the port goes block by block and remembers tables that it is done with; no row of the
-    /// benchmark has so many.
+    /// Unmaps pages and frees their frames, passing over those that are not mapped, span by span: what was found
+    /// of the frames. From 2^18 pages on the port goes block by block and remembers tables that it is done with;
+    /// no row of the benchmark has so many.
     #[inline]
-    pub fn free_pages(&mut self, virt: u64, pages: u64) {
+    pub fn free_pages(&mut self, virt: u64, pages: u64) -> Tally {
         // All the pages that there are: what lies above the top index is ignored.
         let pages = pages.min(1 << (9 * self.tables.levels));
-        let mut done = 0;
+        let (mut done, mut tally) = (0, [0; 3]);
         while done < pages {
             match self.span(virt + done * PAGE) {
                 Span::Gap(gap) => done += gap,
@@ -113,13 +113,14 @@ impl<'a> Memory<'a> {
                         let leaf = self.words[at];
                         if leaf & PRESENT != 0 {
                             self.words[at] = 0;
-                            self.frames.free(frame_of(leaf));
+                            self.frames.free(frame_of(leaf), &mut tally);
                         }
                     }
                     done += leaves;
                 }
             }
         }
+        tally
     }
 
     #[inline]

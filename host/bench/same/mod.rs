@@ -33,10 +33,16 @@ pub use tables::{map_huge_page, map_page, translate, unmap_page, user_may};
 pub use user::{find_free_region, mmap, mprotect, munmap};
 pub use working::show_translate;
 
-use gadulnos::{Line, LEVELS, MOST_LEVELS};
+use gadulnos::{Found, Line, LEVELS, MOST_LEVELS};
 
 /// A value, or one of document 01's numbers.
 type Answer = Result<u64, u64>;
+
+/// How many frames were freed, were free already, and are not on the board.
+type Tally = [u64; 3];
+
+/// .. of a met call, or one of document 01's numbers.
+type Giving = Result<Tally, u64>;
 
 const BROKEN: u64 = 10;
 const PAGE: u64 = 4096;
@@ -46,6 +52,13 @@ const LAST: u64 = u64::MAX - 4095;
 #[inline]
 fn line(answer: Answer) -> Line {
     answer.map_or_else(Line::refused, Line::met)
+}
+
+#[inline]
+fn found(giving: Giving) -> Found {
+    giving.map_or_else(Found::refused, |[freed, already_free, not_here]| {
+        Found::met(freed, already_free, not_here)
+    })
 }
 
 /// Whether a board may have so many levels.

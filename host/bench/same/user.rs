@@ -5,8 +5,8 @@ use super::memory::Memory;
 use super::packed::{clear, put, shift, word};
 use super::protect::protect_pages;
 use super::tables::Tables;
-use super::{is_placed, line, rounded, Answer, BROKEN, LAST, PAGE};
-use gadulnos::{Line, Marks};
+use super::{found, is_placed, line, rounded, Answer, Giving, BROKEN, LAST, PAGE};
+use gadulnos::{Found, Line, Marks};
 
 const SLOTS: usize = 256;
 const BYTES: usize = 16 + 24 * SLOTS;
@@ -164,10 +164,10 @@ pub fn munmap(
     list: &mut [u8],
     addr: u64,
     size: u64,
-) -> Line {
+) -> Found {
     match (sound(list), Memory::sound(words, fields, bits, root)) {
-        (Some(n), Some(memory)) => line(unmap(memory, list, n, addr, size)),
-        _ => Line::refused(BROKEN),
+        (Some(n), Some(memory)) => found(unmap(memory, list, n, addr, size)),
+        _ => Found::refused(BROKEN),
     }
 }
 
@@ -186,13 +186,13 @@ fn named(list: &[u8], n: usize, addr: u64, size: u64) -> Result<(usize, u64), u6
 }
 
 #[inline]
-fn unmap(mut memory: Memory, list: &mut [u8], n: usize, addr: u64, size: u64) -> Answer {
+fn unmap(mut memory: Memory, list: &mut [u8], n: usize, addr: u64, size: u64) -> Giving {
     let (i, size) = named(list, n, addr, size)?;
-    memory.free_pages(addr, size / PAGE);
+    let tally = memory.free_pages(addr, size / PAGE);
     shift(list, at(i + 1), at(n), at(i));
     clear(list, at(n - 1), at(n));
     put(list, 0, n as u64 - 1);
-    Ok(0)
+    Ok(tally)
 }
 
 #[inline(never)]

@@ -2,6 +2,7 @@
 
 use crate::boards::{any_levels, FRAMES_END};
 use crate::broken::broken;
+use crate::given;
 use gadulnos::{Board, Frames, Kernel, Marked, Region, Slot, User, LEVELS, MOST_LEVELS, SLOTS};
 use paper::generate::Random;
 use paper::state::bit;
@@ -63,10 +64,12 @@ impl Kind {
 
 /// A change that leaves every record sound.
 fn odd(random: &mut Random, board: &mut Board) {
-    match random.below(13) {
+    match random.below(16) {
         0..=2 => entries(random, board),
         10 | 11 => rights(random, board),
         12 => looped(random, board),
+        13 | 14 => given::to_copy(random, board),
+        15 => given::to_release(random, board),
         3 => marks(random, board),
         4 => {
             let Frames { start_frame, total, .. } = board.frames();

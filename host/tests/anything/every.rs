@@ -7,6 +7,7 @@ use crate::guard::{self, Against, Guarded};
 use crate::model::Model;
 use crate::report::{equal, holds, Checked};
 use crate::table::{Answer, Arg, Row, TABLE};
+use crate::told::{Told, NONE};
 use crate::PATIENCE;
 use gadulnos::{Board, Frames, Kernel, Line, Marked, User, SHOWN_NUMBERS};
 use paper::call::Call;
@@ -147,14 +148,17 @@ fn arguments(random: &mut Random, base: &Base, row: &Row) -> (Vec<(Arg, Lent)>, 
 fn call(random: &mut Random, base: &Base, row: &Row) -> Result<(), String> {
     let (lent, args) = arguments(random, base, row);
     // SAFETY: each pointer lends what the table says.
-    let Registers(first, second) = unsafe { enter(row, args) };
+    let (Registers(first, second), tally) = match row.answer {
+        Answer::Found => unsafe { enter_found(random, row, args)? },
+        _ => (unsafe { enter(row, args) }, NONE),
+    };
     let changes_nothing = match row.answer {
         Answer::Nothing | Answer::Word => false,
         Answer::Bool => {
             holds(first & 0xFF < 2, "a bool")?;
             false
         }
-        Answer::Numbered => {
+        Answer::Numbered | Answer::Found => {
             row.allows(Line { number: first, value: second })?;
             row.bare.contains(&first)
         }
@@ -170,8 +174,36 @@ fn call(random: &mut Random, base: &Base, row: &Row) -> Result<(), String> {
         [(Arg::Words, words), (Arg::Working, out)] => shown(words, out, &args, line),
         [(Arg::Words, words)] if row.name == "gadulnos_user_may" => asked(words, &args, line),
         [(Arg::WordsMut, words), (Arg::UserMut, list)] => protected(words, list, &args, line),
+        parts if row.answer == Answer::Found => given(row, parts, &args, Told { line, tally }),
         _ => Ok(()),
     }
+}
+
+/// Calls a function whose answer is four numbers. Where they are to be written stands before the arguments, and is
+/// handed back; the numbers beside them stay. The first is the number, and there is no value.
+///
+/// # Safety
+///
+/// The pointers must lend what the function asks.
+unsafe fn enter_found(
+    random: &mut Random,
+    row: &Row,
+    args: [u64; ARGS],
+) -> Result<(Registers, [u64; 3]), String> {
+    let old: Vec<u64> = (0..12).map(|_| random.word()).collect();
+    let from = random.one_of(&[0, 3, 8]);
+    let against = if from == 0 { Against::Before } else { Against::Behind };
+    let mut memory = Guarded::copy(&old, against);
+    let out = memory[from..].as_mut_ptr() as u64;
+    let mut all = [out; ARGS];
+    all[1..].copy_from_slice(&args[..ARGS - 1]);
+    let Registers(back, _) = enter(row, all);
+    equal(back, out)?;
+    let beside = |i: &usize| !(from..from + 4).contains(i);
+    let stayed = (0..12).filter(beside).all(|i| memory[i] == old[i]);
+    holds(stayed, "the numbers beside an answer as they were")?;
+    let tally = memory[from + 1..from + 4].try_into().expect("three numbers");
+    Ok((Registers(memory[from], 0), tally))
 }
 
 /// Calls a row's function. All arguments and both results are integers or pointers, which go through the
@@ -219,6 +251,42 @@ fn asked(words: &Lent, args: &[u64; ARGS], line: Line) -> Result<(), String> {
     equal(line, model.user_may(virt)[args[7] as usize])
 }
 
+/// That a call that gives frames back told what the model tells, and left what the model leaves. It is lent words,
+/// fields, bitmap and a list, and the root's number before the list.
+fn given(row: &Row, lent: &[(Arg, Lent)], args: &[u64; ARGS], told: Told) -> Result<(), String> {
+    let mut before = Board { root: args[5], ..Board::lend(0) };
+    let mut left = before.clone();
+    for (arg, part) in lent {
+        let [old, new] = match part {
+            Lent::Words { before: old, memory, .. } => {
+                (before.words, left.words) = (old.clone(), memory.to_vec());
+                continue;
+            }
+            Lent::Bytes { before, memory, from, .. } => {
+                [before.clone(), memory[*from..*from + before.len()].to_vec()]
+            }
+        };
+        match arg {
+            Arg::FieldsMut => (before.fields, left.fields) = (old, new),
+            Arg::KernelMut => (before.kernel, left.kernel) = (old, new),
+            Arg::UserMut => (before.user, left.user) = (old, new),
+            Arg::MarkedMut => (before.marked, left.marked) = (old, new),
+            _ => {
+                before.bits.copy_from_slice(&old);
+                left.bits.copy_from_slice(&new);
+            }
+        }
+    }
+    let call = match row.name {
+        "gadulnos_vfree" => Call::Vfree { addr: args[8] },
+        "gadulnos_munmap" => Call::Munmap { addr: args[8], size: args[9] },
+        _ => Call::Fault { addr: args[8], code: args[9] },
+    };
+    let mut model = Model::of(&before);
+    equal(told, model.play(&call))?;
+    model.compare(&left)
+}
+
 /// That an mprotect's answer is the model's, and so are the words and the list that it left. Behind the root stand
 /// the list, the region's start and size, and prot.
 fn protected(words: &Lent, list: &Lent, args: &[u64; ARGS], line: Line) -> Result<(), String> {
@@ -231,7 +299,7 @@ fn protected(words: &Lent, list: &Lent, args: &[u64; ARGS], line: Line) -> Resul
     let (mut model, _) = model(words, args)?;
     model.user = User::unpack(before);
     let call = Call::Mprotect { addr: args[8], size: args[9], prot: args[10] as i32 };
-    equal(line, model.play(&call))?;
+    equal(line, model.play(&call).line)?;
     holds(left[..] == model.words[..], "the model's words")?;
     let wanted = model.user.as_ref().map_or_else(|| before.clone(), User::pack);
     holds(bytes[from..from + before.len()] == wanted[..], "the model's list")
@@ -308,6 +376,15 @@ fn number(random: &mut Random, base: &Base, arg: Arg) -> u64 {
         Arg::Root if random.chance(7, 8) => base.board.root,
         Arg::RegionStart if random.chance(7, 8) => first_region(base).0,
         Arg::RegionSize if random.chance(7, 8) => first_region(base).1,
+        Arg::SlotStart if random.chance(3, 4) => {
+            let list = Kernel::unpack(&base.board.kernel);
+            list.map_or(0, |list| list.slots[random.below(4) as usize].start)
+        }
+        Arg::Page if random.chance(3, 4) => {
+            let list = Marked::unpack(&base.board.marked);
+            list.map_or(0, |list| list.pages[random.below(2) as usize])
+        }
+        Arg::Code if random.chance(3, 4) => random.one_of(&[0, 2, 3, 3, 7, 7]),
         _ => any_number(random, base),
     }
 }

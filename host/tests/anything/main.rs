@@ -14,6 +14,9 @@ mod boards;
 mod broken;
 mod damage;
 mod every;
+#[path = "../shared/found.rs"]
+mod found;
+mod given;
 #[path = "../shared/guard.rs"]
 mod guard;
 #[path = "../shared/model/mod.rs"]
@@ -32,6 +35,8 @@ mod report;
 mod rights;
 mod shot;
 mod table;
+#[path = "../shared/told.rs"]
+mod told;
 mod working;
 mod worst;
 
@@ -60,6 +65,7 @@ fn main() {
     working::check(&mut report, &seen, options.amount);
     question::check(&mut report, &seen, options.amount);
     protect::check(&mut report, &seen, options.amount);
+    given::check(&mut report, &seen, options.amount);
     worst::check(&mut report);
     report.finish();
 }

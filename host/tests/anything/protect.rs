@@ -73,7 +73,7 @@ pub fn on_numbers(
     let prot = (virt >> 20) as i32;
     let (words, user) = (&mut port.words, &mut port.user);
     let line = gadulnos::mprotect(words, start, total, levels, root, user, addr, size, prot);
-    equal(line, model.play(&Call::Mprotect { addr, size, prot }))?;
+    equal(line, model.play(&Call::Mprotect { addr, size, prot }).line)?;
     holds(words[..] == model.words[..], "the model's words")?;
     let wanted = model.user.as_ref().map(User::pack);
     holds(wanted.map_or(true, |wanted| user[..] == wanted[..]), "the model's list")?;

@@ -2,6 +2,7 @@
 
 use crate::boards::{self, any_levels, Base};
 use crate::damage::{walked, Kind};
+use crate::given::{self, Given};
 use crate::guard::Against;
 use crate::model::Model;
 use crate::port::{self, Port};
@@ -10,6 +11,7 @@ use crate::question;
 use crate::report::{equal, holds};
 use crate::rights::Cases;
 use crate::table;
+use crate::told::Told;
 use crate::working::{self, Verdicts};
 use gadulnos::{Board, Frames, Kernel, Line, Marked, User, LEVELS, MOST_LEVELS};
 use paper::call::Call;
@@ -31,6 +33,8 @@ pub struct Seen {
     /// The same of an mprotect on any numbers, and what was met with on boards.
     pub protects: BTreeMap<(u64, u64), u64>,
     pub events: Events,
+    /// What was met with where frames were given back.
+    pub given: Given,
     /// Calls whose words were compared with the model's, those of them that walk five levels, and releases
     /// in whose midst the model gave up.
     pub compared: u64,
@@ -199,20 +203,23 @@ fn listed(random: &mut Random, port: &Port) -> Option<Call> {
 fn fire(random: &mut Random, port: &mut Port, shot: &Shot, seen: &mut Seen) -> Result<(), String> {
     let before = port::unguarded(port);
     let mut model = Model::of(&before);
-    let (line, wanted) = match *shot {
+    let (told, wanted) = match *shot {
         Shot::Call(call) => (port::play(port, &call), model.play(&call)),
-        Shot::Init(from, to) => (port.init(from, to), model.init(from, to)),
+        Shot::Init(from, to) => lines((port.init(from, to), model.init(from, to))),
         Shot::Start(from, to, levels) => {
             let line = match levels {
                 Some(levels) => port.start_levels(from, to, levels),
                 None => port.start(from, to),
             };
-            (line, model.start(has_lengths(&before), from, to, levels.unwrap_or(LEVELS)))
+            lines((line, model.start(has_lengths(&before), from, to, levels.unwrap_or(LEVELS))))
         }
         Shot::Walk(lent) => return walk(port, model, lent, seen),
-        Shot::Show(virt) => working::show(&port.words, port.frames(), &mut model, virt, seen)?,
-        Shot::Search(size) => search(port, &model, size)?,
+        Shot::Show(virt) => {
+            lines(working::show(&port.words, port.frames(), &mut model, virt, seen)?)
+        }
+        Shot::Search(size) => lines(search(port, &model, size)?),
     };
+    let line = told.line;
     *seen.numbers.entry((shot.name(), line.number)).or_default() += 1;
     let on_five = shot.levels(&before) == MOST_LEVELS;
     if on_five {
@@ -222,11 +229,15 @@ fn fire(random: &mut Random, port: &mut Port, shot: &Shot, seen: &mut Seen) -> R
     if table::changes_nothing(shot.name(), line.number) {
         holds(same(port, &before), &format!("nothing changed by {line:x?}"))?;
     }
-    equal(line, wanted)?;
+    if let Shot::Call(call) = shot {
+        given::on_board(&before, port, call, told, seen)?;
+    }
+    equal(line, wanted.line)?;
     if model.gave_up {
         seen.gave_up += 1;
         return Ok(());
     }
+    equal(told, wanted)?;
     seen.compared += 1;
     seen.walked_five += u64::from(on_five && table::walks(shot.name()) && line.number != 10);
     compare(port, &before, &model)?;
@@ -237,6 +248,11 @@ fn fire(random: &mut Random, port: &mut Port, shot: &Shot, seen: &mut Seen) -> R
         Shot::Call(call) => ask(port, &mut model, &call, line, seen),
         _ => Ok(()),
     }
+}
+
+/// The answers of a call that gives no frame back.
+fn lines((line, wanted): (Line, Line)) -> (Told, Told) {
+    (line.into(), wanted.into())
 }
 
 /// The questions beside a call: the three counts, and of an address that was translated its working and what
@@ -284,7 +300,7 @@ fn walk(port: &mut Port, mut model: Model, lent: Walk, seen: &mut Seen) -> Resul
     *seen.walks.entry((known, line.number)).or_default() += 1;
     protect::on_numbers(port, &mut model, lent, seen)?;
     let line = gadulnos::unmap_page(&mut port.words, start, total, levels, root, virt);
-    equal(line, model.play(&Call::UnmapPage { virt }))?;
+    equal(line, model.play(&Call::UnmapPage { virt }).line)?;
     holds(port.words[..] == model.words[..], "the model's words")
 }
 

@@ -17,9 +17,13 @@ pub enum Arg {
     Total,
     Levels,
     Root,
-    /// The start and the size of an mmap region.
+    /// The start and the size of an mmap region, and the start of a vmalloc region.
     RegionStart,
     RegionSize,
+    SlotStart,
+    /// An address, mostly a marked page's, and an error code, mostly a copy's.
+    Page,
+    Code,
     /// A pointer to the root's number, which a start writes.
     RootOut,
     /// A pointer to a number, which the search writes.
@@ -66,6 +70,8 @@ pub enum Answer {
     Bool,
     /// A number of document 01 and a value.
     Numbered,
+    /// A number of document 01 and what was found of frames: four numbers, written to where the caller says.
+    Found,
 }
 
 pub struct Row {
@@ -84,11 +90,11 @@ pub struct Row {
 macro_rules! rows {
     (
         plain { $($plain:ident($($arg:expr),*) -> $answer:ident;)* }
-        numbered { $($call:ident($($lent:expr),*) [$($bare:literal)*] [$($leaving:literal)*];)* }
+        $($told:ident { $($call:ident($($lent:expr),*) [$($bare:literal)*] [$($leaving:literal)*];)* })*
     ) => {
         extern "C" {
             $(fn $plain();)*
-            $(fn $call();)*
+            $($(fn $call();)*)*
         }
 
         pub const TABLE: &[Row] = &[
@@ -100,14 +106,14 @@ macro_rules! rows {
                 bare: &[],
                 leaving: &[],
             },)*
-            $(Row {
+            $($(Row {
                 name: stringify!($call),
                 function: $call,
                 args: &[$($lent),*],
-                answer: Answer::Numbered,
+                answer: Answer::$told,
                 bare: &[$($bare),*],
                 leaving: &[$($leaving),*],
-            },)*
+            },)*)*
         ];
     };
 }
@@ -139,7 +145,7 @@ rows! {
         gadulnos_page_indices(Number, Indices) -> Nothing;
         gadulnos_is_vmalloc_addr(Number) -> Bool;
     }
-    numbered {
+    Numbered {
         gadulnos_align_up(Number, Number) [3] [];
         gadulnos_page_align_up(Number) [3] [];
         gadulnos_get_entry(Table, Number) [14] [];
@@ -159,12 +165,9 @@ rows! {
             [4 10] [11 12 19];
         gadulnos_unmap_page(WordsMut, Start, Total, Levels, Root, Number) [10 14 19] [];
         gadulnos_vmalloc(WordsMut, FieldsMut, BitsMut, Root, KernelMut, Number) [1 3 10 15] [11 13];
-        gadulnos_vfree(WordsMut, FieldsMut, BitsMut, Root, KernelMut, Number) [10 16] [];
         gadulnos_mmap(
             WordsMut, FieldsMut, BitsMut, Root, UserMut, Flag, Number, Number, Signed, Signed
         ) [1 2 3 10 15 20] [11 13];
-        gadulnos_munmap(WordsMut, FieldsMut, BitsMut, Root, UserMut, RegionStart, RegionSize)
-            [1 2 3 10 16] [];
         gadulnos_mprotect(
             WordsMut, Start, Total, Levels, Root, UserMut, RegionStart, RegionSize, Signed
         ) [1 2 3 10 16] [];
@@ -172,8 +175,6 @@ rows! {
         gadulnos_mark_cow(MarkedMut, Number) [10 20] [];
         gadulnos_unmark_cow(MarkedMut, Number) [10] [];
         gadulnos_is_cow(Marked, Number) [10] [];
-        gadulnos_handle_page_fault(WordsMut, FieldsMut, BitsMut, Root, MarkedMut, Number, Number)
-            [5 6 7 8 10 11 17] [18];
         gadulnos_handle_page_fault_second(WordsMut, FieldsMut, BitsMut, Root, Number, Number)
             [5 7 8 10 17] [11 19];
         gadulnos_start(
@@ -182,6 +183,13 @@ rows! {
         gadulnos_start_levels(
             WordsMut, FieldsMut, BitsMut, RootOut, KernelMut, UserMut, MarkedMut, Number, Number, Levels
         ) [10 11] [];
+    }
+    Found {
+        gadulnos_vfree(WordsMut, FieldsMut, BitsMut, Root, KernelMut, SlotStart) [10 16] [];
+        gadulnos_munmap(WordsMut, FieldsMut, BitsMut, Root, UserMut, RegionStart, RegionSize)
+            [1 2 3 10 16] [];
+        gadulnos_handle_page_fault(WordsMut, FieldsMut, BitsMut, Root, MarkedMut, Page, Code)
+            [5 6 7 8 10 11 17] [18];
     }
 }
 

@@ -1,10 +1,12 @@
 //! Releases and protections of the largest regions there can be, over tables that make them as long as they can
 //! be, on four and on five levels: they end, and in a time that does not follow the pages of the region.
 
+use crate::found;
 use crate::guard::{self, Against};
 use crate::model::Model;
-use crate::port;
+use crate::port::{self, Port};
 use crate::report::{equal, holds, Report};
+use crate::told::{Tally, Told, NONE};
 use gadulnos::{Board, Kernel, Line, Region, User, LEVELS, MOST_LEVELS};
 use paper::call::Call;
 use paper::{LAST, PAGE};
@@ -41,19 +43,24 @@ pub fn check(report: &mut Report) {
         }
         words
     };
-    let boards: [(&str, Tables); 6] = [
-        ("no table", absent),
-        ("one page", one),
-        ("every table outside", outside),
-        ("a root that leads to itself everywhere", looped),
-        ("a table of each level, reached in 512 ways from the one above", wide),
-        ("the same, and an entry that leads to a table on the way as to a last one", cut),
+    // What is found where every page comes by, and from the kernel window up to the end, without the last page.
+    let boards: [(&str, Tables, [Tally; 2]); 6] = [
+        ("no table", absent, [NONE, NONE]),
+        ("one page", one, [[0, 1, 0], NONE]),
+        ("every table outside", outside, [NONE, NONE]),
+        ("a root that leads to itself everywhere", looped, [[1, 511, 0], [1, 510, 0]]),
+        ("a table of each level, reached in 512 ways from the one above", wide, [[0, 0, 256]; 2]),
+        (
+            "the same, and an entry that leads to a table on the way as to a last one",
+            cut,
+            [[0, 512, 256], [0, 511, 256]],
+        ),
     ];
     for levels in [LEVELS, MOST_LEVELS] {
-        for (name, tables) in boards {
-            for start in [0, PAGE, 0xFFFF_FFC0_0000_0000] {
+        for (name, tables, [all, high]) in boards {
+            for (start, tally) in [(0, all), (PAGE, all), (0xFFFF_FFC0_0000_0000, high)] {
                 let name = format!("{name}, from {start:x} to the end");
-                timed(report, levels, &name, || release(levels, tables, start));
+                timed(report, levels, &name, || release(levels, tables, start, tally));
             }
             protections(report, levels, name, small(levels, tables), &REGIONS);
         }
@@ -109,19 +116,26 @@ fn small(levels: u64, tables: Tables) -> Result<Board, String> {
     Ok(board)
 }
 
-/// vfree and munmap of a region from `start` up to the last page.
-fn release(levels: u64, tables: Tables, start: u64) -> Result<(), String> {
+/// vfree and munmap of a region from `start` up to the last page, each of which finds this.
+fn release(levels: u64, tables: Tables, start: u64, tally: Tally) -> Result<(), String> {
     let mut board = small(levels, tables)?;
     let size = LAST - start;
     record(&mut board, start, size)?;
     if start != 0 {
-        let mut port = port::guarded(&board, Against::Behind);
-        equal(port.vfree(start), Line::met(0))?;
+        let port = found(&board, Against::Behind, Call::Vfree { addr: start }, tally)?;
         nothing_left(&port, start)?;
     }
-    let mut port = port::guarded(&board, Against::Before);
-    equal(port.munmap(start, size), Line::met(0))?;
+    let port = found(&board, Against::Before, Call::Munmap { addr: start, size }, tally)?;
     nothing_left(&port, start)
+}
+
+/// Makes a release, which is met and finds this, as can be read of the boards before and after it.
+fn found(board: &Board, against: Against, call: Call, tally: Tally) -> Result<Port, String> {
+    let mut port = port::guarded(board, against);
+    let told = port::play(&mut port, &call);
+    equal(told, Told::found(tally))?;
+    found::check(board, &port, &call, told)?;
+    Ok(port)
 }
 
 /// Records one used vmalloc region and one mmap region.
@@ -147,9 +161,14 @@ fn large(levels: u64, word: fn(u64, u64, u64) -> u64) -> Result<Board, String> {
     Ok(board)
 }
 
+/// How many frames of the largest board each level below the root has.
+fn share(levels: u64) -> u64 {
+    (LARGE - 1) / (levels - 1)
+}
+
 /// A root, then as many frames on each level below it.
 fn by_levels(levels: u64, frame: u64, i: u64) -> u64 {
-    let share = (LARGE - 1) / (levels - 1);
+    let share = share(levels);
     let depth = if frame == 0 { 0 } else { 1 + (frame - 1) / share };
     let next = 1 + depth * share + (frame * 512 + i) * 7919 % share;
     match depth < levels - 1 {
@@ -163,11 +182,12 @@ fn mixed(_levels: u64, frame: u64, i: u64) -> u64 {
     to((frame * 512 + i) * 7919 % LARGE)
 }
 
+/// Every entry of the last tables is found, and names a frame off the board.
 fn release_all(levels: u64) -> Result<(), String> {
     let mut board = large(levels, by_levels)?;
     record(&mut board, PAGE, LAST - PAGE)?;
-    let mut port = port::guarded(&board, Against::Behind);
-    equal(port.munmap(PAGE, LAST - PAGE), Line::met(0))?;
+    let call = Call::Munmap { addr: PAGE, size: LAST - PAGE };
+    let port = found(&board, Against::Behind, call, [0, 0, share(levels) * 512])?;
     nothing_left(&port, PAGE)
 }
 
@@ -201,7 +221,7 @@ fn protect(board: &Board, (start, size): (u64, u64), longest: &mut f64) -> Resul
         let line = port.mprotect(start, size, prot);
         *longest = longest.max(begun.elapsed().as_secs_f64());
         equal(line, Line::met(0))?;
-        equal(line, model.play(&Call::Mprotect { addr: start, size, prot }))?;
+        equal(line, model.play(&Call::Mprotect { addr: start, size, prot }).line)?;
         model.compare(&port)?;
     }
     Ok(())
@@ -209,7 +229,7 @@ fn protect(board: &Board, (start, size): (u64, u64), longest: &mut f64) -> Resul
 
 /// No page of the region translates. One that is larger than all that the indices tell apart has every
 /// page, since the bits above are ignored.
-fn nothing_left(port: &port::Port, start: u64) -> Result<(), String> {
+fn nothing_left(port: &Port, start: u64) -> Result<(), String> {
     let all = 1 << (12 + 9 * port.frames().levels);
     let low = [0, PAGE, 1 << 21, 1 << 30, 1 << 39, 1 << 48, 1 << 56];
     let high = [0xFF00_0000_0000_0000, 0xFFFF_FFC0_0000_0000, LAST - PAGE];

@@ -1,6 +1,7 @@
 //! A sequence from its first mprotect on: it is outside the domain of equality, and the model stands beside the
 //! port in the Rust's place.
 
+use crate::found;
 use crate::model::Model;
 use crate::play::{ask, count, Seen};
 use crate::port::{self, Port};
@@ -37,11 +38,16 @@ pub fn play(
 fn one(port: &mut Port, model: &mut Model, call: &Call, seen: &mut Seen) -> Result<(), String> {
     let rare = rare::names(&port::state(port)?, call);
     let before = port::unguarded(port);
-    let line = port::play(port, call);
-    equal(line, model.play(call))?;
+    let (told, wanted) = (port::play(port, call), model.play(call));
+    let line = told.line;
+    equal(line, wanted.line)?;
+    for event in found::check(&before, port, call, told)? {
+        count(seen, &format!("behind an mprotect, given back: {event}, {}", line.number));
+    }
     if model.gave_up {
         return Ok(());
     }
+    equal(told, wanted)?;
     model.compare(port)?;
     ask(&port::state(port)?, port, call, seen)?;
     match *call {

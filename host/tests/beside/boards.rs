@@ -3,6 +3,7 @@
 use crate::churn::Churn;
 use crate::draw::Draw;
 use crate::guard::Against;
+use crate::spoil::Spoil;
 use paper::call::Call;
 use paper::domain::{self, Verdict};
 use paper::generate::{Generator, Parts, Profile, Random};
@@ -27,6 +28,8 @@ pub enum Kind {
     Churn,
     /// Copies, at times with the temporary page mapped before.
     Copies,
+    /// Regions whose pages are changed before they are released.
+    Spoiled,
     /// Calls on the mapper, on boards of 1 to 64 frames anywhere in memory.
     Mapper,
     /// The same from a state near a fresh one.
@@ -36,7 +39,7 @@ pub enum Kind {
 }
 
 impl Kind {
-    pub const ALL: [Kind; 14] = [
+    pub const ALL: [Kind; 15] = [
         Kind::Fresh(Profile::Release),
         Kind::Fresh(Profile::Faults),
         Kind::Fresh(Profile::Frames),
@@ -51,6 +54,7 @@ impl Kind {
         Kind::Mapper,
         Kind::MapperNear,
         Kind::MapperLarge,
+        Kind::Spoiled,
     ];
 
     pub fn name(self) -> String {
@@ -62,6 +66,7 @@ impl Kind {
             Kind::Far => "regions far larger than their frames",
             Kind::Churn => "thousands of calls on one board",
             Kind::Copies => "copies, the temporary page mapped or not",
+            Kind::Spoiled => "regions whose pages are changed before they are released",
             Kind::Mapper => "the mapper's calls, 1 to 64 frames anywhere",
             Kind::MapperNear => "the mapper's calls, from states near a fresh one",
             Kind::MapperLarge => "the mapper's calls, 65 to 8193 frames",
@@ -78,6 +83,7 @@ impl Kind {
             Kind::FewFree | Kind::Crowded => 180,
             Kind::Far => 200,
             Kind::Copies => 300,
+            Kind::Spoiled => 400,
             Kind::Churn => 12,
             Kind::Mapper => 800,
             Kind::MapperNear => 500,
@@ -90,7 +96,7 @@ impl Kind {
     pub fn least_inside(self) -> u64 {
         match self {
             Kind::MapperNear => 45,
-            Kind::Near | Kind::Far => 70,
+            Kind::Near | Kind::Far | Kind::Spoiled => 70,
             Kind::Churn | Kind::Mapper | Kind::MapperLarge => 80,
             _ => 90,
         }
@@ -107,6 +113,7 @@ pub enum Source {
     Paper(Generator),
     Mapper(Draw),
     Churn(Churn),
+    Spoil(Spoil),
     /// At times one of these calls, the last first.
     Mixed(Random, Vec<Call>, Generator),
 }
@@ -117,6 +124,7 @@ impl Source {
             Source::Paper(generator) => generator.next(state),
             Source::Mapper(draw) => draw.call(state),
             Source::Churn(churn) => churn.call(state),
+            Source::Spoil(spoil) => spoil.call(state),
             Source::Mixed(random, calls, generator) => match random.chance(1, 2) {
                 true => calls.pop().unwrap_or_else(|| generator.next(state)),
                 false => generator.next(state),
@@ -167,6 +175,10 @@ pub fn settle(random: &mut Random, kind: Kind) -> Result<(Setting, Source, usize
             length = 2000 + random.below(2000) as usize;
             Source::Churn(Churn::new(Random::new(random.word())))
         }
+        Kind::Spoiled => {
+            length = 40 + random.below(60) as usize;
+            Source::Spoil(Spoil::new(Random::new(random.word()), generator))
+        }
         Kind::Far | Kind::Copies => {
             if kind == Kind::Copies {
                 calls = copies(random);
@@ -192,7 +204,7 @@ fn generator_and_memory(random: &mut Random, kind: Kind) -> (Generator, (u64, u6
     };
     let memory = match kind {
         Kind::Fresh(_) | Kind::Near | Kind::Crowded | Kind::Far => generator.board(),
-        Kind::Copies => anywhere(random, 16, 64),
+        Kind::Copies | Kind::Spoiled => anywhere(random, 16, 64),
         Kind::Churn => anywhere(random, 100, 300),
         Kind::FewFree => anywhere(random, 65, 8192),
         Kind::Mapper | Kind::MapperNear => anywhere(random, 1, 64),

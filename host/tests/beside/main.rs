@@ -12,6 +12,9 @@ mod behind;
 mod boards;
 mod churn;
 mod draw;
+#[path = "../shared/found.rs"]
+mod found;
+mod given;
 #[path = "../shared/guard.rs"]
 mod guard;
 #[path = "../shared/model/mod.rs"]
@@ -29,7 +32,10 @@ mod report;
 #[path = "../shared/rights.rs"]
 mod rights;
 mod seen;
+mod spoil;
 mod starts;
+#[path = "../shared/told.rs"]
+mod told;
 
 use boards::Kind;
 use options::Options;

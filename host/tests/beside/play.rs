@@ -2,10 +2,12 @@
 
 use crate::behind;
 use crate::boards::{self, Kind, Setting};
+use crate::given::Before;
 use crate::port::{self, Port};
 use crate::rare::{self, leaf};
 use crate::report::{equal, holds, Checked};
 use crate::rights::Case;
+use crate::told::NONE;
 use gadulnos::{Line, LEVELS};
 use paper::call::Call;
 use paper::domain::{self, Reason, Verdict};
@@ -122,13 +124,17 @@ fn play_one(
     seen: &mut Seen,
 ) -> Result<Line, String> {
     let rare = rare::names(&board.state(), call);
+    let given = Before::of(board, port, call);
     let outcome = board.play(call);
-    let line = port::play(port, call);
+    let told = port::play(port, call);
+    let line = told.line;
     let number = u32::try_from(line.number).unwrap_or(u32::MAX);
     let Line { number: ours, value } = line;
     let theirs = outcome.key_line(call.kind());
     let got = format!("got number {ours} value {value:x}");
-    holds(outcome.agrees(number, line.value), &format!("`{theirs}`, {got}"))?;
+    // The Rust's says nothing of what it found of a frame.
+    let value = if matches!(call, Call::DeallocateFrame { .. }) { 0 } else { value };
+    holds(outcome.agrees(number, value), &format!("`{theirs}`, {got}"))?;
     if matches!(call, Call::Vmalloc { .. } | Call::Mmap { .. }) {
         let ours = Some(number).filter(|number| [11, 13].contains(number));
         holds(ours == turned_away, &format!("{turned_away:?} as foreseen, {got}"))?;
@@ -140,6 +146,10 @@ fn play_one(
     count(seen, &format!("{} {number}", call.shape().name));
     rare.iter().for_each(|name| count(seen, &format!("{name}, {number}")));
     compare(board, port)?;
+    match given {
+        Some(before) => before.check(&board.state(), port, call, told, seen)?,
+        None => equal(told.tally, NONE)?,
+    }
     ask(&board.state(), port, call, seen)?;
     Ok(line)
 }

@@ -94,6 +94,28 @@ const BEHIND: [(&str, &[Least]); 21] = [
     ("behind an mprotect, allocate_frame ", &[(0, 40)]),
 ];
 
+/// What was found of frames that were given back, beside the Rust and behind an mprotect.
+const GIVEN: [(&str, &[Least]); 18] = [
+    ("given back: a frame freed, ", &[(0, 1500)]),
+    ("given back: a frame already free, ", &[(0, 500)]),
+    ("given back: a frame not on this board, ", &[(0, 350)]),
+    ("given back: a region's frame freed, ", &[(0, 3500)]),
+    ("given back: a region's frame already free, ", &[(0, 90)]),
+    ("given back: a region's frame not on this board, ", &[(0, 90)]),
+    ("given back: a region's frames of each kind, ", &[(0, 4)]),
+    ("given back: a page passed over, ", &[(0, 600)]),
+    ("given back: a frame of two pages, ", &[(0, 6)]),
+    ("given back: frames in a region of 2^18 pages or more, ", &[(0, 3)]),
+    ("given back: a copied page's frame freed, ", &[(0, 230)]),
+    ("given back: a copy, the temporary page mapped before, ", &[(0, 40)]),
+    ("given back: a demand page, ", &[(0, 700)]),
+    ("behind an mprotect, given back: a region's frame freed, ", &[(0, 150)]),
+    ("behind an mprotect, given back: a page passed over, ", &[(0, 60)]),
+    ("behind an mprotect, given back: a frame freed, ", &[(0, 30)]),
+    ("behind an mprotect, given back: a copied page's frame freed, ", &[(0, 8)]),
+    ("behind an mprotect, given back: a demand page, ", &[(0, 40)]),
+];
+
 /// How many calls were played beside the Rust.
 pub fn inside(seen: &Seen) -> u64 {
     seen.get("inside").copied().unwrap_or(0)
@@ -114,6 +136,7 @@ pub fn check(report: &mut Report, seen: &Seen, sequences: u64) {
         report.check("beside: every event often enough", often(&EVENTS));
         let behind = often(&BEHIND);
         report.check("beside: mprotect, and calls behind it, often enough", behind);
+        report.check("beside: frames given back of every kind often enough", often(&GIVEN));
     }
 }
 

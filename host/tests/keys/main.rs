@@ -21,6 +21,8 @@ mod port;
 mod process;
 #[path = "../shared/report.rs"]
 mod report;
+#[path = "../shared/told.rs"]
+mod told;
 
 use gadulnos::{Board as Parts, Line, LEVELS};
 use model::Model;
@@ -92,7 +94,7 @@ fn key(tape: &[u8]) -> Result<String, String> {
     equal(board.start(true, MEMORY.0, MEMORY.1, LEVELS), Line::met(0))?;
     let mut text = String::new();
     for call in &tape.calls {
-        text += &line(call, board.play(call));
+        text += &line(call, board.play(call).line);
     }
     holds(!board.gave_up, "releases that are not too long for the model")?;
     if let Some(offset) = tape.broken {
@@ -212,7 +214,7 @@ fn draw_inside(random: &mut Random, generator: &mut Generator) -> Result<Vec<Cal
         if call.kind() > KINDS || !inside {
             continue;
         }
-        let (outcome, line) = (board.play(&call), port::play(&mut port, &call));
+        let (outcome, line) = (board.play(&call), port::play(&mut port, &call).line);
         calls.push(call);
         let agrees = line.number < 32 && outcome.agrees(line.number as u32, line.value);
         let told = minimise::describe(&calls);

@@ -4,6 +4,7 @@ use crate::guard::{Against, Guarded};
 use crate::model::Model;
 use crate::port::{self, Port};
 use crate::report::{equal, equal_at};
+use crate::told::{Tally, Told};
 use gadulnos::{Board, Line};
 use paper::call::Call;
 use paper::PAGE;
@@ -36,13 +37,31 @@ impl Example {
     /// Plays calls: each answer is the one named and the model's, and so is all that is left.
     pub fn play(&mut self, calls: Played) -> Result<(), String> {
         for &(call, number, value) in calls {
-            let about = call.to_string();
-            let wanted = Line { number, value };
-            equal_at(&about, port::play(&mut self.port, &call), wanted)?;
-            equal_at(&about, self.model.play(&call), wanted)?;
-            self.model.compare(&self.port).map_err(|why| format!("after {about}: {why}"))?;
+            let told = self.one(&call)?;
+            equal_at(call.to_string(), told.line, Line { number, value })?;
         }
         Ok(())
+    }
+
+    /// Plays a call that gives frames back, which is met and finds this of them.
+    pub fn finds(&mut self, call: Call, tally: Tally) -> Result<(), String> {
+        let told = self.one(&call)?;
+        equal_at(call.to_string(), told, Told::found(tally))
+    }
+
+    /// Plays a call that is refused, and tells of no frame.
+    pub fn refuses(&mut self, call: Call, number: u64) -> Result<(), String> {
+        let told = self.one(&call)?;
+        equal_at(call.to_string(), told, Told::refused(number))
+    }
+
+    /// Makes a call on both, which tell and leave the same.
+    fn one(&mut self, call: &Call) -> Result<Told, String> {
+        let about = call.to_string();
+        let told = port::play(&mut self.port, call);
+        equal_at(&about, told, self.model.play(call))?;
+        self.model.compare(&self.port).map_err(|why| format!("after {about}: {why}"))?;
+        Ok(told)
     }
 
     /// That user code may read an address, and write it, or not: 1 or 0.

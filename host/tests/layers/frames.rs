@@ -5,8 +5,9 @@
 use crate::guard::Against;
 use crate::options::Options;
 use crate::port;
-use crate::report::{equal_at, Checked, Report};
-use gadulnos::{Bitmap, Board, Frames, Line, LEVELS, MOST_LEVELS};
+use crate::report::{equal_at, holds, Checked, Report};
+use crate::told::{Tally, Told, NONE};
+use gadulnos::{Bitmap, Board, Finding, Frames, Line, LEVELS, MOST_LEVELS};
 use paper::call::Call;
 use paper::generate::Random;
 use paper::minimise;
@@ -36,7 +37,7 @@ struct Start {
 
 fn after_init(options: &Options) -> Checked {
     let mut random = options.random(20);
-    let mut cases = 0;
+    let (mut cases, mut found) = (0, NONE);
     for i in 0..options.amount {
         let size = SIZES[i as usize % SIZES.len()];
         let first = first_frame(&mut random, size);
@@ -45,14 +46,15 @@ fn after_init(options: &Options) -> Checked {
         let to = (from + size * PAGE + random.one_of(&[0, 0, 1, PAGE - 1])).min(end);
         let (bitmap, frames) = any_record(&mut random);
         let start = Start { bitmap, frames, init: Some((from, to)) };
-        cases += sequence(&mut random, first, size, &start)?;
+        cases += sequence(&mut random, first, size, &start, &mut found)?;
     }
+    often(found, options)?;
     Ok(cases)
 }
 
 fn after_set(options: &Options) -> Checked {
     let mut random = options.random(21);
-    let mut cases = 0;
+    let (mut cases, mut found) = (0, NONE);
     for i in 0..options.amount {
         let size = SIZES[i as usize % SIZES.len()].min(8192);
         let first = first_frame(&mut random, size);
@@ -60,9 +62,17 @@ fn after_set(options: &Options) -> Checked {
         let levels = random.one_of(&[LEVELS, MOST_LEVELS]);
         let frames = Frames { start_frame: first, total: size, allocated, levels };
         let start = Start { bitmap, frames, init: None };
-        cases += sequence(&mut random, first, size, &start)?;
+        cases += sequence(&mut random, first, size, &start, &mut found)?;
     }
+    often(found, options)?;
     Ok(cases)
+}
+
+/// That frames were found freed, free already and off the board as often as there are sequences.
+fn often(found: Tally, options: &Options) -> Result<(), String> {
+    println!("  deallocate_frame: freed, already free, not on this board: {found:?}");
+    let many = found.iter().all(|times| *times >= options.amount);
+    holds(many, &format!("each {} times, not {found:?}", options.amount))
 }
 
 /// Every call answers 10 and changes nothing where the levels are neither 4 nor 5.
@@ -77,7 +87,7 @@ fn other_levels(options: &Options) -> Checked {
         let frames = Frames { start_frame: first, total: size, allocated, levels };
         let mut ours = lent(&frames, &bitmap, Against::Behind);
         for call in draw_calls(&mut random, first, size) {
-            equal_at((levels, call), port::play(&mut ours, &call), Line::refused(10))?;
+            equal_at((levels, call), port::play(&mut ours, &call), Told::refused(10))?;
             equal_at((levels, call), port::counts(&ours), [Line::refused(10); 3])?;
             cases += 1;
         }
@@ -100,13 +110,19 @@ fn first_frame(random: &mut Random, size: u64) -> u64 {
     random.one_of(&[0, 1, 0x100, 0xFFFF, 1 << 35, (1 << 35) + 12345, highest, highest - 1, any])
 }
 
-/// Draws calls and plays them on both; prints the shortest that differ.
-fn sequence(random: &mut Random, first: u64, size: u64, start: &Start) -> Checked {
+/// Draws calls and plays them on both; prints the shortest that differ. What was found of frames is counted.
+fn sequence(
+    random: &mut Random,
+    first: u64,
+    size: u64,
+    start: &Start,
+    found: &mut Tally,
+) -> Checked {
     let calls = draw_calls(random, first, size);
     let against = random.one_of(&[Against::Before, Against::Behind]);
-    let play = |calls: &[Call]| play(start, against, calls);
-    play(&calls).map_err(|why| {
-        minimise::print_shortest(&calls, &mut |calls| play(calls).is_err());
+    play(start, against, &calls, found).map_err(|why| {
+        let differs = &mut |calls: &[Call]| play(start, against, calls, &mut NONE.clone()).is_err();
+        minimise::print_shortest(&calls, differs);
         format!("{size} frames from {first:x}: {why}")
     })?;
     Ok(calls.len() as u64)
@@ -145,7 +161,7 @@ fn draw_frame(random: &mut Random, first: u64, size: u64) -> u64 {
 }
 
 /// Plays calls on both, and compares answers, bitmap words and records after each.
-fn play(start: &Start, against: Against, calls: &[Call]) -> Result<(), String> {
+fn play(start: &Start, against: Against, calls: &[Call], found: &mut Tally) -> Result<(), String> {
     let Start { bitmap, frames, init } = *start;
     let Frames { start_frame, total, allocated, mut levels } = frames;
     let mut rust = access::of(&access::Record { start_frame, total, allocated, bitmap });
@@ -157,7 +173,11 @@ fn play(start: &Start, against: Against, calls: &[Call]) -> Result<(), String> {
     }
     compare(&ours, &rust, levels)?;
     for call in calls {
-        equal_at(call, port::play(&mut ours, call), play_rust(&mut rust, call))?;
+        let wanted = play_rust(&mut rust, call);
+        equal_at(call, port::play(&mut ours, call), wanted.into())?;
+        if let Call::DeallocateFrame { .. } = call {
+            found[wanted.value as usize] += 1;
+        }
         if *call == Call::Counts {
             let counts = [rust.free_frames(), rust.allocated_frames(), rust.total_frames()];
             equal_at(call, port::counts(&ours), counts.map(Line::met))?;
@@ -173,13 +193,26 @@ fn play_rust(rust: &mut FrameAllocator, call: &Call) -> Line {
             Some(frame) => return Line::met(frame.number()),
             None => return Line::refused(11),
         },
-        Call::DeallocateFrame { frame } => rust.deallocate_frame(access::frame(frame)),
+        Call::DeallocateFrame { frame } => return Line::met(free_rust(rust, frame) as u64),
         Call::MarkAllocated { frame } => rust.mark_allocated(frame),
         Call::IsAllocated { frame } => return Line::met(rust.is_allocated(frame).into()),
         Call::Counts => return Line::met(rust.allocated_frames()),
         _ => unreachable!("{call} is no call on frames"),
     }
     Line::met(0)
+}
+
+/// Frees a frame, which the Rust says nothing of: what was found of it, by the Rust's record before and after.
+fn free_rust(rust: &mut FrameAllocator, frame: u64) -> Finding {
+    let before = access::read(rust);
+    rust.deallocate_frame(access::frame(frame));
+    let after = access::read(rust);
+    let index = frame.wrapping_sub(before.start_frame);
+    match before.bitmap != after.bitmap {
+        true => Finding::Freed,
+        false if index < before.total => Finding::AlreadyFree,
+        false => Finding::NotHere,
+    }
 }
 
 fn compare(ours: &port::Port, rust: &FrameAllocator, levels: u64) -> Result<(), String> {

@@ -14,6 +14,7 @@ mod entries;
 mod example;
 mod five;
 mod frames;
+mod given;
 #[path = "../shared/guard.rs"]
 mod guard;
 #[path = "../shared/model/mod.rs"]
@@ -32,6 +33,8 @@ mod report;
 mod rights;
 mod rounding;
 mod search;
+#[path = "../shared/told.rs"]
+mod told;
 mod walks;
 mod working;
 
@@ -53,6 +56,7 @@ fn main() {
     question::check(&mut report, &options);
     five::check(&mut report);
     protect::check(&mut report, &options);
+    given::check(&mut report);
     differences::check(&mut report);
     papers::check(&mut report);
     search::check(&mut report, &options);

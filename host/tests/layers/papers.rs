@@ -9,10 +9,11 @@ use paper::call::Call;
 use paper::PAGE;
 use std::collections::BTreeSet;
 
-const PAPERS: [(&str, &str); 3] = [
+const PAPERS: [(&str, &str); 4] = [
     ("examples/user-page.txt", include_str!("../../../examples/user-page.txt")),
     ("examples/user-page-five.txt", include_str!("../../../examples/user-page-five.txt")),
     ("examples/mprotect.txt", include_str!("../../../examples/mprotect.txt")),
+    ("examples/given-back.txt", include_str!("../../../examples/given-back.txt")),
 ];
 
 pub fn check(report: &mut Report) {
@@ -71,6 +72,10 @@ impl Paper {
                 let (start, size) = (number(start)?, number(size)?);
                 self.region(Region { start, size, prot: signed(prot)?, flags: signed(flags)? })
             }
+            [ref call @ .., "freed", freed, "already_free", free, "not_here", off] => {
+                let call = frame_call(call).or_else(|_| region_call(call))?;
+                self.board.finds(call, [number(freed)?, number(free)?, number(off)?])
+            }
             [ref call @ .., "=", value] => self.call(call, Line::met(number(value)?)),
             [ref call @ .., "refused", why] => self.call(call, Line::refused(number(why)?)),
             _ => Err("no key".to_string()),
@@ -88,7 +93,7 @@ impl Paper {
             ["unmap_page", virt] => Call::UnmapPage { virt: number(virt)? },
             ["translate", virt] => Call::Translate { addr: number(virt)? },
             ["allocated_frames"] => Call::Counts,
-            _ => region_call(call)?,
+            _ => frame_call(call).or_else(|_| region_call(call))?,
         };
         self.board.play(&[(call, key.number, key.value)])
     }
@@ -129,6 +134,18 @@ impl Paper {
         equal_at("words that no line tells", untold, None)?;
         equal_at("the regions", self.listed()?, self.regions.clone())
     }
+}
+
+/// A call on a frame, the kernel's regions or a page that faults.
+fn frame_call(call: &[&str]) -> Result<Call, String> {
+    Ok(match *call {
+        ["deallocate_frame", frame] => Call::DeallocateFrame { frame: number(frame)? },
+        ["vmalloc", size] => Call::Vmalloc { size: number(size)? },
+        ["vfree", addr] => Call::Vfree { addr: number(addr)? },
+        ["mark_cow", addr] => Call::MarkCow { addr: number(addr)? },
+        ["fault", addr, "code", code] => Call::Fault { addr: number(addr)?, code: number(code)? },
+        _ => return Err("no such call".to_string()),
+    })
 }
 
 /// A call on mmap's regions.

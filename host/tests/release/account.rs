@@ -2,6 +2,7 @@
 //! book and the page tables that there must be. All of it from calls and answers alone.
 
 use crate::report::{equal, equal_at, holds};
+use crate::told::Told;
 use gadulnos::Line;
 use paper::call::Call;
 use paper::state::{Region, Slot, State, SLOTS};
@@ -124,6 +125,28 @@ impl Account {
         }
     }
 
+    /// That a release, which is about to be noted, freed a frame for every page of its region and found none that
+    /// was free or off the board, and that no other call tells of frames.
+    pub fn gives_back(&self, call: &Call, told: Told) -> Result<(), String> {
+        let region = match *call {
+            Call::Vfree { addr } => self.find(addr, true),
+            Call::Munmap { addr, .. } => self.find(addr, false),
+            _ => None,
+        };
+        let freed = match (told.line.number, region) {
+            (0, Some(at)) => self.live[at].size() / PAGE,
+            _ => 0,
+        };
+        equal_at(call, told.tally, [freed, 0, 0])
+    }
+
+    /// The place of a live region.
+    fn find(&self, addr: u64, kernel: bool) -> Option<usize> {
+        let is =
+            |live: &Live| live.start() == addr && matches!(live, Live::Kernel { .. }) == kernel;
+        self.live.iter().position(is)
+    }
+
     fn born(&mut self, region: Live) {
         self.live.push(region);
         self.ever_live.push(region);
@@ -132,9 +155,7 @@ impl Account {
     }
 
     fn died(&mut self, addr: u64, kernel: bool) -> Result<(), String> {
-        let is =
-            |live: &Live| live.start() == addr && matches!(live, Live::Kernel { .. }) == kernel;
-        let at = self.live.iter().position(is).ok_or(format!("{addr:x} to be a live region's"))?;
+        let at = self.find(addr, kernel).ok_or(format!("{addr:x} to be a live region's"))?;
         self.live.remove(at);
         Ok(())
     }

@@ -3,7 +3,7 @@
 use crate::model::Model;
 use crate::port::{self, Port};
 use crate::report::{equal, holds};
-use gadulnos::Line;
+use crate::told::Told;
 use paper::call::Call;
 use paper::domain::{self, Reason, Verdict};
 use paper::state::State;
@@ -35,23 +35,24 @@ impl Beside {
                 Foreseen { turned_away, kept }
             }
             Beside::Model(model) => {
-                let number = model.clone().play(call).number as u32;
+                let number = model.clone().play(call).line.number as u32;
                 Foreseen { turned_away: Some(number).filter(|n| [11, 13].contains(n)), kept: None }
             }
         }
     }
 
-    /// Makes a call that the port answered so.
-    pub fn play(&mut self, call: &Call, line: Line) -> Result<(), String> {
+    /// Makes a call of which the port told so. The Rust does not say what it found of frames.
+    pub fn play(&mut self, call: &Call, told: Told) -> Result<(), String> {
         match self {
             Beside::Rust(rust) => {
+                let line = told.line;
                 let outcome = rust.play(call);
                 let wanted = outcome.key_line(call.kind());
                 let number = u32::try_from(line.number).unwrap_or(u32::MAX);
                 holds(outcome.agrees(number, line.value), &format!("`{wanted}`, got {line:x?}"))
             }
             Beside::Model(model) => {
-                equal(line, model.play(call))?;
+                equal(told, model.play(call))?;
                 holds(!model.gave_up, "a release that is not too long for the model")
             }
         }
@@ -78,7 +79,7 @@ impl Beside {
         let call = Call::Translate { addr };
         match self {
             Beside::Rust(rust) => rust.play(&call).numbers.contains(14),
-            Beside::Model(model) => model.play(&call) == Line::refused(14),
+            Beside::Model(model) => model.play(&call) == Told::refused(14),
         }
     }
 }

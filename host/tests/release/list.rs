@@ -151,7 +151,7 @@ fn left_out(played: &Played, call: &Call, turned_away: Option<u32>) -> Option<&'
         None => {}
     }
     let mut trial = port::guarded(&port::unguarded(&played.port), Against::Behind);
-    let met = port::play(&mut trial, call).number == 0;
+    let met = port::play(&mut trial, call).line.number == 0;
     met.then_some("left out: a range above the top")
 }
 
@@ -159,10 +159,11 @@ impl Played {
     /// One call on both, and the account of it.
     fn one(&mut self, call: &Call, foreseen: &Foreseen, seen: &mut Seen) -> Result<(), String> {
         let full = self.account.book.len() == SLOTS;
-        let line = port::play(&mut self.port, call);
+        let told = port::play(&mut self.port, call);
+        let line = told.line;
         holds(line.number != 11 && line.number != 13, "neither 11 nor 13, as was foreseen")?;
         match foreseen.kept {
-            None => self.beside.play(call, line)?,
+            None => self.beside.play(call, told)?,
             // The Rust is not given the call: document 01 adds 3 or 20, or uses the exact sum, which no
             // region is found for, and nothing changes.
             Some(Reason::Sum) => {
@@ -177,6 +178,7 @@ impl Played {
             Some(why) => return Err(format!("outside the domain: {why:?}")),
         }
         let cuts = self.account.cuts;
+        self.account.gives_back(call, told)?;
         self.account.note(call, line)?;
         self.compare()?;
         seen.call(call, line.number, &self.account);

@@ -25,6 +25,8 @@ mod port;
 #[path = "../shared/report.rs"]
 mod report;
 mod seen;
+#[path = "../shared/told.rs"]
+mod told;
 
 use draw::Kind;
 use gadulnos::{LEVELS, MOST_LEVELS};

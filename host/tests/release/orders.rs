@@ -111,10 +111,11 @@ fn release(
             Live::Kernel { start, .. } => Call::Vfree { addr: start },
             Live::User(r) => Call::Munmap { addr: r.start, size: r.size - random.below(PAGE) },
         };
-        let line = port::play(&mut played.port, &call);
-        equal_at(call, line, Line::met(0))?;
-        played.beside.play(&call, line).map_err(|why| format!("{call}: {why}"))?;
-        played.account.note(&call, line)?;
+        let told = port::play(&mut played.port, &call);
+        equal_at(call, told.line, Line::met(0))?;
+        played.account.gives_back(&call, told)?;
+        played.beside.play(&call, told).map_err(|why| format!("{call}: {why}"))?;
+        played.account.note(&call, told.line)?;
         match closely {
             true => played.compare()?,
             false => played.account.check(&port::state(&played.port)?)?,

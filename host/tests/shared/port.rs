@@ -3,6 +3,7 @@
 #![allow(dead_code)] // no program uses all of it
 
 use crate::guard::{self, Against, Guarded, GuardedArray};
+use crate::told::Told;
 use gadulnos::{Board, Frames, Kernel, Line, Marked, User, BITMAP_BYTES, SHOWN_NUMBERS};
 use paper::call::{user, writable, Call};
 use paper::generate::Random;
@@ -80,14 +81,14 @@ pub fn packed(state: &State) -> Board {
 }
 
 /// Makes a call. The bool of a question that nothing can refuse is its value.
-pub fn play(port: &mut Port, call: &Call) -> Line {
+pub fn play(port: &mut Port, call: &Call) -> Told {
     guard::calling(call);
-    match *call {
+    let line = match *call {
+        Call::Vfree { addr } => return port.vfree(addr).into(),
+        Call::Munmap { addr, size } => return port.munmap(addr, size).into(),
+        Call::Fault { addr, code } => return port.handle_page_fault(addr, code).into(),
         Call::Vmalloc { size } => port.vmalloc(size),
-        Call::Vfree { addr } => port.vfree(addr),
         Call::Mmap { given, addr, size, prot, flags } => port.mmap(given, addr, size, prot, flags),
-        Call::Munmap { addr, size } => port.munmap(addr, size),
-        Call::Fault { addr, code } => port.handle_page_fault(addr, code),
         Call::Translate { addr } => port.translate(addr),
         Call::SecondFault { addr, code } => port.handle_page_fault_second(addr, code),
         Call::MapPage { virt, phys, flags } => {
@@ -107,7 +108,8 @@ pub fn play(port: &mut Port, call: &Call) -> Line {
         Call::IsVmallocAddr { addr } => Line::met(gadulnos::is_vmalloc_addr(addr).into()),
         Call::Mprotect { addr, size, prot } => port.mprotect(addr, size, prot),
         Call::Counts => port.allocated_frames(),
-    }
+    };
+    line.into()
 }
 
 /// The three counts: free, allocated, total.

@@ -68,15 +68,15 @@ impl Event {
 
 /// The lent frames and the root, by their numbers.
 #[derive(Clone, Copy)]
-struct Tables {
-    frames: Frames,
-    root: u64,
+pub struct Tables {
+    pub frames: Frames,
+    pub root: u64,
 }
 
 impl Tables {
     /// The words that `unmap_page` reads on its way, which does not look at HUGE; all of them, the page's last, if
     /// it finds the page.
-    fn way(&self, words: &[u64], virt: u64) -> (Vec<usize>, bool) {
+    pub fn way(&self, words: &[u64], virt: u64) -> (Vec<usize>, bool) {
         let Frames { start_frame, total, levels, .. } = self.frames;
         let (mut way, mut table) = (Vec::new(), self.root);
         for level in (1..=levels).rev() {
@@ -108,7 +108,7 @@ impl Tables {
     }
 }
 
-fn frame_of(word: u64) -> u64 {
+pub fn frame_of(word: u64) -> u64 {
     (word & 0x000F_FFFF_FFFF_F000) / PAGE
 }
 
@@ -143,7 +143,7 @@ pub fn check(
 /// 'As munmap does, in munmap's order of checks': munmap answers the same, or 10 for what it is lent besides.
 fn as_munmap(before: &Board, asked: &Asked, line: Line) -> Result<(), String> {
     let mut trial = port::guarded(before, Against::Behind);
-    let munmap = trial.munmap(asked.addr, asked.size);
+    let munmap = trial.munmap(asked.addr, asked.size).line();
     let same = munmap == line || munmap == Line::refused(10);
     holds(same, &format!("the number that munmap has, {munmap:x?}, not {line:x?}"))
 }

@@ -3,7 +3,7 @@ use native.Mathlib.Omega.{arith}
 use Rattle.paging.specs.Kept.{lentMemory}
 use Rattle.paging.proofs.Map.{roomy-less}
 use Rattle.paging.specs.Map.{Memory, memory}
-use Rattle.copying.proofs.Copying.{frame-low, copied-on-roomy, copy-to-stop, copy-to-on}
+use Rattle.copying.proofs.Copying.{frame-low, copied-on-roomy, copy-to-stop, copy-to-on, copy-to-none, copy-to-found}
 use borrow.Author.Needs.{needs}
 use Rattle.copying.proofs.copy_to.Statement.{statement}
 use Rattle.copying.proofs.copy_to.Tie as tie
@@ -13,6 +13,9 @@ copy-page-requires c κs = search needs
 
 enum-known-walked : tie.Need-enum-known-walked
 enum-known-walked c = search needs
+
+none-requires : tie.Need-none-requires
+none-requires c κs = search needs
 
 enum-told : tie.Need-enum-told
 enum-told c = search needs
@@ -34,19 +37,27 @@ same-length c = search needs
 
 returns : tie.Need-returns
 returns c =
-    let s = c .before .before .before .before .before .before .before .before .before .before in
-    copy-to-stop (s .args .up) (lent s) (s .args .root .0) (s .args .page .0) (s .args .f) (s .args .user)
-    (c .before .before .before .before .before .before .copy-page .ensures) (c .before .walked .given .1)
+    let d = c .before .before .before .before .before .before .before in
+    let s = d .before .before .before .before in
+    let a = s .args in
+    let h = c .before .before .walked .given .1 in (
+      copy-to-stop (a .up) (lent s) (a .root .0) (a .page .0) (a .f) (a .user) (d .copy-page .ensures) h,
+      copy-to-none (a .up) (lent s) (a .root .0) (a .page .0) (a .f) (a .user) (d .copy-page .ensures) h (c .none .ensures),
+    )
 
 same-length-2 : tie.Need-same-length-2
 same-length-2 c = search needs
 
 returns-2 : tie.Need-returns-2
 returns-2 c =
-    let s = c .before .before .before .before .before .before .before .before .before .before .before .before .before .before in
-    copy-to-on (s .args .up) (lent s) (s .args .root .0) (s .args .page .0) (s .args .f) (s .args .user)
-    (c .before .before .before .before .before .before .before .before .before .before .copy-page .ensures)
-    (c .before .before .before .before .before .enum-told .given .1) (c .before .before .remap-page .ensures)
+    let d = c .before .before .before .before .before .before .before .before .before .before in
+    let s = d .before .before .before .before in
+    let a = s .args in
+    let r = c .before .before .remap-page .ensures in
+    let h = c .before .before .before .before .before .enum-told .given .1 in (
+      copy-to-on (a .up) (lent s) (a .root .0) (a .page .0) (a .f) (a .user) (d .copy-page .ensures) h (r .0),
+      copy-to-found (a .up) (lent s) (a .root .0) (a .page .0) (a .f) (a .user) (d .copy-page .ensures) h (r .1),
+    )
 
 pub copy-to-spec : {M : Type 1} → statement M
 copy-to-spec =
@@ -54,6 +65,7 @@ copy-to-spec =
     (tie.spec
     copy-page-requires
     enum-known-walked
+    none-requires
     enum-told
     remap-page-requires
     same-length

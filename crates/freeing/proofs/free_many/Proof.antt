@@ -4,7 +4,10 @@ use mathlib.Core.Path.{_≡_, refl, sym, _∙_, ap}
 use borrow.Author.Needs.{needs}
 use Rattle.paging.specs.Kept.{lentMemory}
 use Rattle.paging.specs.Map.{Memory}
+use Rattle.frame.specs.declared.Tally.{Tally}
 use Rattle.paging.specs.Pages.{freePages}
+use Rattle.paging.specs.Found.{pagesFound, Tells}
+use Rattle.paging.proofs.Found.{pages-found}
 use Rattle.freeing.proofs.Steps.{most-are, most-fit, block-above}
 use Rattle.freeing.proofs.Blanks.{blank-start}
 use Rattle.freeing.proofs.free_many.Statement.{statement}
@@ -29,6 +32,14 @@ all-freed o up e =
     let a = o .before .before .before .args in
     ap (λ (k : ℕ). freed o k (o .at-most .result)) e ∙ most-are (a .up) (a .root .0) (a .virt .0) (a .n) (lentMemory (a .words .now) (a .bitmap .now) (a .frames)) (o .before .all-pages .ensures) (o .at-most .ensures)
 
+-- .. and what is told of those is told of all n
+all-found : (o : tie.After-at-most) {left : Memory} {t : Tally} → let a = o .before .before .before .args in
+    let m = lentMemory (a .words .now) (a .bitmap .now) (a .frames) in
+    left ≡ freed o (a .up) (a .n) → Tells m left t → t ≡ pagesFound (a .up) m (a .root .0) (a .virt .0) (a .n)
+all-found o e h =
+    let a = o .before .before .before .args in
+    pages-found (a .up) (a .root .0) (a .n) (lentMemory (a .words .now) (a .bitmap .now) (a .frames)) (a .virt .0) e h
+
 free-run-requires : tie.Need-free-run-requires
 free-run-requires c κs =
     let o = c .before .before .before .before in
@@ -41,7 +52,9 @@ same-length c = search needs
 returns : tie.Need-returns
 returns c =
     let r = c .before .before in
-    r .free-run .ensures .1 ∙ all-freed (r .before .before .before .before .before) _ refl
+    let o = r .before .before .before .before .before in
+    let e = r .free-run .ensures .1 .0 ∙ all-freed o _ refl in
+    (e, all-found o e (r .free-run .ensures .1 .1))
 
 free-blocks-requires : tie.Need-free-blocks-requires
 free-blocks-requires c κs =
@@ -65,7 +78,9 @@ returns-2 : tie.Need-returns-2
 returns-2 c =
     let r = c .before .before in
     let t = r .before .before .before .before in
-    r .free-blocks .ensures ∙ all-freed (t .before .before) 3 (sym (t .if2 .taken))
+    let o = t .before .before in
+    let e = r .free-blocks .ensures .0 ∙ all-freed o 3 (sym (t .if2 .taken)) in
+    (e, all-found o e (r .free-blocks .ensures .1))
 
 free-blocks-requires-2 : tie.Need-free-blocks-requires-2
 free-blocks-requires-2 c κs =
@@ -88,7 +103,9 @@ same-length-3 c = search needs
 returns-3 : tie.Need-returns-3
 returns-3 c =
     let r = c .before .before in
-    r .free-blocks2 .ensures ∙ all-freed (r .before .before .before .before .before .before) _ refl
+    let o = r .before .before .before .before .before .before in
+    let e = r .free-blocks2 .ensures .0 ∙ all-freed o _ refl in
+    (e, all-found o e (r .free-blocks2 .ensures .1))
 
 pub free-many-spec : {M : Type 1} → statement M
 free-many-spec =

@@ -8,15 +8,16 @@ use Rattle.bits.proofs.Choice.{both-true}
 use Rattle.allocator.specs.Round.{rounded}
 use Rattle.answer.specs.declared.Answer.{Answer}
 use Rattle.answer.specs.declared.Outcome.the-variants.{Value}
+use Rattle.frame.specs.declared.Tally.{Tally}
 use Rattle.frame.proofs.Laws.{passed, failed}
 use Rattle.answer.specs.Outcomes.{asAnswer}
 use Rattle.paging.specs.Kept.{Kept}
 use Rattle.mappings.specs.Packed.{mmapFit}
 use Rattle.mmap.specs.declared.Munmapped.{Munmapped}
-use Rattle.mmap.specs.Calls.{User, UserDid, soundUser, unmapRegion, munmapOf}
-use Rattle.mmap.specs.Packed.{lentUser, munmapOn, munmapped, UserReads, UserLeaves}
-use Rattle.mmap.proofs.Leaving.{not-unmapped-left, on-list, on-broken}
-use Rattle.mmap.proofs.Steps.{munmap-broken, munmap-empty, munmap-odd, munmap-large, munmap-sized}
+use Rattle.mmap.specs.Calls.{User, UserDid, soundUser, unmapRegion, munmapOf, regionFound}
+use Rattle.mmap.specs.Packed.{lentUser, munmapOn, munmapFoundOn, munmapped, UserReads, UserLeaves}
+use Rattle.mmap.proofs.Leaving.{not-unmapped-left, not-unmapped-found, on-list, on-broken}
+use Rattle.mmap.proofs.Steps.{munmap-broken, munmap-empty, munmap-odd, munmap-large, munmap-sized, tally-broken, tally-empty, tally-odd, tally-large, tally-sized}
 use Rattle.mmap.proofs.munmap.Statement.{statement}
 use Rattle.mmap.proofs.munmap.Tie as tie
 
@@ -55,9 +56,12 @@ returns c =
     let k = w .before .before .before .before in
     let s = k .before .before in
     let a = s .args in
-    let r = on-broken asAnswer (call s) (lent s .mem) (a .list .now) (λ i. k .slice-known2 .given i .fits) (soundUser (lent s) (a .root .0))
-    (failed (w .is-whole .ensures) (c .before .if1 .taken)) (munmap-broken (s .args .frames .levels - 1) (lent s) (a .root .0) (a .addr .0) (a .size)) in
-    (ap (λ (x : Munmapped). munmapped x (a .words .now) (a .bitmap .now) (a .list .now)) (c .not-unmapped .ensures) ∙ r .0, r .1)
+    let b = failed (w .is-whole .ensures) (c .before .if1 .taken) in
+    let r = on-broken asAnswer (call s) (lent s .mem) (a .list .now) (λ i. k .slice-known2 .given i .fits) (soundUser (lent s) (a .root .0)) b
+    (munmap-broken (a .frames .levels - 1) (lent s) (a .root .0) (a .addr .0) (a .size)) in (
+      ap (λ (x : Munmapped). munmapped x (a .words .now) (a .bitmap .now) (a .list .now)) (c .not-unmapped .ensures) ∙ r .0,
+      (r .1, not-unmapped-found (c .not-unmapped .ensures) (tally-broken (lent s .mem) (a .list .now) (a .root .0) (a .addr .0) (a .size) b)),
+    )
 
 not-unmapped-requires-2 : tie.Need-not-unmapped-requires-2
 not-unmapped-requires-2 c κs = tt
@@ -74,9 +78,11 @@ returns-2 c =
     let k = e .before .before .before .before .before in
     let s = k .before .before in
     let a = s .args in
-    on-list asAnswer (call s) (lent s .mem) (a .list .now) (good e .0)
-    (not-unmapped-left _ (λ i. k .slice-known2 .given i .fits) (good e .0)
-    (munmap-empty (s .args .frames .levels - 1) (lent s) (a .root .0) (a .addr .0) (a .size) (good e .1) (c .before .if2 .taken)) (c .not-unmapped2 .ensures))
+    let g = good e in
+    let z = c .before .if2 .taken in
+    let r = on-list asAnswer (call s) (lent s .mem) (a .list .now) (g .0)
+    (not-unmapped-left _ (λ i. k .slice-known2 .given i .fits) (g .0) (munmap-empty (a .frames .levels - 1) (lent s) (a .root .0) (a .addr .0) (a .size) (g .1) z) (c .not-unmapped2 .ensures)) in
+    (r .0, (r .1, not-unmapped-found (c .not-unmapped2 .ensures) (tally-empty (lent s .mem) (a .list .now) (a .root .0) (a .addr .0) (a .size) (g .0) (g .1) z)))
 
 not-unmapped-requires-3 : tie.Need-not-unmapped-requires-3
 not-unmapped-requires-3 c κs = tt
@@ -94,9 +100,11 @@ returns-3 c =
     let k = e .before .before .before .before .before .before in
     let s = k .before .before in
     let a = s .args in
-    on-list asAnswer (call s) (lent s .mem) (a .list .now) (g .0)
+    let o = c .before .if3 .taken in
+    let r = on-list asAnswer (call s) (lent s .mem) (a .list .now) (g .0)
     (not-unmapped-left _ (λ i. k .slice-known2 .given i .fits) (g .0)
-    (munmap-odd (s .args .frames .levels - 1) (lent s) (a .root .0) (a .addr .0) (a .size) (g .1) (e .if2 .left) (c .before .if3 .taken)) (c .not-unmapped3 .ensures))
+    (munmap-odd (a .frames .levels - 1) (lent s) (a .root .0) (a .addr .0) (a .size) (g .1) (e .if2 .left) o) (c .not-unmapped3 .ensures)) in
+    (r .0, (r .1, not-unmapped-found (c .not-unmapped3 .ensures) (tally-odd (lent s .mem) (a .list .now) (a .root .0) (a .addr .0) (a .size) (g .0) (g .1) (e .if2 .left) o)))
 
 page-align-up-requires : tie.Need-page-align-up-requires
 page-align-up-requires c κs = tt
@@ -129,10 +137,17 @@ returns-4 c =
     let k = e .before .before .before .before .before .before in
     let s = k .before .before in
     let a = s .args in
-    on-list asAnswer (call s) (lent s .mem) (a .list .now) (g .0)
+    let n = sym (r .page-align-up .ensures) ∙ x .e .given .1 in
+    let o = on-list asAnswer (call s) (lent s .mem) (a .list .now) (g .0)
     (not-unmapped-left _ (λ i. k .slice-known2 .given i .fits) (g .0)
-    (munmap-large (s .args .frames .levels - 1) (lent s) (a .root .0) (a .addr .0) (a .size) (g .1) (e .if2 .left) (t .if3 .left) _ (sym (r .page-align-up .ensures) ∙ x .e .given .1))
-    (c .not-unmapped4 .ensures))
+    (munmap-large (a .frames .levels - 1) (lent s) (a .root .0) (a .addr .0) (a .size) (g .1) (e .if2 .left) (t .if3 .left) _ n) (c .not-unmapped4 .ensures)) in (
+      o .0,
+      (
+        o .1,
+        not-unmapped-found (c .not-unmapped4 .ensures)
+            (tally-large (lent s .mem) (a .list .now) (a .root .0) (a .addr .0) (a .size) (g .0) (g .1) (e .if2 .left) (t .if3 .left) _ n),
+      ),
+    )
 
 same-length-9 : tie.Need-same-length-9
 same-length-9 c = search needs
@@ -140,14 +155,18 @@ same-length-9 c = search needs
 same-length-10 : tie.Need-same-length-10
 same-length-10 c = search needs
 
--- what the region leaves, over the arguments alone
-sized : (s : tie.Start) (n : ℕ) {k : Kept Answer} → Good s → (s .args .size ≡ 0 → ⊥)
+-- what the region leaves and what is found, over the arguments alone
+sized : (s : tie.Start) (n : ℕ) {k : Kept Answer} {f : Tally} → Good s → (s .args .size ≡ 0 → ⊥)
     → s .args .addr .0 % 4096 ≡ 0 → rounded (s .args .size) ≡ Value n → UserLeaves asAnswer k (unmapRegion (s .args .frames .levels - 1) (lent s) (s .args .root .0) (s .args .addr .0) n)
-    → (k ≡ munmapOn (lent s .mem) (s .args .list .now) (s .args .root .0) (s .args .addr .0) (s .args .size)) × UserReads (call s) (lent s .mem) (s .args .list .now) (k .list)
-sized s n {k = k} g z o e t =
+    → f ≡ regionFound (s .args .frames .levels - 1) (lent s) (s .args .root .0) (s .args .addr .0) n
+    → (k ≡ munmapOn (lent s .mem) (s .args .list .now) (s .args .root .0) (s .args .addr .0) (s .args .size))
+    × (UserReads (call s) (lent s .mem) (s .args .list .now) (k .list)
+    × (f ≡ munmapFoundOn (lent s .mem) (s .args .list .now) (s .args .root .0) (s .args .addr .0) (s .args .size)))
+sized s n {k = k} g z o e t f =
     let a = s .args in
-    on-list asAnswer (call s) (lent s .mem) (a .list .now) (g .0)
-    (subst (UserLeaves asAnswer k) (sym (munmap-sized (s .args .frames .levels - 1) (lent s) (a .root .0) (a .addr .0) (a .size) (g .1) z o n e)) t)
+    let r = on-list asAnswer (call s) (lent s .mem) (a .list .now) (g .0)
+    (subst (UserLeaves asAnswer k) (sym (munmap-sized (a .frames .levels - 1) (lent s) (a .root .0) (a .addr .0) (a .size) (g .1) z o n e)) t) in
+    (r .0, (r .1, f ∙ sym (tally-sized (lent s .mem) (a .list .now) (a .root .0) (a .addr .0) (a .size) (g .0) (g .1) z o n e)))
 
 returns-5 : tie.Need-returns-5
 returns-5 c =
@@ -157,7 +176,7 @@ returns-5 c =
     let t = r .before in
     let e = t .before .before in
     sized (e .before .before .before .before .before .before .before .before) (n .n .given .0 .0) (good (e .before)) (e .if2 .left) (t .if3 .left)
-    (sym (r .page-align-up .ensures) ∙ n .n .given .1) (u .unmap-region .ensures)
+    (sym (r .page-align-up .ensures) ∙ n .n .given .1) (u .unmap-region .ensures .0) (u .unmap-region .ensures .1)
 
 pub munmap-spec : {M : Type 1} → statement M
 munmap-spec =

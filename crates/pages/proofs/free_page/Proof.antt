@@ -1,10 +1,12 @@
 -- `free_page`: the leaf, if there is one, and then its frame.
-use mathlib.Core.Path.{sym, _∙_}
+use mathlib.Core.Path.{sym, _∙_, ap}
 use borrow.Author.Needs.{needs}
-use Rattle.frame.specs.Frames.{lentFrames}
+use Rattle.frame.specs.Frames.{Frames}
+use Rattle.paging.specs.Map.{memory}
 use Rattle.paging.specs.Kept.{lentMemory}
 use Rattle.paging.proofs.Pages.{free-none, free-page}
-use Rattle.pages.proofs.Laws.{unmapped, given-back}
+use Rattle.paging.proofs.Found.{page-found-none, page-found}
+use Rattle.pages.proofs.Laws.{unmapped}
 use Rattle.pages.proofs.free_page.Statement.{statement}
 use Rattle.pages.proofs.free_page.Tie as tie
 
@@ -14,34 +16,42 @@ unmap-leaf-requires c κs = search needs
 enum-told : tie.Need-enum-told
 enum-told c = c .match .keys1
 
+none-requires : tie.Need-none-requires
+none-requires c κs = search needs
+
 enum-known-f : tie.Need-enum-known-f
 enum-known-f c = c .match .keys2
 
-give-frame-requires : tie.Need-give-frame-requires
-give-frame-requires c κs = c .before .before .before .before .before .before .before .before .before .pre .0 .held
+give-back-requires : tie.Need-give-back-requires
+give-back-requires c κs = c .before .before .before .before .before .before .before .before .before .pre .0 .held
 
 same-length : tie.Need-same-length
-same-length c = c .before .before .before .before .unmap-leaf .kept .0
+same-length c = c .before .before .before .before .before .unmap-leaf .kept .0
 
 returns : tie.Need-returns
 returns c =
-    let u = c .before .before .before .before in
+    let u = c .before .before .before .before .before in
     let a = u .before .before .before .args in
-    sym (free-none (a .up) (lentMemory (a .words .now) (a .bitmap .now) (a .frames)) (a .root .0) (a .virt .0) _ (u .unmap-leaf .last .0)
-    (unmapped (u .unmap-leaf .ensures .0) (u .unmap-leaf .ensures .1) (c .enum-told .given .1)))
+    let m = lentMemory (a .words .now) (a .bitmap .now) (a .frames) in
+    let came = unmapped (u .unmap-leaf .ensures .0) (u .unmap-leaf .ensures .1) (c .before .enum-told .given .1) in (
+      sym (free-none (a .up) m (a .root .0) (a .virt .0) _ (u .unmap-leaf .last .0) came),
+      c .none .ensures ∙ sym (page-found-none (a .up) m (a .root .0) (a .virt .0) _ (u .unmap-leaf .last .0) came),
+    )
 
 same-length-2 : tie.Need-same-length-2
-same-length-2 c = c .before .before .before .before .before .before .before .before .unmap-leaf .kept .0
+same-length-2 c = c .before .before .before .before .before .before .before .unmap-leaf .kept .0
 
 returns-2 : tie.Need-returns-2
 returns-2 c =
-    let g = c .before in
-    let f = g .before .before .before in
+    let f = c .before .before .before in
     let u = f .before .before .before .before in
     let a = u .before .before .before .args in
-    given-back (u .unmap-leaf .last .0) (lentFrames (a .bitmap .now) (a .frames)) _ (g .give-frame .ensures .0) (g .give-frame .ensures .1)
-    ∙ sym (free-page (a .up) (lentMemory (a .words .now) (a .bitmap .now) (a .frames)) (a .root .0) (a .virt .0) _ (u .unmap-leaf .last .0)
-    (unmapped (u .unmap-leaf .ensures .0) (u .unmap-leaf .ensures .1) (f .f .given .1)))
+    let m = lentMemory (a .words .now) (a .bitmap .now) (a .frames) in
+    let came = unmapped (u .unmap-leaf .ensures .0) (u .unmap-leaf .ensures .1) (f .f .given .1) in (
+      ap (λ (x : Frames). memory (u .unmap-leaf .last .0) x) (c .give-back .ensures .0)
+          ∙ sym (free-page (a .up) m (a .root .0) (a .virt .0) _ (u .unmap-leaf .last .0) came),
+      c .give-back .ensures .1 ∙ sym (page-found (a .up) m (a .root .0) (a .virt .0) _ (u .unmap-leaf .last .0) came),
+    )
 
 pub free-page-spec : {M : Type 1} → statement M
 free-page-spec =
@@ -49,8 +59,9 @@ free-page-spec =
     (tie.spec
     unmap-leaf-requires
     enum-told
+    none-requires
     enum-known-f
-    give-frame-requires
+    give-back-requires
     same-length
     returns
     same-length-2

@@ -23,7 +23,7 @@ returns c =
     let s = v .before .before .before .before .before .before .before .before in
     let a = s .args in
     fault-turn (a .records) (a .words .now) (a .bitmap .now) (a .marked .now) 5 _ (c .answer-line .ensures)
-    (λ (f : Faulting). handleFaultOf f (a .records .root .0) (a .c .addr) (a .c .code)) (s .pre) (v .handle-page-fault .ensures .0) (v .handle-page-fault .ensures .1)
+    (λ (f : Faulting). handleFaultOf f (a .records .root .0) (a .c .addr) (a .c .code)) (s .pre) (v .handle-page-fault .ensures .0) (v .handle-page-fault .ensures .1 .0)
 
 pub play-fault-spec : {M : Type 1} → statement M
 play-fault-spec =

@@ -27,7 +27,7 @@ returns c =
     let s = v .before .before .before .before .before .before .before .before in
     let a = s .args in
     user-turn (a .records) (a .words .now) (a .bitmap .now) (a .user .now) 4 asAnswer answerLine _ (c .answer-line .ensures)
-    (λ (u : User). munmapOf u (a .records .root .0) (a .c .addr) (a .c .size)) (s .pre) (v .munmap .ensures .0) (v .munmap .ensures .1)
+    (λ (u : User). munmapOf u (a .records .root .0) (a .c .addr) (a .c .size)) (s .pre) (v .munmap .ensures .0) (v .munmap .ensures .1 .0)
 
 pub play-munmap-spec : {M : Type 1} → statement M
 play-munmap-spec =

@@ -27,7 +27,7 @@ returns c =
     let s = v .before .before .before .before .before .before .before .before in
     let a = s .args in
     kernel-turn (a .records) (a .words .now) (a .bitmap .now) (a .kernel .now) 2 asAnswer answerLine _ (c .answer-line .ensures)
-    (λ (k : Kernel). vfreeOf k (a .records .root .0) (a .addr)) (s .pre) (v .vfree .ensures .0) (v .vfree .ensures .1)
+    (λ (k : Kernel). vfreeOf k (a .records .root .0) (a .addr)) (s .pre) (v .vfree .ensures .0) (v .vfree .ensures .1 .0)
 
 pub play-vfree-spec : {M : Type 1} → statement M
 play-vfree-spec =

@@ -1,7 +1,8 @@
 //! Marked pages and both fault paths.
 
 use super::memory::{entry, Memory};
-use super::{Answer, Model, BROKEN};
+use super::{Answer, Giving, Model, BROKEN};
+use crate::told::NONE;
 use gadulnos::SLOTS;
 use paper::state::page_of;
 use paper::{PAGE, TEMPORARY};
@@ -49,8 +50,8 @@ impl Model {
         Ok(self.sound_marked()?.contains(&page_of(addr)).into())
     }
 
-    /// The first path.
-    pub fn fault(&mut self, addr: u64, code: u64) -> Answer {
+    /// The first path. Of a copy, what was found of 'its one, or none where the remapping unmapped no page'.
+    pub fn fault(&mut self, addr: u64, code: u64) -> Giving {
         let whole = self.is_whole();
         let marked =
             self.sound_marked().and_then(|list| if whole { Ok(list) } else { Err(BROKEN) })?;
@@ -66,15 +67,17 @@ impl Model {
                 true if heap && fetch => Err(7),
                 true => self.change(|memory| {
                     let frame = memory.take()?;
-                    memory.map(page, entry(frame * PAGE, write, user)).map_err(|_| 18)
+                    memory.map(page, entry(frame * PAGE, write, user)).map_err(|_| 18u64)?;
+                    Ok(NONE)
                 }),
             };
         }
         match (write, fetch) {
             (true, _) if !marked.contains(&page) => Err(17),
             (true, _) => {
-                self.change(|memory| copy(memory, page, user))?;
-                self.unmark_cow(page)
+                let tally = self.change(|memory| copy(memory, page, user))?;
+                self.unmark_cow(page)?;
+                Ok(tally)
             }
             (false, true) => Err(7),
             (false, false) => Err(8),
@@ -103,8 +106,9 @@ impl Model {
 }
 
 /// 'new frame, unmap that page if mapped, map it, copy from where `translate` now puts the faulting
-/// page, unmap, remap the faulting page, free the old frame'.
-fn copy(memory: &mut Memory, page: u64, user: bool) -> Answer {
+/// page, unmap, remap the faulting page, free the old frame'. 'The temporary page aside', that is the one
+/// that counts.
+fn copy(memory: &mut Memory, page: u64, user: bool) -> Giving {
     let frame = memory.take()?;
     if memory.translate(TEMPORARY).is_ok() {
         let _ = memory.unmap(TEMPORARY);
@@ -117,8 +121,10 @@ fn copy(memory: &mut Memory, page: u64, user: bool) -> Answer {
     }
     let _ = memory.unmap(TEMPORARY);
     source.ok_or(18u64)?;
+    let mut tally = NONE;
     if let Ok(old) = memory.unmap(page) {
-        memory.free(old);
+        tally[memory.free(old)] += 1;
     }
-    memory.map(page, entry(frame * PAGE, true, user)).map_err(|_| 18)
+    memory.map(page, entry(frame * PAGE, true, user)).map_err(|_| 18u64)?;
+    Ok(tally)
 }

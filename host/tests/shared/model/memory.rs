@@ -1,6 +1,7 @@
 //! Frames and page tables. Levels count from the bottom, 1 the last.
 
 use super::{is_levels, Answer};
+use crate::told::{Tally, NONE};
 use gadulnos::{Bitmap, Frames};
 use paper::state::is_multiple;
 use paper::PAGE;
@@ -63,12 +64,17 @@ impl Memory<'_> {
         0
     }
 
-    pub fn free(&mut self, frame: u64) -> u64 {
-        if let (Some(i), true) = (self.lent(frame), self.is_marked(frame)) {
-            self.bitmap[i / 64] &= !(1 << (i % 64));
-            self.frames.allocated -= 1;
+    /// Frees a frame: 'freed, already free, not on this board', by their places in a tally, 0, 1 and 2.
+    pub fn free(&mut self, frame: u64) -> usize {
+        match self.lent(frame) {
+            Some(i) if self.is_marked(frame) => {
+                self.bitmap[i / 64] &= !(1 << (i % 64));
+                self.frames.allocated -= 1;
+                0
+            }
+            Some(_) => 1,
+            None => 2,
         }
-        0
     }
 
     /// Marks the lowest free frame.
@@ -197,26 +203,26 @@ impl Memory<'_> {
     }
 
     /// Unmaps pages and frees their frames, one after the other, passing over those that are not
-    /// mapped. False if it took too many steps.
-    pub fn release(&mut self, start: u64, pages: u64) -> bool {
+    /// mapped: 'how many frames fell in each'. Nothing if it took too many steps.
+    pub fn release(&mut self, start: u64, pages: u64) -> Option<Tally> {
         // Once all indices came round, no page is mapped: an absent entry stays absent.
         let pages = pages.min(1 << (9 * self.frames.levels));
-        let mut done = 0;
+        let (mut done, mut tally) = (0, NONE);
         for _ in 0..MANY_STEPS {
             if done >= pages {
-                return true;
+                return Some(tally);
             }
             match self.find(start.wrapping_add(done.wrapping_mul(PAGE))) {
                 Found::Gap(gap) => done += gap,
                 Found::Leaf(at) => {
                     let frame = frame_of(self.words[at]);
                     self.words[at] = 0;
-                    self.free(frame);
+                    tally[self.free(frame)] += 1;
                     done += 1;
                 }
             }
         }
-        false
+        None
     }
 
     fn find(&self, virt: u64) -> Found {

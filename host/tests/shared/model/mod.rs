@@ -1,7 +1,7 @@
 //! Document 01, written a second time and in the plainest way, on copies of what is lent, for boards of
 //! four and of five levels: the frame record has their number. It knows also what lies outside the domain
 //! of equality: 10, 19, 20 and the leftovers, and of document 02 the working of a translation, the rule of
-//! the user question and mprotect.
+//! the user question, mprotect and what giving frames back finds.
 
 #![allow(dead_code)] // no program uses all of it
 
@@ -11,6 +11,7 @@ mod protect;
 mod regions;
 mod working;
 
+use crate::told::{Tally, Told};
 use gadulnos::{Bitmap, Board, Frames, Kernel, Line, Marked, Marks, User, SLOTS};
 use memory::Memory;
 use paper::call::{user, writable, Call};
@@ -21,6 +22,9 @@ use std::ops::Deref;
 
 /// A value, or one of document 01's numbers.
 pub type Answer = Result<u64, u64>;
+
+/// What was found of the frames that a met call gave back, or one of document 01's numbers.
+pub type Giving = Result<Tally, u64>;
 
 const BROKEN: u64 = 10;
 
@@ -85,19 +89,22 @@ impl Model {
         same("word", &board.words, &self.words)
     }
 
-    pub fn play(&mut self, call: &Call) -> Line {
-        self.answer(call).map_or_else(Line::refused, Line::met)
+    pub fn play(&mut self, call: &Call) -> Told {
+        let giving = match *call {
+            Call::Vfree { addr } => self.vfree(addr),
+            Call::Munmap { addr, size } => self.munmap(addr, size),
+            Call::Fault { addr, code } => self.fault(addr, code),
+            _ => return self.answer(call).map_or_else(Told::refused, Told::met),
+        };
+        giving.map_or_else(Told::refused, Told::found)
     }
 
     fn answer(&mut self, call: &Call) -> Answer {
         match *call {
             Call::Vmalloc { size } => self.vmalloc(size),
-            Call::Vfree { addr } => self.vfree(addr),
             Call::Mmap { given, addr, size, prot, flags } => {
                 self.mmap(given.then_some(addr), size, prot, flags)
             }
-            Call::Munmap { addr, size } => self.munmap(addr, size),
-            Call::Fault { addr, code } => self.fault(addr, code),
             Call::SecondFault { addr, code } => self.second_fault(addr, code),
             Call::Translate { addr } => self.on_walk(|memory| memory.translate(addr)),
             Call::UnmapPage { virt } => self.on_walk(|memory| memory.unmap(virt)),
@@ -127,7 +134,7 @@ impl Model {
         let mut memory = self.memory();
         let answer = match *call {
             Call::AllocateFrame => memory.take(),
-            Call::DeallocateFrame { frame } => Ok(memory.free(frame)),
+            Call::DeallocateFrame { frame } => Ok(memory.free(frame) as u64),
             Call::MarkAllocated { frame } => Ok(memory.mark(frame)),
             Call::IsAllocated { frame } => Ok(memory.is_marked(frame).into()),
             Call::Counts => Ok(memory.frames.allocated),

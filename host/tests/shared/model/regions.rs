@@ -1,7 +1,7 @@
 //! vmalloc, vfree, mmap and munmap.
 
 use super::memory::{entry, Memory};
-use super::{is_misplaced, Answer, Model, BROKEN};
+use super::{is_misplaced, Answer, Giving, Model, BROKEN};
 use gadulnos::{Kernel, Region, Slot, SLOTS};
 use paper::state::is_multiple;
 use paper::{LAST, PAGE, USER_WINDOW};
@@ -48,16 +48,17 @@ impl Model {
         mapped.map(|()| start).map_err(|(number, _)| number)
     }
 
-    pub fn vfree(&mut self, addr: u64) -> Answer {
+    pub fn vfree(&mut self, addr: u64) -> Giving {
         let mut list = self.sound_kernel()?;
         let known = |slot: &Slot| slot.start == addr && slot.used && addr != 0;
         let i = list.iter().position(known).ok_or(16u64)?;
         let pages = list[i].size / PAGE;
-        self.gave_up |= !self.change(|memory| memory.release(addr, pages));
+        let tally = self.change(|memory| memory.release(addr, pages));
+        self.gave_up |= tally.is_none();
         list[i].used = false;
         merge(&mut list);
         self.store_kernel(&list);
-        Ok(0)
+        Ok(tally.unwrap_or_default())
     }
 
     /// The regions, if all that mmap and munmap are lent is sound.
@@ -131,13 +132,14 @@ impl Model {
         Ok(start)
     }
 
-    pub fn munmap(&mut self, addr: u64, size: u64) -> Answer {
+    pub fn munmap(&mut self, addr: u64, size: u64) -> Giving {
         let (mut list, next_addr) = self.sound_user()?;
         let i = named(&list, addr, size)?;
         let pages = list.remove(i).size / PAGE;
-        self.gave_up |= !self.change(|memory| memory.release(addr, pages));
+        let tally = self.change(|memory| memory.release(addr, pages));
+        self.gave_up |= tally.is_none();
         self.store_user(&list, next_addr);
-        Ok(0)
+        Ok(tally.unwrap_or_default())
     }
 }
 

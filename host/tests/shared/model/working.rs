@@ -18,7 +18,7 @@ impl Model {
     /// A translation, and its working as the 26 numbers: how many entries were read, then five numbers for
     /// each. A broken record has none: nothing is read.
     pub fn show_translate(&mut self, virt: u64) -> (Line, [u64; SHOWN_NUMBERS]) {
-        let line = self.play(&Call::Translate { addr: virt });
+        let line = self.play(&Call::Translate { addr: virt }).line;
         let memory = self.memory();
         let rows = match memory.walk_is_broken() {
             true => Vec::new(),

@@ -6,15 +6,15 @@ use Rattle.layout.specs.Parts.{fieldsSize}
 use Rattle.layout.proofs.Left.{contract-broken, contract-met}
 use Rattle.layout.specs.Left.{noLeftovers}
 use Rattle.frame.specs.Frames.{Frames, FramesDid, deallocate}
-use Rattle.frame.specs.Results.{changed}
-use Rattle.frame.specs.declared.Changed.{Changed}
-use Rattle.answer.specs.Numbers.{answerLine}
-use Rattle.answer.specs.declared.Answer.{Answer}
+use Rattle.frame.specs.Found.{foundLine}
+use Rattle.frame.specs.Results.{deallocated}
+use Rattle.frame.specs.declared.Deallocated.{Deallocated}
+use Rattle.frame.specs.declared.FoundAnswer.{FoundAnswer}
 use Rattle.desk_memory.proofs.LeftMemory.{frames-broken, frames-met, frames-unchanged, deallocate-clean}
 use Rattle.desk_memory.proofs.frames.gadulnos_deallocate_frame.Statement.{statement}
 use Rattle.desk_memory.proofs.frames.gadulnos_deallocate_frame.Tie as tie
 
-abbrev call : tie.Start → Frames → FramesDid Answer
+abbrev call : tie.Start → Frames → FramesDid FoundAnswer
 call s fr = deallocate fr (s .args .number)
 
 broken-requires : tie.Need-broken-requires
@@ -24,7 +24,7 @@ returns : tie.Need-returns
 returns c =
     let s = c .before .before .before in
     contract-broken noLeftovers
-    (frames-broken answerLine (call s) (s .args .fields .now) (s .args .bits .now) (ne-eqb _ fieldsSize (c .before .if1 .taken)) (c .broken .ensures))
+    (frames-broken foundLine (call s) (s .args .fields .now) (s .args .bits .now) (ne-eqb _ fieldsSize (c .before .if1 .taken)) (c .broken .ensures))
 
 get-fields-requires : tie.Need-get-fields-requires
 get-fields-requires c κs = search needs
@@ -35,8 +35,8 @@ deallocate-frame-requires c κs = search needs
 put-fields-requires : tie.Need-put-fields-requires
 put-fields-requires c κs = search needs
 
-answer-line-requires : tie.Need-answer-line-requires
-answer-line-requires c κs = search needs
+found-line-requires : tie.Need-found-line-requires
+found-line-requires c κs = search needs
 
 same-length : tie.Need-same-length
 same-length c = search needs
@@ -50,9 +50,9 @@ returns-2 c =
     let k = e .before in
     let s = k .before in
     contract-met noLeftovers
-    (frames-met answerLine (call s) (s .args .fields .now) (s .args .bits .now) changed (λ (x : Changed). answerLine (x .answer)) (λ (x : Changed). x .frames) (λ _. (refl, refl))
-    (did .deallocate-frame .last .1 .0) (eq-eqb _ fieldsSize (e .if1 .left)) (got .get-fields .ensures) (did .deallocate-frame .ensures) (c .answer-line .ensures) (put .put-fields .ensures))
-    (frames-unchanged answerLine (call s) (s .args .fields .now) (s .args .bits .now) noLeftovers (λ i. k .slice-known .given i .fits) (deallocate-clean (s .args .number)))
+    (frames-met foundLine (call s) (s .args .fields .now) (s .args .bits .now) deallocated (λ (x : Deallocated). foundLine (x .answer)) (λ (x : Deallocated). x .frames) (λ _. (refl, refl))
+    (did .deallocate-frame .last .1 .0) (eq-eqb _ fieldsSize (e .if1 .left)) (got .get-fields .ensures) (did .deallocate-frame .ensures) (c .found-line .ensures) (put .put-fields .ensures))
+    (frames-unchanged foundLine (call s) (s .args .fields .now) (s .args .bits .now) noLeftovers (λ i. k .slice-known .given i .fits) (deallocate-clean (s .args .number)))
 
 pub gadulnos-deallocate-frame-spec : {M : Type 1} → statement M
 gadulnos-deallocate-frame-spec =
@@ -63,6 +63,6 @@ gadulnos-deallocate-frame-spec =
     get-fields-requires
     deallocate-frame-requires
     put-fields-requires
-    answer-line-requires
+    found-line-requires
     same-length
     returns-2)

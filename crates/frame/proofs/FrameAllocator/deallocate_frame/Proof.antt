@@ -4,7 +4,7 @@ use mathlib.Core.Bool.{true}
 use native.Mathlib.Omega.{arith}
 use borrow.Author.Needs.{needs}
 use Rattle.frame.specs.Frames.{lentFrames, sound}
-use Rattle.frame.specs.Results.{changed}
+use Rattle.frame.specs.Results.{deallocated}
 use Rattle.frame.proofs.Laws.{parts, passed, failed, sound-held, deallocate-broken, deallocate-whole}
 use Rattle.frame.proofs.FrameAllocator.deallocate_frame.Statement.{statement}
 use Rattle.frame.proofs.FrameAllocator.deallocate_frame.Tie as tie
@@ -13,7 +13,7 @@ is-sound-requires : tie.Need-is-sound-requires
 is-sound-requires c κs = search needs
 
 returns : tie.Need-returns
-returns c = parts changed (deallocate-broken _ _ (failed (c .before .is-sound .ensures) (c .if1 .taken)))
+returns c = parts deallocated (deallocate-broken _ _ (failed (c .before .is-sound .ensures) (c .if1 .taken)))
 
 -- past the test the record is sound
 tested : (c : tie.Else1) → sound (lentFrames (c .before .before .before .args .bitmap .now) (c .before .before .before .args .self)) ≡ true
@@ -24,7 +24,7 @@ give-frame-requires c κs = sound-held _ 0 (omega arith) (tested (c .before))
 
 returns-2 : tie.Need-returns-2
 returns-2 c =
-    let freed = parts changed (deallocate-whole _ _ (tested (c .before .before .before))) in
+    let freed = parts deallocated (deallocate-whole _ _ (tested (c .before .before .before))) in
     (rw (c .before .give-frame .ensures .0) (freed .0), c .before .give-frame .ensures .1 ∙ freed .1)
 
 pub deallocate-frame-spec : {M : Type 1} → statement M

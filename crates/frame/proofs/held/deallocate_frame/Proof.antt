@@ -5,7 +5,7 @@ use denote.Triple.Spec.{tripleOf}
 use denote.Triple.Table.{entered, cited}
 use Rattle.frame.specs.Frames.{deallocate}
 use Rattle.frame.proofs.Passed.{frame}
-use Rattle.frame.proofs.Thin.{changes}
+use Rattle.frame.proofs.Thin.{deallocates}
 use Rattle.frame.proofs.Lending.{meets}
 use Rattle.frame.proofs.lent.deallocate_frame as callee
 use Rattle.frame.proofs.lent.deallocate_frame.Symbol as callee-def
@@ -21,5 +21,5 @@ unfolding code.routine tablesOf
 deallocate-frame-spec 𝓤 H 𝓜 𝓖 𝓡 =
     entered 𝓤 H (tripleOf 𝓤 H (𝓖 .A) self.signature (self.spec 𝓤 H (𝓖 .A) (𝓜 .mem) (𝓡 .run)))
     (tables 𝓤 H 𝓜 𝓡 code.env .C) (tables 𝓤 H 𝓜 𝓡 code.env .Λ) #self code.function (code.unfolded 𝓤 H 𝓜 𝓡)
-    (meets changes (frame ∷ []) #callee (λ fr v. deallocate fr (v .0 .0)) 𝓤 H (𝓖 .A) (givenOf 𝓤 H 𝓜 𝓖) (tablesOf 𝓤 H 𝓜 (tables 𝓤 H 𝓜 𝓡 code.env))
+    (meets deallocates (frame ∷ []) #callee (λ fr v. deallocate fr (v .0 .0)) 𝓤 H (𝓖 .A) (givenOf 𝓤 H 𝓜 𝓖) (tablesOf 𝓤 H 𝓜 (tables 𝓤 H 𝓜 𝓡 code.env))
     (cited 𝓤 H (tripleOf 𝓤 H (𝓖 .A) callee.signature (callee.spec 𝓤 H (𝓖 .A) (𝓜 .mem) (𝓡 .run))) 𝓜 𝓡 code.env #callee callee-def.routine code.calls-frame·lent·deallocate-frame (callee-thm.met 𝓤 H 𝓜 𝓖 𝓡)))

@@ -6,6 +6,7 @@ use borrow.Author.Needs.{needs}
 use borrow.Author.Tests.{eqb-true}
 use Rattle.frame.proofs.Laws.{inside-from, inside-bit}
 use Rattle.paging.specs.Kept.{lentMemory}
+use Rattle.paging.proofs.Found.{tells-same}
 use Rattle.spans.specs.Spans.{toEnd}
 use Rattle.spans.proofs.Addresses.{to-end-some}
 use Rattle.freeing.specs.Freeing.{Barren}
@@ -56,15 +57,19 @@ sub-at-most-2 c = omega (arith, past (c .before), c .to-end .ensures)
 at-most-requires : tie.Need-at-most-requires
 at-most-requires c κs = search needs
 
+none-requires : tie.Need-none-requires
+none-requires c κs = search needs
+
 returns : tie.Need-returns
 returns c =
-    let h = c .before .before in
+    let h = c .before .before .before in
     let w = h .before in
     let s = w .before .before .before .before .before in
     let a = s .args in
     let p = s .pre .1 .1 in
-    let e = c .at-most .ensures in
-    let z = c .before .to-end .ensures in (
+    let e = c .before .at-most .ensures in
+    let z = c .before .before .to-end .ensures in
+    let m = lentMemory (a .words .now) (a .bitmap .now) (a .frames) in (
       s .pre .1 .0,
       (
         p .0,
@@ -72,8 +77,11 @@ returns c =
           omega (arith, e, z, past h, p .1 .1 .1 .1 .0),
           (
             omega (arith, e),
-            barren-pass (a .up) (p .1 .1 .1 .1 .1 .0) (lentMemory (a .words .now) (a .bitmap .now) (a .frames)) (a .root .0) (a .virt .0) (a .t) (p .0)
-                (p .1 .1 .0) (p .1 .0) (w .wide .result) (w .wide .ensures) (c .at-most .result) (omega (arith, e, z)),
+            (
+              barren-pass (a .up) (p .1 .1 .1 .1 .1 .0) m (a .root .0) (a .virt .0) (a .t) (p .0) (p .1 .1 .0) (p .1 .0) (w .wide .result) (w .wide .ensures)
+                  (c .before .at-most .result) (omega (arith, e, z)),
+              tells-same m (c .none .ensures),
+            ),
           ),
         ),
       ),
@@ -94,11 +102,11 @@ free-run-requires c κs =
 
 find-above-requires : tie.Need-find-above-requires
 find-above-requires c κs =
-    let f = c .before .before .before .before .before in
+    let f = c .before .before .before .before .before .before .before in
     let o = f .before .before .before .before in
     let s = o .before .before .before .before .before .before .before .before in
     let a = s .args in
-    let w = span-roomy (a .up) (lentMemory (a .words .now) (a .bitmap .now) (a .frames)) (a .root .0) (a .virt .0) (o .at-most2 .result) (f .free-run .ensures .1) (s .pre .0) in
+    let w = span-roomy (a .up) (lentMemory (a .words .now) (a .bitmap .now) (a .frames)) (a .root .0) (a .virt .0) (o .at-most2 .result) (f .free-run .ensures .1 .0) (s .pre .0) in
     (record { few = w .held .few; enough = w .enough; low = w .held .low }, s .pre .1 .1 .1 .1 .1 .1 .1)
 
 enum-told : tie.Need-enum-told
@@ -115,7 +123,7 @@ cast-barren c = search needs
 
 -- where the function starts, from its last step
 abbrev start : tie.After-enum-told2 → tie.Start
-start c = c .before .before .before .before .before .before .before .before .before .before .before .before .before .before .before .before .before .before .before .before
+start c = c .before .before .before .before .before .before .before .before .before .before .before .before .before .before .before .before .before .before .before .before .before .before
 
 mul-barren : tie.Need-mul-barren
 mul-barren c = search (needs, place (start c))
@@ -132,31 +140,31 @@ step o =
     )
 
 -- what is counted stays so
-kept : (f : tie.After-free-run) → Barren (f .free-run .last .0) (f .free-run .result .start) (f .free-run .result .total) (f .before .before .before .before .before .before .before .before .before .before .before .before .args .barren .now)
+kept : (f : tie.After-free-run) → Barren (f .free-run .last .0) (f .free-run .result .frames .start) (f .free-run .result .frames .total) (f .before .before .before .before .before .before .before .before .before .before .before .before .args .barren .now)
 kept f =
     let o = f .before .before .before .before in
     let s = o .before .before .before .before .before .before .before .before in
     let a = s .args in
     barren-left (a .up) (lentMemory (a .words .now) (a .bitmap .now) (a .frames)) (a .root .0) (a .virt .0) (o .at-most2 .result)
-    (f .free-run .ensures .1) (s .pre .1 .1 .0)
+    (f .free-run .ensures .1 .0) (s .pre .1 .1 .0)
 
 same-length : tie.Need-same-length
-same-length c = c .before .before .before .before .before .before .before .before .free-run .kept .0
+same-length c = c .before .before .before .before .before .before .before .before .before .before .free-run .kept .0
 
 returns-2 : tie.Need-returns-2
 returns-2 c =
-    let f = c .before .before .before .before .before .before .before .before in
+    let f = c .before .before .before .before .before .before .before .before .before .before in
     let e = f .free-run .ensures in
     let g = step (f .before .before .before .before) in
     (e .0, (kept f, (g .0, (g .1, e .1))))
 
 same-length-2 : tie.Need-same-length-2
-same-length-2 c = c .before .before .before .before .before .before .before .before .free-run .kept .0
+same-length-2 c = c .before .before .before .before .before .before .before .before .before .before .free-run .kept .0
 
 returns-3 : tie.Need-returns-3
 returns-3 c =
     let y = c .before .before .before .before .before in
-    let f = y .before .before .before in
+    let f = y .before .before .before .before .before in
     let o = f .before .before .before .before in
     let w = o .before .before .before in
     let s = w .before .before .before .before .before in
@@ -167,7 +175,7 @@ returns-3 c =
       e .0,
       (
         barren-more (a .up) (p .1 .1 .1 .1 .1 .0) (lentMemory (a .words .now) (a .bitmap .now) (a .frames)) (a .root .0) (a .virt .0) (a .t) (p .0) (p .1 .1 .0)
-            (p .1 .0) (o .at-most2 .result) (e .1) (omega (arith, o .at-most2 .ensures, o .before .to-end2 .ensures))
+            (p .1 .0) (o .at-most2 .result) (e .1 .0) (omega (arith, o .at-most2 .ensures, o .before .to-end2 .ensures))
             (eqb-true _ _ (c .before .before .before .before .if3 .taken)) (sym (c .before .before .find-above .ensures) ∙ c .enum-told2 .given .1) (w .wide .result)
             (sym (y .if2 .taken) ∙ w .before .before .page-index .ensures .0) (w .wide .ensures),
         (g .0, (g .1, e .1)),
@@ -175,11 +183,11 @@ returns-3 c =
     )
 
 same-length-3 : tie.Need-same-length-3
-same-length-3 c = c .before .before .before .free-run .kept .0
+same-length-3 c = c .before .before .before .before .before .free-run .kept .0
 
 returns-4 : tie.Need-returns-4
 returns-4 c =
-    let f = c .before .before .before in
+    let f = c .before .before .before .before .before in
     let e = f .free-run .ensures in
     let g = step (f .before .before .before .before) in
     (e .0, (kept f, (g .0, (g .1, e .1))))
@@ -198,6 +206,7 @@ free-below-spec =
     mul-at-most
     sub-at-most-2
     at-most-requires
+    none-requires
     returns
     to-end-requires-2
     at-most-requires-2

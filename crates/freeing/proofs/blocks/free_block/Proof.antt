@@ -52,14 +52,14 @@ same-length-2 c = search needs
 
 returns-2 : tie.Need-returns-2
 returns-2 c =
-    let f = c .before .before in
+    let f = c .before .before .before .before in
     let o = f .before .before .before .before in
     let s = o .before .before .before .before .before .before .before in
     let a = s .args in
     let e = f .free-run .ensures in (
       e .0,
       (
-        barren-left (a .up) (lentMemory (a .words .now) (a .bitmap .now) (a .frames)) (a .root .0) (a .virt .0) (o .at-most .result) (e .1) (s .pre .1 .1 .0),
+        barren-left (a .up) (lentMemory (a .words .now) (a .bitmap .now) (a .frames)) (a .root .0) (a .virt .0) (o .at-most .result) (e .1 .0) (s .pre .1 .1 .0),
         (omega (arith, o .at-most .ensures, o .before .span-length .ensures, s .pre .1 .1 .1 .1 .0), (omega (arith, o .at-most .ensures), e .1)),
       ),
     )

@@ -2,6 +2,7 @@
 use mathlib.Core.Path.{refl}
 use borrow.Author.Needs.{needs}
 use Rattle.paging.specs.Kept.{lentMemory}
+use Rattle.paging.proofs.Found.{tells-same}
 use Rattle.freeing.proofs.Steps.{is-gap, is-leaves, gap-step, leaves-fit, leaves-step}
 use Rattle.freeing.proofs.run.free_span.Statement.{statement}
 use Rattle.freeing.proofs.run.free_span.Tie as tie
@@ -14,6 +15,9 @@ enum-known-k c = c .match .keys1
 
 at-most-requires : tie.Need-at-most-requires
 at-most-requires c κs = search needs
+
+none-requires : tie.Need-none-requires
+none-requires c κs = search needs
 
 enum-known-t : tie.Need-enum-known-t
 enum-known-t c = c .match .keys2
@@ -47,30 +51,29 @@ same-length c = refl
 
 returns : tie.Need-returns
 returns c =
-    let f = c .before .before .before .before in
+    let f = c .before .before .before .before .before in
     let s = f .before .before .before in
-    let a = s .args in (
-      s .pre .1 .0,
-      gap-step (a .up) (lentMemory (a .words .now) (a .bitmap .now) (a .frames)) (a .root .0) (a .virt .0) _ (a .n)
-          (is-gap (a .words .now) (a .frames .start) (a .frames .total) (a .up) (a .root .0) (a .virt .0) (f .find-span .ensures) (c .before .before .k .given .1))
-          (s .pre .1 .1 .0) (c .at-most .ensures),
-    )
+    let a = s .args in
+    let m = lentMemory (a .words .now) (a .bitmap .now) (a .frames) in
+    let g = gap-step (a .up) m (a .root .0) (a .virt .0) _ (a .n)
+    (is-gap (a .words .now) (a .frames .start) (a .frames .total) (a .up) (a .root .0) (a .virt .0) (f .find-span .ensures) (c .before .before .before .k .given .1))
+    (s .pre .1 .1 .0) (c .before .at-most .ensures) in
+    (s .pre .1 .0, (g .0, (g .1 .0, (g .1 .1, tells-same m (c .none .ensures)))))
 
 same-length-2 : tie.Need-same-length-2
-same-length-2 c = c .before .before .free-table .kept .0
+same-length-2 c = c .before .before .before .before .free-table .kept .0
 
 returns-2 : tie.Need-returns-2
 returns-2 c =
-    let r = c .before .before in
+    let r = c .before .before .before .before in
     let q = r .before .before .before .before in
     let f = q .before .before .before .before .before in
-    let a = f .before .before .before .args in (
-      r .free-table .ensures .1,
-      leaves-step (a .up) (lentMemory (a .words .now) (a .bitmap .now) (a .frames)) (a .root .0) (a .virt .0) _ _ (a .n) (q .before .page-index .result)
-          (is-leaves (a .words .now) (a .frames .start) (a .frames .total) (a .up) (a .root .0) (a .virt .0) (f .find-span .ensures) (q .before .before .before .t .given .1))
-          (f .before .before .before .pre .1 .1 .0) (q .at-most2 .ensures)
-          (q .before .page-index .ensures .0) (r .free-table .ensures .0),
-    )
+    let a = f .before .before .before .args in
+    let e = r .free-table .ensures in
+    let g = leaves-step (a .up) (lentMemory (a .words .now) (a .bitmap .now) (a .frames)) (a .root .0) (a .virt .0) _ _ (a .n) (q .before .page-index .result)
+    (is-leaves (a .words .now) (a .frames .start) (a .frames .total) (a .up) (a .root .0) (a .virt .0) (f .find-span .ensures) (q .before .before .before .t .given .1))
+    (f .before .before .before .pre .1 .1 .0) (q .at-most2 .ensures) (q .before .page-index .ensures .0) (e .0) in
+    (e .1 .1, (g .0, (g .1 .0, (g .1 .1, e .1 .0))))
 
 pub free-span-spec : {M : Type 1} → statement M
 free-span-spec =
@@ -79,6 +82,7 @@ free-span-spec =
     find-span-requires
     enum-known-k
     at-most-requires
+    none-requires
     enum-known-t
     page-index-requires
     at-most-requires-2

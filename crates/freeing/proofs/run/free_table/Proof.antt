@@ -6,6 +6,7 @@ use Rattle.paging.specs.Kept.{lentMemory}
 use Rattle.bitmap.specs.Bitmap.{marksIn, marked}
 use Rattle.bitmap.proofs.Marks.{marked-true, marked-false}
 use Rattle.frame.proofs.Laws.{inside-from, inside-bit}
+use Rattle.paging.proofs.Found.{tells-same}
 use Rattle.freeing.proofs.Blanks.{blank-pass, blank-left, blank-more}
 use Rattle.freeing.proofs.run.free_table.Statement.{statement}
 use Rattle.freeing.proofs.run.free_table.Tie as tie
@@ -16,13 +17,17 @@ sub-place c = inside-from _ _ _ (c .before .before .pre .1 .1 .0)
 is-marked-requires : tie.Need-is-marked-requires
 is-marked-requires c κs = let s = c .before .before .before .before in search (needs, inside-bit (s .args .frames .start) (s .args .frames .total) (s .args .t) (s .pre .0 .held .few) (s .pre .1 .1 .0))
 
+none-requires : tie.Need-none-requires
+none-requires c κs = search needs
+
 returns : tie.Need-returns
 returns c =
-    let s = c .before .before .before .before .before .before in
-    let a = s .args in (
-      blank-pass (lentMemory (a .words .now) (a .bitmap .now) (a .frames)) (a .t) (a .i) (a .n) (s .pre .1 .0) (s .pre .1 .1 .0) (s .pre .1 .1 .1)
-          (marked-true _ _ (sym (c .before .is-marked .ensures) ∙ c .if1 .taken)),
-      s .pre .1 .0,
+    let s = c .before .before .before .before .before .before .before in
+    let a = s .args in
+    let m = lentMemory (a .words .now) (a .bitmap .now) (a .frames) in (
+      blank-pass m (a .t) (a .i) (a .n) (s .pre .1 .0) (s .pre .1 .1 .0) (s .pre .1 .1 .1)
+          (marked-true _ _ (sym (c .before .before .is-marked .ensures) ∙ c .before .if1 .taken)),
+      (tells-same m (c .none .ensures), s .pre .1 .0),
     )
 
 free-leaves-requires : tie.Need-free-leaves-requires
@@ -47,10 +52,13 @@ returns-2 c =
     let e = f .before .before .before in
     let s = e .before .before .before .before .before .before in
     let a = s .args in (
-      f .free-leaves .ensures,
-      rw (c .mark .ensures)
-          (blank-more (lentMemory (a .words .now) (a .bitmap .now) (a .frames)) (a .t) (a .i) (a .n) (s .pre .1 .0) (s .pre .1 .1 .0) (s .pre .1 .1 .1)
-          (f .free-leaves .ensures) (c .before .before .if2 .taken) (free e)),
+      f .free-leaves .ensures .0,
+      (
+        f .free-leaves .ensures .1,
+        rw (c .mark .ensures)
+            (blank-more (lentMemory (a .words .now) (a .bitmap .now) (a .frames)) (a .t) (a .i) (a .n) (s .pre .1 .0) (s .pre .1 .1 .0) (s .pre .1 .1 .1)
+            (f .free-leaves .ensures .0) (c .before .before .if2 .taken) (free e)),
+      ),
     )
 
 same-length-2 : tie.Need-same-length-2
@@ -61,9 +69,12 @@ returns-3 c =
     let f = c .before .before .before in
     let s = f .before .before .before .before .before .before .before .before .before in
     let a = s .args in (
-      f .free-leaves .ensures,
-      blank-left (lentMemory (a .words .now) (a .bitmap .now) (a .frames)) (a .t) (a .i) (a .n) (s .pre .1 .0) (s .pre .1 .1 .0)
-          (s .pre .1 .1 .1) (f .free-leaves .ensures),
+      f .free-leaves .ensures .0,
+      (
+        f .free-leaves .ensures .1,
+        blank-left (lentMemory (a .words .now) (a .bitmap .now) (a .frames)) (a .t) (a .i) (a .n) (s .pre .1 .0) (s .pre .1 .1 .0)
+            (s .pre .1 .1 .1) (f .free-leaves .ensures .0),
+      ),
     )
 
 pub free-table-spec : {M : Type 1} → statement M
@@ -72,6 +83,7 @@ free-table-spec =
     (tie.spec
     sub-place
     is-marked-requires
+    none-requires
     returns
     free-leaves-requires
     mark-requires

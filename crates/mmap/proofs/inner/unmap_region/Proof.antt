@@ -25,8 +25,8 @@ use Rattle.mappings.proofs.Sound.{sound-few, sound-rising}
 use Rattle.mappings.proofs.Placing.{place-below}
 use Rattle.mmap.specs.Calls.{User, user, userDid, unmapRegion}
 use Rattle.mmap.specs.Packed.{lentUser, UserLeaves}
-use Rattle.mmap.proofs.Leaving.{leaves, not-unmapped-left}
-use Rattle.mmap.proofs.Steps.{user-whole, list-sound, unmap-none, unmap-met}
+use Rattle.mmap.proofs.Leaving.{leaves, not-unmapped-left, not-unmapped-found}
+use Rattle.mmap.proofs.Steps.{user-whole, list-sound, unmap-none, unmap-met, tally-none, tally-met}
 use Rattle.mmap.proofs.inner.unmap_region.Statement.{statement}
 use Rattle.mmap.proofs.inner.unmap_region.Tie as tie
 
@@ -53,8 +53,11 @@ returns c =
     let h = c .before .before in
     let k = h .before .before .before .before in
     let s = k .before .before in
-    not-unmapped-left _ (λ i. k .slice-known2 .given i .fits) (s .pre .0)
-    (unmap-none (s .args .frames .levels - 1) (lent s) (s .args .root .0) (s .args .addr .0) (s .args .n) (failed (h .holds-at .ensures) (c .before .if1 .taken))) (c .not-unmapped .ensures)
+    let a = s .args in
+    let none = failed (h .holds-at .ensures) (c .before .if1 .taken) in (
+      not-unmapped-left _ (λ i. k .slice-known2 .given i .fits) (s .pre .0) (unmap-none (a .frames .levels - 1) (lent s) (a .root .0) (a .addr .0) (a .n) none) (c .not-unmapped .ensures),
+      not-unmapped-found (c .not-unmapped .ensures) (tally-none (a .frames .levels - 1) (lent s) (a .root .0) (a .addr .0) (a .n) none),
+    )
 
 -- the region is held
 held : (c : tie.Else1) → let s = c .before .before .before .before .before .before .before in holds (s .args .addr .0) (s .args .n) (listed (mmapIn (s .args .list .now))) ≡ true
@@ -86,7 +89,7 @@ module _ (s : tie.Start) (h : holds (s .args .addr .0) (s .args .n) (listed (mma
 
 remove-at-requires : tie.Need-remove-at-requires
 remove-at-requires c κs =
-    let e = c .before .before .before .before .before .before .before in
+    let e = c .before .before .before .before .before .before .before .before .before in
     let p = e .before .before .before in
     let s = p .before .before .before .before in
     (s .pre .0, (below s (held e) (p .place-of .result) (p .place-of .ensures), sound-few (s .args .list .now) (listed-sound s)))
@@ -112,10 +115,14 @@ unmapped s {k = k} h e f b g =
 returns-2 : tie.Need-returns-2
 returns-2 c =
     let r = c .before .before in
-    let f = r .before .before .before .before in
+    let f = r .before .before .before .before .before .before in
     let e = f .before .before .before .before in
     let p = e .before .before .before in
-    unmapped (p .before .before .before .before) (held e) (p .place-of .ensures) (f .free-pages .ensures) (λ i. c .slice-known4 .given i .fits) (r .remove-at .ensures)
+    let s = p .before .before .before .before in
+    let a = s .args in (
+      unmapped s (held e) (p .place-of .ensures) (f .free-pages .ensures .0) (λ i. c .slice-known4 .given i .fits) (r .remove-at .ensures),
+      f .free-pages .ensures .1 ∙ sym (tally-met (a .frames .levels - 1) (lent s) (a .root .0) (a .addr .0) (a .n) (held e)),
+    )
 
 pub unmap-region-spec : {M : Type 1} → statement M
 unmap-region-spec =

@@ -1,6 +1,6 @@
 -- `free`: 16, or the pages of the used region freed, then the region.
 use Prim.Native.Nat.{_-_, ℕ, _<_, _≤_}
-use mathlib.Core.Path.{_≡_, refl, ap}
+use mathlib.Core.Path.{_≡_, refl, sym, _∙_, ap}
 use mathlib.Core.Bool.{true}
 use native.Mathlib.Omega.{arith}
 use lib.ListN.{length, getD}
@@ -16,7 +16,7 @@ use Rattle.regions.specs.Regions.{noVmRegion, fits, usedSize, freeFirst}
 use Rattle.regions.specs.List.{usedAt, freedAt}
 use Rattle.vm_list.specs.Packed.{vmSize, vmIn, vmFit}
 use Rattle.regions.proofs.Placed.{Placed}
-use Rattle.vmalloc.specs.Calls.{kernel, released}
+use Rattle.vmalloc.specs.Calls.{kernel, released, releasedFound}
 use Rattle.vmalloc.proofs.Calls.{released-met}
 use Rattle.vmalloc.proofs.Told.{left}
 use Rattle.vmalloc.proofs.Found.{lent-fit, lent-long, lent-whole, lent-sound, lent-few, in-range, lies, none-used, found-used, found-freed}
@@ -74,17 +74,23 @@ count-requires c κs = long (c .before .before .before)
 find-used-requires : tie.Need-find-used-requires
 find-used-requires c κs = let s = c .before .before .before .before .before in (long s, few s (c .before .count .result) (c .before .count .ensures))
 
+none-requires : tie.Need-none-requires
+none-requires c κs = search needs
+
 same-length : tie.Need-same-length
 same-length c = search needs
 
 returns : tie.Need-returns
 returns c =
-    let f = c .before in
+    let f = c .before .before in
     let k = f .before .before in
-    let s = c .before .before .before .before .before .before .before in
-    let none = none-used (lent s) (s .args .list .now) (s .args .root .0) (s .pre) (k .count .result) (k .count .ensures) (f .find-used .result) (s .args .addr .0) (f .find-used .ensures) (c .if1 .taken) in
-    left asAnswer (Stop regionNotFound) (lent s) (ap (released (s .args .frames .levels - 1) (kernel (lent s) (vmIn (s .args .list .now))) (s .args .root .0) (s .args .addr .0)) none)
-    (s .args .list .now) (fit s) (λ j. c .before .before .before .before .before .slice-known2 .given j .fits) refl
+    let s = k .before .before .before .before in
+    let up = s .args .frames .levels - 1 in
+    let n = kernel (lent s) (vmIn (s .args .list .now)) in
+    let none = none-used (lent s) (s .args .list .now) (s .args .root .0) (s .pre) (k .count .result) (k .count .ensures) (f .find-used .result) (s .args .addr .0) (f .find-used .ensures) (c .before .if1 .taken) in
+    let l = left asAnswer (Stop regionNotFound) (lent s) (ap (released up n (s .args .root .0) (s .args .addr .0)) none)
+    (s .args .list .now) (fit s) (λ j. k .before .before .slice-known2 .given j .fits) refl in
+    (l .0, (l .1, c .none .ensures ∙ sym (ap (releasedFound up n (s .args .root .0) (s .args .addr .0)) none)))
 
 slot-requires : tie.Need-slot-requires
 slot-requires c κs =
@@ -111,8 +117,8 @@ free-pages-requires c κs =
 
 free-region-requires : tie.Need-free-region-requires
 free-region-requires c κs =
-    let e = c .before .before .before .before .before .before .before .before .before .before in
-    let s = c .before .before .before .before .before .before .before .before .before .before .before .before .before .before .before .before .before in
+    let e = c .before .before .before .before .before .before .before .before .before .before .before .before in
+    let s = e .before .before .before .before .before .before .before in
     ((fit s, lent-sound (lent s) (s .args .list .now) (s .args .root .0) (s .pre), e .before .before .before .count .ensures), small e)
 
 same-length-2 : tie.Need-same-length-2
@@ -124,14 +130,17 @@ same-length-3 c = search needs
 returns-2 : tie.Need-returns-2
 returns-2 c =
     let t = c .before .before in
-    let m = t .before .before .before .before in
+    let m = t .before .before .before .before .before .before in
     let v = m .before .before .before .before .before in
     let e = v .before .before in
     let s = e .before .before .before .before .before .before .before in
-    left asAnswer (Value 0) (lentMemory (m .free-pages .last .0) (m .free-pages .last .1 .0) (m .free-pages .result))
-    (released-met (s .args .frames .levels - 1) (kernel (lent s) (vmIn (s .args .list .now))) (s .args .root .0) (s .args .addr .0) (v .slot .result .size)
-    (used-there e (v .slot .result) (v .slot .ensures) .0) (m .free-pages .ensures) (freed-there e (v .slot .result) (v .slot .ensures)))
-    (t .free-region .last .0) (t .free-region .ensures .1) (λ j. c .slice-known4 .given j .fits) (t .free-region .ensures .0)
+    let up = s .args .frames .levels - 1 in
+    let n = kernel (lent s) (vmIn (s .args .list .now)) in
+    let used = used-there e (v .slot .result) (v .slot .ensures) .0 in
+    let l = left asAnswer (Value 0) (lentMemory (m .free-pages .last .0) (m .free-pages .last .1 .0) (m .free-pages .result .frames))
+    (released-met up n (s .args .root .0) (s .args .addr .0) (v .slot .result .size) used (m .free-pages .ensures .0) (freed-there e (v .slot .result) (v .slot .ensures)))
+    (t .free-region .last .0) (t .free-region .ensures .1) (λ j. c .slice-known4 .given j .fits) (t .free-region .ensures .0) in
+    (l .0, (l .1, m .free-pages .ensures .1 ∙ sym (ap (releasedFound up n (s .args .root .0) (s .args .addr .0)) used)))
 
 pub free-spec : {M : Type 1} → statement M
 free-spec =
@@ -139,6 +148,7 @@ free-spec =
     (tie.spec
     count-requires
     find-used-requires
+    none-requires
     same-length
     returns
     slot-requires
