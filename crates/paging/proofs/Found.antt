@@ -18,14 +18,14 @@ use Rattle.frame.specs.declared.Found.the-variants.{Freed, AlreadyFree, NotHere
 use Rattle.frame.specs.declared.Tally.{Tally}
 use Rattle.frame.specs.Frames.{FramesDid, inside, withoutMark, giveFrame}
 use Rattle.frame.specs.Found.{tally, noneFound, oneFound, andFound, allFound}
-use Rattle.frame.proofs.Laws.{inside-from, inside-under, give-cases}
+use Rattle.frame.proofs.Laws.{inside-under, give-cases}
 use Rattle.answer.specs.Outcomes.{andThen}
 use Rattle.answer.specs.declared.Outcome.{Outcome}
 use Rattle.answer.specs.declared.Outcome.the-variants.{Value, Stop}
 use Rattle.paging.specs.Walk.{place, reach}
 use Rattle.paging.specs.Map.{Memory, memory, startFrame, totalOf, Left, left, takeLeaf, unmapEntry}
 use Rattle.paging.specs.Pages.{unmapLeaf, freed, freePage, freePages}
-use Rattle.paging.specs.Found.{frameFound, pageFound, pagesFound, unmappedOf, passing, presentEntries, namesOff, offEntries, Tells}
+use Rattle.paging.specs.Found.{frameFound, pageFound, pagesFound, unmappedOf, passing, presentEntries, namesOff, Tells}
 use Rattle.paging.proofs.Map.{set-own}
 use Rattle.paging.proofs.Past.{stays-free-page}
 

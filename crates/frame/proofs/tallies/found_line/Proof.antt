@@ -1,5 +1,5 @@
 -- The number and the value of each case.
-use mathlib.Core.Path.{_≡_, sym, ap, _∙_}
+use mathlib.Core.Path.{sym, ap}
 use borrow.Author.Needs.{needs}
 use Rattle.frame.specs.Found.{foundLine}
 use Rattle.frame.proofs.tallies.found_line.Statement.{statement}
