@@ -30,19 +30,19 @@ pub fn to_copy(random: &mut Random, board: &mut Board) {
     let Frames { start_frame, total, levels, .. } = board.frames();
     let any = walked(random, &board.words, board.frames(), board.root);
     let lent = [(); 2].map(|()| (start_frame + random.below(total)) << 12 | 7);
-    let leaf = random.one_of(&[0, OFF, OFF, lent[0]]);
+    let leaf = random.one_of(&[0, OFF, OFF, OFF, lent[0]]);
     let index = random.below(total.min(4));
     if random.chance(1, 3) {
         let at = led_to(random, board, TEMPORARY, 1);
         board.words[at] = random.one_of(&[lent[0], lent[1], OFF]);
     }
-    let page = match random.below(5) {
+    let page = match random.below(6) {
         0 => {
             let root = board.root;
             board.words[((root - start_frame) * 512 + index) as usize] = root << 12 | 7;
             (1..=levels).fold(0, |addr, level| addr | index << (3 + 9 * level))
         }
-        1 | 2 => {
+        1 | 2 | 3 => {
             let page = any >> 21 << 21 | index << 12;
             let at = led_to(random, board, page, 2);
             let table = random.below(total - index);

@@ -23,8 +23,8 @@ type Run = fn(u64) -> Result<(), String>;
 pub fn check(report: &mut Report) {
     let checks: [(&str, Run); 17] = [
         ("deallocate_frame: freed, already free, not on this board", frames),
-        ("a munmap that finds one of each, and a page not mapped", munmap),
-        ("a vfree that finds one of each, and a page not mapped", vfree),
+        ("a munmap that finds frames of each kind, and a page not mapped", munmap),
+        ("a vfree that finds frames of each kind, and a page not mapped", vfree),
         ("frames below, behind and far from the board", off_board),
         ("two pages that have one frame", one_frame),
         ("a last table that two entries lead to", shared_table),
@@ -115,39 +115,42 @@ fn frames(levels: u64) -> Result<(), String> {
     board.play(&[(free(0x100), 10, 0), (free(0xff), 10, 0)])
 }
 
-/// Four pages from an address on, as mapped in a row: their frames follow the tables, but for the first's. Then the
-/// second's frame is freed, the third page is mapped off the board, and the fourth is not mapped.
+/// Seven pages from an address on, as mapped in a row: their frames follow the tables, but for the first's. Then the
+/// frames of two are freed, three pages are mapped off the board, and the last is not mapped.
 fn spoil(board: &mut Example, levels: u64, start: u64) -> Result<(), String> {
-    let [second, third, fourth] = [1, 2, 3].map(|i| 0x100 + levels + i);
+    let frame = |page: u64| 0x100 + levels + page;
     board.play(&[
-        (translate(start + PAGE), 0, second * PAGE),
-        (free(second), 0, 0),
-        (unmap(start + 2 * PAGE), 0, third),
-        (map(start + 2 * PAGE, OFF[1] * PAGE), 0, 0),
-        (unmap(start + 3 * PAGE), 0, fourth),
+        (translate(start + PAGE), 0, frame(1) * PAGE),
+        (free(frame(1)), 0, 0),
+        (free(frame(2)), 0, 0),
     ])?;
-    // Root, tables, and the frames of four pages but one.
-    board.counter(levels + 3)
+    for (page, off) in (3..).zip(OFF) {
+        let virt = start + page * PAGE;
+        board.play(&[(unmap(virt), 0, frame(page)), (map(virt, off * PAGE), 0, 0)])?;
+    }
+    board.play(&[(unmap(start + 6 * PAGE), 0, frame(6))])?;
+    // Root, tables, and the frames of seven pages but two.
+    board.counter(levels + 5)
 }
 
-/// The frames that the third and the fourth page had stay marked: nothing maps them.
+/// The frames that four pages had stay marked: nothing maps them.
 fn munmap(levels: u64) -> Result<(), String> {
     let mut board = fresh(levels)?;
-    board.play(&[(anywhere(4 * PAGE), 0, START)])?;
+    board.play(&[(anywhere(7 * PAGE), 0, START)])?;
     spoil(&mut board, levels, START)?;
-    board.finds(Call::Munmap { addr: START, size: 4 * PAGE - 5 }, [1, 1, 1])?;
-    board.counter(levels + 2)?;
+    board.finds(Call::Munmap { addr: START, size: 7 * PAGE - 5 }, [1, 2, 3])?;
+    board.counter(levels + 4)?;
     board.play(&[is_marked(0x101, 0), (translate(START), 14, 0)])?;
-    board.play(&[(anywhere(4 * PAGE), 0, START + 4 * PAGE)])?;
-    board.finds(Call::Munmap { addr: START + 4 * PAGE, size: 4 * PAGE }, [4, 0, 0])
+    board.play(&[(anywhere(4 * PAGE), 0, START + 7 * PAGE)])?;
+    board.finds(Call::Munmap { addr: START + 7 * PAGE, size: 4 * PAGE }, [4, 0, 0])
 }
 
 fn vfree(levels: u64) -> Result<(), String> {
     let mut board = fresh(levels)?;
-    board.play(&[(Call::Vmalloc { size: 4 * PAGE }, 0, WINDOW)])?;
+    board.play(&[(Call::Vmalloc { size: 7 * PAGE }, 0, WINDOW)])?;
     spoil(&mut board, levels, WINDOW)?;
-    board.finds(Call::Vfree { addr: WINDOW }, [1, 1, 1])?;
-    board.counter(levels + 2)?;
+    board.finds(Call::Vfree { addr: WINDOW }, [1, 2, 3])?;
+    board.counter(levels + 4)?;
     board.play(&[(Call::Vmalloc { size: 2 * PAGE }, 0, WINDOW)])?;
     board.finds(Call::Vfree { addr: WINDOW }, [2, 0, 0])
 }
