@@ -42,7 +42,7 @@ pub fn to_copy(random: &mut Random, board: &mut Board) {
             board.words[((root - start_frame) * 512 + index) as usize] = root << 12 | 7;
             (1..=levels).fold(0, |addr, level| addr | index << (3 + 9 * level))
         }
-        1 | 2 | 3 => {
+        1..=3 => {
             let page = any >> 21 << 21 | index << 12;
             let at = led_to(random, board, page, 2);
             let table = random.below(total - index);
