@@ -97,9 +97,9 @@ module _ (call : Faulting → FaultDid) (words fields bits marked : List ℕ) wh
 
 -- what it found
 module _ (words fields bits marked : List ℕ) (root addr code : ℕ) (a : Answer) {r : TallyLine} where
-  pub fault-none : fieldsFit fields ≡ false → r ≡ tallyLine a noneFound → tallyOf r ≡ packedFaultFound (listParts words fields bits marked) root addr code
+  pub fault-unfit-none : fieldsFit fields ≡ false → r ≡ tallyLine a noneFound → tallyOf r ≡ packedFaultFound (listParts words fields bits marked) root addr code
   unfolding packedFaultFound
-  fault-none h l = rw h (ap tallyOf l)
+  fault-unfit-none h l = rw h (ap tallyOf l)
 
   pub fault-found : {f : FrameAllocator} → fieldsFit fields ≡ true → f ≡ fieldsIn fields → {t : Tally} → t ≡ faultFoundOn (lentMemory words bits f) marked root addr code
       → r ≡ tallyLine a t → tallyOf r ≡ packedFaultFound (listParts words fields bits marked) root addr code

@@ -143,8 +143,8 @@ module _ (up : ℕ) (m : Memory) (bs : List ℕ) (root a code : ℕ) where
 -- ---- what it found
 
 module _ (up : ℕ) (s : Faulting) (root v code : ℕ) where
-  pub read-none : isWrite code ≡ false → protectedFound up s root v code ≡ noneFound
-  read-none h = rw h
+  pub no-write-none : isWrite code ≡ false → protectedFound up s root v code ≡ noneFound
+  no-write-none h = rw h
 
   module _ (h : isWrite code ≡ true) where
     pub plain-none : hasKey pageKey v (listed (s .marked)) ≡ false → protectedFound up s root v code ≡ noneFound

@@ -9,7 +9,7 @@ use Rattle.fault.specs.Faults.{Faulting, FaultDid, handleFaultOf}
 use Rattle.layout.specs.Parts.{fieldsSize}
 use Rattle.layout.specs.Left.{faultLeftovers}
 use Rattle.layout.proofs.Left.{contract-broken, contract-met, key-line}
-use Rattle.desk_faults.proofs.LeftFaults.{fault-broken, fault-met, fault-none, fault-found, fault-refused}
+use Rattle.desk_faults.proofs.LeftFaults.{fault-broken, fault-met, fault-unfit-none, fault-found, fault-refused}
 use Rattle.desk_faults.proofs.faults.gadulnos_handle_page_fault.Statement.{statement}
 use Rattle.desk_faults.proofs.faults.gadulnos_handle_page_fault.Tie as tie
 
@@ -26,7 +26,7 @@ returns c =
     let h = ne-eqb _ fieldsSize (c .before .if1 .taken) in
     let e = c .broken-tally .ensures in
     let p = contract-broken faultLeftovers (fault-broken (call s) (a .words .now) (a .fields .now) (a .bits .now) (a .marked .now) h (ap keyLine e)) in
-    (p .0, (fault-none (a .words .now) (a .fields .now) (a .bits .now) (a .marked .now) (a .root) (a .addr) (a .code) (Refused brokenRecord) h e, p .1))
+    (p .0, (fault-unfit-none (a .words .now) (a .fields .now) (a .bits .now) (a .marked .now) (a .root) (a .addr) (a .code) (Refused brokenRecord) h e, p .1))
 
 get-fields-requires : tie.Need-get-fields-requires
 get-fields-requires c κs = search needs

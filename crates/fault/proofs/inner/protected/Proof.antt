@@ -13,7 +13,7 @@ use Rattle.cow.specs.Marked.{pageKey}
 use Rattle.cow.specs.Packed.{markedIn, markedFit}
 use Rattle.error_code.specs.ErrorCode.{isWrite}
 use Rattle.fault.specs.Faults.{Faulting, faulting, FaultDid, protected, protectedFound}
-use Rattle.fault.proofs.Faults.{says, says-same, protected-read, protected-plain, protected-stop, protected-met, read-none, plain-none, copy-finds}
+use Rattle.fault.proofs.Faults.{says, says-same, protected-read, protected-plain, protected-stop, protected-met, no-write-none, plain-none, copy-finds}
 use borrow.Author.Needs.{needs}
 use Rattle.fault.proofs.inner.protected.Statement.{statement}
 use Rattle.fault.proofs.inner.protected.Tie as tie
@@ -66,7 +66,7 @@ returns c =
     let s = d .before .before .before .before .before in
     let h = failed (d .before .before .is-write .ensures) (d .before .if1 .taken) in
     let e = protected-read (s .args .up) (lent s) (s .args .root .0) (s .args .page .0) (s .args .code) h (d .denied .ensures) in
-    let g = c .none .ensures ∙ sym (read-none (s .args .up) (lent s) (s .args .root .0) (s .args .page .0) (s .args .code) h) in
+    let g = c .none .ensures ∙ sym (no-write-none (s .args .up) (lent s) (s .args .root .0) (s .args .page .0) (s .args .code) h) in
     says-same (path s) (finds s) (mem s) (s .args .marked .now) (fits s) refl g e (λ k. d .before .before .before .slice-known2 .given k .fits)
 
 is-listed-requires : tie.Need-is-listed-requires
