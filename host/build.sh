@@ -2,12 +2,16 @@
 # Builds the oracle and the tests below target/host. Runs again only what changed.
 #
 #   target/host/oracle/{checked,wrapping}/librinux.rlib   the original, in two builds
-#   target/host/oracle/libpaper.rlib                      calls, tapes, states, the domain
+#   target/host/oracle/libcalls.rlib                      calls, tapes, papers as texts (calls/)
+#   target/host/oracle/libtrial.rlib                      states, the domain, random calls (trial/)
 #   target/host/oracle-{checked,wrapping}                 the program that plays a tape
 #   target/host/oracle-self                               the oracle's own tests
-#   target/host/oracle/libgadulnos.rlib                   the port for a Rust host (gadulnos.rs, gadulnos/)
-#   target/host/{layers,beside,release,anything,keys,header}  the port's tests
+#   target/host/oracle/libgadulnos.rlib                   the port for a Rust host (gadulnos/)
+#   target/host/oracle/libpaper.rlib, target/host/paper   the examiner's tool (paper/)
+#   target/host/{layers,beside,release,anything,keys,papers,header,board}  the port's tests
 #   target/host/bench                                     the benchmark, if asked for: build.sh bench
+#
+# `build.sh paper` builds the tool alone.
 #
 # RUSTC is the compiler, RUST_FLAGS are its flags (-O), and HOST_OUT is the folder instead of target/host.
 set -eu
@@ -16,11 +20,6 @@ cd "$(dirname "$0")/.."
 RUSTC=${RUSTC:-rustc}
 out=${HOST_OUT:-target/host}
 lib=$out/oracle
-
-if ! sha256sum --check --quiet --strict host/oracle/originals.sha256; then
-    echo "docs/src is not the original: its files are pinned in host/oracle/originals.sha256" >&2
-    exit 1
-fi
 
 # What another compiler built is built again.
 version=$("$RUSTC" -vV)
@@ -44,6 +43,46 @@ compile() {
     "$RUSTC" --edition 2021 ${RUST_FLAGS:--O} "$@"
 }
 
+# crate NAME ROOT [CRATE...]: a library of ours, of the folder of its root, that uses these.
+crate() {
+    name=$1
+    root=$2
+    shift 2
+    used=
+    for other in "$@"; do
+        used="$used $lib/lib$other.rlib"
+    done
+    # shellcheck disable=SC2086
+    if changed "$lib/lib$name.rlib" "$(dirname "$root")" $used; then
+        # shellcheck disable=SC2046
+        compile -o "$lib/lib$name.rlib" --crate-type rlib --crate-name "$name" -L "$lib" \
+            $(for other in "$@"; do echo --extern "$other=$lib/lib$other.rlib"; done) "$root"
+    fi
+}
+
+# The port, whose C functions host/library.sh makes, and the examiner's tool.
+archive=target/staticlib/libdesk.a
+gadulnos=$lib/libgadulnos.rlib
+crate calls host/calls/lib.rs
+if [ -e "$archive" ]; then
+    if changed "$gadulnos" "$archive" "$lib/libcalls.rlib" host/gadulnos; then
+        compile -o "$gadulnos" --crate-type rlib --crate-name gadulnos -L native="$(dirname "$archive")" \
+            --extern calls="$lib/libcalls.rlib" host/gadulnos/lib.rs
+    fi
+    crate paper host/paper/lib.rs calls gadulnos
+    if changed "$out/paper" "$lib/libpaper.rlib" host/paper/main.rs; then
+        compile -o "$out/paper" -L "$lib" --extern paper="$lib/libpaper.rlib" host/paper/main.rs
+    fi
+fi
+if [ "${1:-}" = paper ]; then
+    exit 0
+fi
+
+# The original.
+if ! sha256sum --check --quiet --strict host/oracle/originals.sha256; then
+    echo "docs/src is not the original: its files are pinned in host/oracle/originals.sha256" >&2
+    exit 1
+fi
 if changed "$lib/prepare" host/oracle/prepare.rs host/oracle/substitutions.rs; then
     compile -o "$lib/prepare" host/oracle/prepare.rs
 fi
@@ -55,12 +94,7 @@ for stand_in in spin bitflags; do
     fi
 done
 
-paper="host/oracle/paper.rs host/oracle/answer.rs host/oracle/call.rs host/oracle/domain.rs host/oracle/domain
-    host/oracle/generate.rs host/oracle/generate host/oracle/minimise.rs host/oracle/state.rs host/oracle/tape.rs"
-# shellcheck disable=SC2086
-if changed "$lib/libpaper.rlib" $paper; then
-    compile -o "$lib/libpaper.rlib" --crate-type rlib --crate-name paper host/oracle/paper.rs
-fi
+crate trial host/trial/lib.rs calls
 
 # What the original asks of the compiler's age: before 1.80 there is no --check-cfg, and before 1.66 an empty BTreeMap in a static
 # is a feature that has to be named.
@@ -76,13 +110,13 @@ fi
 for build in checked wrapping; do
     checks=$([ $build = checked ] && echo on || echo off)
     rinux=$lib/$build/librinux.rlib
-    if changed "$rinux" "$lib/src" "$lib/libpaper.rlib" "$lib/libspin.rlib" "$lib/libbitflags.rlib" \
+    if changed "$rinux" "$lib/src" "$lib/libtrial.rlib" "$lib/libspin.rlib" "$lib/libbitflags.rlib" \
         host/oracle/lib.rs host/oracle/stand_in.rs host/oracle/oracle.rs host/oracle/oracle; then
         # shellcheck disable=SC2086
         compile -o "$rinux" --crate-type rlib --crate-name rinux -C metadata=$build \
             -C overflow-checks="$checks" --cfg $build $age -L "$lib" \
             --extern spin="$lib/libspin.rlib" --extern bitflags="$lib/libbitflags.rlib" \
-            --extern paper="$lib/libpaper.rlib" host/oracle/lib.rs
+            --extern calls="$lib/libcalls.rlib" --extern trial="$lib/libtrial.rlib" host/oracle/lib.rs
     fi
     if changed "$out/oracle-$build" "$rinux" host/oracle/main.rs; then
         compile -o "$out/oracle-$build" -L "$lib" --extern rinux="$rinux" host/oracle/main.rs
@@ -91,20 +125,14 @@ done
 
 if changed "$out/oracle-self" "$lib/checked/librinux.rlib" "$lib/wrapping/librinux.rlib" docs/src \
     host/oracle/substitutions.rs host/tests/oracle_self.rs host/tests/oracle_self host/tests/shared; then
-    compile -o "$out/oracle-self" -L "$lib" --extern paper="$lib/libpaper.rlib" \
-        --extern rinux_checked="$lib/checked/librinux.rlib" \
+    compile -o "$out/oracle-self" -L "$lib" --extern calls="$lib/libcalls.rlib" \
+        --extern trial="$lib/libtrial.rlib" --extern rinux_checked="$lib/checked/librinux.rlib" \
         --extern rinux_wrapping="$lib/wrapping/librinux.rlib" host/tests/oracle_self.rs
 fi
 
-# The port, whose C functions host/library.sh makes.
-archive=target/staticlib/libdesk.a
-gadulnos=$lib/libgadulnos.rlib
 if [ ! -e "$archive" ]; then
     echo "no $archive (host/library.sh makes it): the port's tests are left out"
     exit 0
-fi
-if changed "$gadulnos" "$archive" host/gadulnos.rs host/gadulnos; then
-    compile -o "$gadulnos" --crate-type rlib --crate-name gadulnos -L native="$(dirname "$archive")" host/gadulnos.rs
 fi
 
 # beside_rust NAME FOLDER [INPUT...]: a program with the port and the original in it. Further inputs are texts that it includes.
@@ -114,18 +142,21 @@ beside_rust() {
     shift 2
     if changed "$out/$program" "$gadulnos" "$lib/wrapping/librinux.rlib" "$lib/libpaper.rlib" host/tests/shared "$folder" "$@"; then
         compile -o "$out/$program" -L "$lib" --extern gadulnos="$gadulnos" --extern paper="$lib/libpaper.rlib" \
-            --extern rinux="$lib/wrapping/librinux.rlib" "$folder/main.rs"
+            --extern calls="$lib/libcalls.rlib" --extern trial="$lib/libtrial.rlib" --extern rinux="$lib/wrapping/librinux.rlib" "$folder/main.rs"
     fi
 }
 
 beside_rust layers host/tests/layers examples
-for program in beside release anything keys; do
+for program in beside release anything keys papers; do
     beside_rust $program host/tests/$program
 done
-if changed "$out/header" "$archive" host/gadulnos.h host/tests/header.c; then
-    echo "build $out/header"
-    cc -std=c99 -O1 -Wall -Wextra -Werror -pedantic -o "$out/header" host/tests/header.c "$archive"
-fi
+for c in host/tests/header.c examples/board.c; do
+    program=$out/$(basename "$c" .c)
+    if changed "$program" "$archive" host/gadulnos.h host/gadulnos_board.h "$c"; then
+        echo "build $program"
+        cc -std=c99 -O1 -Wall -Wextra -Werror -pedantic -I host -o "$program" "$c" "$archive"
+    fi
+done
 if [ "${1:-}" = bench ]; then
     # It needs 1.66, for black_box.
     RUST_FLAGS="${RUST_FLAGS:--O} -A clippy::incompatible_msrv"

@@ -1,5 +1,6 @@
 /* Gadulnos: the rinux memory manager as C functions. Link libdesk.a, which `host/library.sh` makes
- * (x86-64, System V calling convention). docs/LAYOUT.md explains the layout at length.
+ * (x86-64, System V calling convention). docs/LAYOUT.md explains the layout at length; gadulnos_board.h has a
+ * board in one struct.
  *
  * What is asked of the arguments: each pointer lends as many elements as its length says, one without a
  * length (bits, table, out, root, compared) as many as is said of it here; no two lent parts overlap, a
@@ -49,6 +50,47 @@ enum {
     GADULNOS_MOST_LEVELS = 5,
     /* How many numbers a working is: a count, then five for each of at most five rows. */
     GADULNOS_SHOWN_NUMBERS = 26
+};
+
+/* Document 01's numbers: what a call answers. docs/NUMBERS.md has each call's in their order. No call answers 9. */
+enum gadulnos_number {
+    GADULNOS_MET = 0,
+    GADULNOS_REFUSED_SIZE_ZERO = 1,
+    GADULNOS_REFUSED_UNALIGNED = 2,
+    GADULNOS_REFUSED_TOO_LARGE = 3,
+    GADULNOS_REFUSED_HUGE_UNALIGNED = 4,
+    GADULNOS_REFUSED_RESERVED_BIT = 5,
+    GADULNOS_REFUSED_INVALID_ADDRESS = 6,
+    GADULNOS_REFUSED_INSTRUCTION_FETCH = 7,
+    GADULNOS_REFUSED_PROTECTION_VIOLATION = 8,
+    GADULNOS_REFUSED_BROKEN_RECORD = 10,
+    GADULNOS_REFUSED_NO_FREE_FRAME = 11,
+    GADULNOS_REFUSED_ALREADY_MAPPED = 12,
+    GADULNOS_REFUSED_MAP_PAGE_FAILED = 13,
+    GADULNOS_REFUSED_NOT_MAPPED = 14,
+    GADULNOS_REFUSED_NO_REGION = 15,
+    GADULNOS_REFUSED_REGION_NOT_FOUND = 16,
+    GADULNOS_REFUSED_WRITE_TO_READ_ONLY = 17,
+    GADULNOS_REFUSED_PAGE_TABLE_ERROR = 18,
+    GADULNOS_REFUSED_OUTSIDE = 19,
+    GADULNOS_REFUSED_LIST_FULL = 20
+};
+
+/* Arguments: a region's protection, the flags of an mmap, the error code of a fault. Other bits may be set. */
+enum {
+    GADULNOS_PROT_NONE = 0,
+    GADULNOS_PROT_READ = 1,
+    GADULNOS_PROT_WRITE = 2,
+    GADULNOS_PROT_EXEC = 4,
+    GADULNOS_MAP_SHARED = 0x01,
+    GADULNOS_MAP_PRIVATE = 0x02,
+    GADULNOS_MAP_FIXED = 0x10,
+    GADULNOS_MAP_ANONYMOUS = 0x20,
+    GADULNOS_FAULT_PRESENT = 1,
+    GADULNOS_FAULT_WRITE = 2,
+    GADULNOS_FAULT_USER = 4,
+    GADULNOS_FAULT_RESERVED = 8,
+    GADULNOS_FAULT_FETCH = 16
 };
 
 /* A call's answer: document 01's number, 0 if the call was met, and its value, 0 if it has none. */

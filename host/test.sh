@@ -29,17 +29,50 @@ keys() {
     flock "$room/keys.lock" target/host/keys "$@"
 }
 
+# Likewise: it has a folder of its own.
+papers() {
+    flock "$room/papers.lock" target/host/papers "$@"
+}
+
+# The examples in the comments of crate gadulnos, each compiled and run by rustdoc, where that is installed.
+documented() {
+    local told
+    if ! rustdoc --version >/dev/null 2>&1; then
+        echo "rustdoc is not installed: the examples in comments are passed over"
+        echo "0 passed, 0 failed"
+        return
+    fi
+    told=$(rustdoc --test --edition 2021 --crate-name gadulnos -L target/host/oracle -L native=target/staticlib \
+        --extern calls=target/host/oracle/libcalls.rlib host/gadulnos/lib.rs 2>&1) || echo "$told"
+    sed -n -E 's/^test result: .* ([0-9]+) passed; ([0-9]+) failed.*/\1 passed, \2 failed/p' <<<"$told"
+}
+
+# The example in C prints what stands beside it.
+example() {
+    if diff <(target/host/board) examples/board.expected; then
+        echo "ok examples/board.c"
+        echo "1 passed, 0 failed"
+    else
+        echo "FAILED examples/board.c"
+        echo "0 passed, 1 failed"
+    fi
+}
+
 # Two lists, one for each core. The programs have a fixed seed, and in the second list one drawn from the commit. Each prints it: the same seed repeats a run.
 fixed() {
     for program in oracle-self layers header beside release anything; do
         counted target/host/$program
     done
+    counted documented
+    counted example
     counted keys
+    counted papers
 }
 
 drawn() {
     local seed
     seed=$((16#$(git rev-parse --short=12 HEAD 2>/dev/null || echo 5eed)))
+    counted papers --seed $seed
     counted keys --seed $seed
     for program in layers beside release anything; do
         counted target/host/$program --seed $seed

@@ -4,13 +4,12 @@
 
 use crate::same;
 use crate::trio::{alike, state};
-use gadulnos::{
-    Board, Found, Frames, Kernel, Line, Marked, Region, Slot, User, LEVELS, MOST_LEVELS,
+use calls::{user, writable, Call, KERNEL_WINDOW, PAGE, USER_WINDOW};
+use gadulnos::raw::{
+    self, Found, Frames, Kernel, Line, Marked, Parts, Region, Slot, User, LEVELS, MOST_LEVELS,
     SHOWN_NUMBERS,
 };
-use paper::call::{user, writable, Call};
-use paper::generate::{Generator, Parts, Profile, Random};
-use paper::{KERNEL_WINDOW, PAGE, USER_WINDOW};
+use trial::generate::{Generator, Perturbed, Profile, Random};
 
 const SEQUENCES: u64 = 1500;
 
@@ -28,9 +27,9 @@ fn found(found: Found) -> Told {
 /// The answers of a call, and of the counts all three.
 macro_rules! player {
     ($name:ident, $calls:ident) => {
-        pub fn $name(board: &mut Board, call: &Call) -> [Told; 3] {
+        pub fn $name(board: &mut Parts, call: &Call) -> [Told; 3] {
             let Frames { start_frame: first, total, levels, .. } = board.frames();
-            let Board { words, fields, bits, root, kernel, user: list, marked } = board;
+            let Parts { words, fields, bits, root, kernel, user: list, marked } = board;
             let root = *root;
             let one = match *call {
                 Call::Vfree { addr } => {
@@ -82,6 +81,9 @@ macro_rules! player {
                 Call::Mprotect { addr, size, prot } => {
                     $calls::mprotect(words, first, total, levels, root, list, addr, size, prot)
                 }
+                Call::UserMay { addr, write } => {
+                    $calls::user_may(words, first, total, levels, root, addr, write)
+                }
                 // On numbers alone: no row has it.
                 Call::IsVmallocAddr { .. } => Line::met(0),
             };
@@ -90,11 +92,11 @@ macro_rules! player {
     };
 }
 
-player!(on_port, gadulnos);
+player!(on_port, raw);
 player!(on_same, same);
 
-fn copy(board: &Board) -> Board {
-    Board {
+fn copy(board: &Parts) -> Parts {
+    Parts {
         words: board.words.clone(),
         fields: board.fields.clone(),
         bits: board.bits.clone(),
@@ -106,10 +108,10 @@ fn copy(board: &Board) -> Board {
 }
 
 /// The search on both, and how many regions it compared.
-fn search(random: &mut Random, port: &Board, same: &Board) -> Result<(), String> {
+fn search(random: &mut Random, port: &Parts, same: &Parts) -> Result<(), String> {
     let size = random.one_of(&[0, 1, PAGE, 8 * PAGE, USER_WINDOW.1 - USER_WINDOW.0, u64::MAX]);
     let (mut compared, mut counted) = (7, 7);
-    let one = gadulnos::find_free_region(&port.user, size, &mut compared);
+    let one = raw::find_free_region(&port.user, size, &mut compared);
     let other = same::find_free_region(&same.user, size, &mut counted);
     match (one, compared) == (other, counted) {
         true => Ok(()),
@@ -118,11 +120,11 @@ fn search(random: &mut Random, port: &Board, same: &Board) -> Result<(), String>
 }
 
 /// The working of a translation on both, whatever stood in its numbers before.
-fn show(port: &Board, same: &Board, virt: u64) -> Result<(), String> {
+fn show(port: &Parts, same: &Parts, virt: u64) -> Result<(), String> {
     let Frames { start_frame: first, total, levels, .. } = port.frames();
     let (mut shown, mut wanted) = ([7; SHOWN_NUMBERS], [8; SHOWN_NUMBERS]);
     let (words, root) = (&port.words, port.root);
-    let one = gadulnos::show_translate(words, first, total, levels, root, virt, &mut shown);
+    let one = raw::show_translate(words, first, total, levels, root, virt, &mut shown);
     let (words, root) = (&same.words, same.root);
     let other = same::show_translate(words, first, total, levels, root, virt, &mut wanted);
     match (one, shown) == (other, wanted) {
@@ -132,10 +134,10 @@ fn show(port: &Board, same: &Board, virt: u64) -> Result<(), String> {
 }
 
 /// Whether user code may read an address, and write it, on both.
-fn question(port: &Board, same: &Board, virt: u64) -> Result<(), String> {
+fn question(port: &Parts, same: &Parts, virt: u64) -> Result<(), String> {
     let Frames { start_frame: first, total, levels, .. } = port.frames();
     for write in [false, true] {
-        let one = gadulnos::user_may(&port.words, first, total, levels, port.root, virt, write);
+        let one = raw::user_may(&port.words, first, total, levels, port.root, virt, write);
         let other = same::user_may(&same.words, first, total, levels, same.root, virt, write);
         if one != other {
             return Err(format!("user_may {virt:x} {write}: {one:?} and {other:?}"));
@@ -146,7 +148,7 @@ fn question(port: &Board, same: &Board, virt: u64) -> Result<(), String> {
 
 /// A call on both, which must leave both alike. Of an address that it names to walk to the working is shown, and
 /// the user question asked.
-fn both(port: &mut Board, same: &mut Board, call: &Call) -> Result<(), String> {
+fn both(port: &mut Parts, same: &mut Parts, call: &Call) -> Result<(), String> {
     let (one, other) = (on_port(port, call), on_same(same, call));
     if one != other {
         return Err(format!("{call}: {one:?} and {other:?}"));
@@ -171,12 +173,12 @@ fn both(port: &mut Board, same: &mut Board, call: &Call) -> Result<(), String> {
 
 /// A start on both, of so many levels if they are named, whatever the parts hold.
 fn start(
-    port: &mut Board,
-    same: &mut Board,
+    port: &mut Parts,
+    same: &mut Parts,
     (from, to): (u64, u64),
     levels: Option<u64>,
 ) -> Result<(), String> {
-    let Board { words, fields, bits, root, kernel, user, marked } = same;
+    let Parts { words, fields, bits, root, kernel, user, marked } = same;
     let (one, other) = match levels {
         None => (
             port.start(from, to),
@@ -215,7 +217,7 @@ fn sequence(
     from: u64,
     to: u64,
 ) -> Result<(), String> {
-    let mut port = Board::lend(((to - from) / PAGE) as usize);
+    let mut port = Parts::lend(((to - from) / PAGE) as usize);
     generator.fill(&mut port.words);
     let mut same = copy(&port);
     let levels = random.one_of(&[None, Some(LEVELS), Some(MOST_LEVELS), Some(MOST_LEVELS)]);
@@ -237,7 +239,7 @@ fn sequence(
 fn on_changed(
     random: &mut Random,
     generator: &mut Generator,
-    mut port: Board,
+    mut port: Parts,
     (from, to): (u64, u64),
 ) -> Result<(), String> {
     let mut parts = generator.perturb(&state(&port).ok_or("parts that stand for no state")?);
@@ -262,7 +264,7 @@ fn on_changed(
 }
 
 /// Other lists: at times full ones, or nearly so, and regions of any size over the pages that stand.
-fn crowd(random: &mut Random, parts: &mut Parts) {
+fn crowd(random: &mut Random, parts: &mut Perturbed) {
     let count = random.one_of(&[2, 9, 254, 255, 256]);
     let mut ranges = |window: u64| -> Vec<(u64, u64)> {
         let range = |i: u64| {
@@ -273,9 +275,9 @@ fn crowd(random: &mut Random, parts: &mut Parts) {
         };
         (0..count).map(range).collect()
     };
-    let slot = |(start, size)| paper::state::Slot { start, size, used: size & PAGE != 0 };
+    let slot = |(start, size)| trial::state::Slot { start, size, used: size & PAGE != 0 };
     parts.slots = ranges(KERNEL_WINDOW.0).into_iter().map(slot).collect();
-    let region = |(start, size)| paper::state::Region { start, size, prot: 3, flags: 0x22 };
+    let region = |(start, size)| trial::state::Region { start, size, prot: 3, flags: 0x22 };
     parts.regions = ranges(USER_WINDOW.0).into_iter().map(region).collect();
     parts.regions.sort_by_key(|region| region.start);
     parts.regions.dedup_by_key(|region| region.start);
@@ -283,12 +285,12 @@ fn crowd(random: &mut Random, parts: &mut Parts) {
 }
 
 /// Sets a board to a state near its own.
-fn set(board: &mut Board, parts: &Parts) {
+fn set(board: &mut Parts, parts: &Perturbed) {
     for &(index, word) in &parts.words {
         board.words[index] = word;
     }
     board.fields = Frames { allocated: parts.allocated, ..board.frames() }.pack();
-    *board.bits = gadulnos::pack_bitmap(&parts.bitmap);
+    *board.bits = raw::pack_bitmap(&parts.bitmap);
     board.root = parts.root;
     let none = Slot { start: 0, size: 0, used: false };
     let mut kernel = Kernel { count: parts.slots.len() as u64, slots: [none; 256] };
@@ -310,10 +312,10 @@ fn set(board: &mut Board, parts: &Parts) {
 
 /// Another root, other frames or levels, a root that leads to itself, or a byte or a length that is another
 /// than it was, whatever that makes of the part. The bitmap has its length by its type.
-fn damage(random: &mut Random, board: &mut Board) {
+fn damage(random: &mut Random, board: &mut Parts) {
     let record = board.frames();
     let Frames { start_frame, .. } = record;
-    let Board { words, fields, bits, root, kernel, user, marked } = board;
+    let Parts { words, fields, bits, root, kernel, user, marked } = board;
     let part = match random.below(11) {
         0 => return words.truncate(words.len().saturating_sub(random.below(2) as usize)),
         1 => return *root = root.wrapping_add(random.one_of(&[u64::MAX, 1, 600])),

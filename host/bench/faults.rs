@@ -5,7 +5,7 @@ use crate::sides::Side;
 use crate::table::{mean_of, timed, Row, Table, Work};
 use crate::trio::{each, Trio, START};
 use crate::{LARGE, SMALL};
-use paper::{PAGE, TEMPORARY};
+use calls::{PAGE, TEMPORARY};
 use std::hint::black_box;
 
 /// A fault's code: a write by user code to a page that is not present, and to one that is.

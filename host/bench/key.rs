@@ -7,14 +7,13 @@ use crate::sides::{Rust, Same, Side};
 use crate::table::{agreed, Row, Table};
 use crate::trio::{state, Trio, START};
 use crate::SMALL;
-use gadulnos::{Board, Frames, Line};
-use paper::call::Call;
-use paper::generate::Random;
-use paper::{tape, PAGE, USER_WINDOW};
+use calls::{tape, Call, PAGE, USER_WINDOW};
+use gadulnos::raw::{Frames, Line, Parts};
 use std::fmt::Write;
 use std::fs::{self, File};
 use std::process::Command;
 use std::time::Instant;
+use trial::generate::Random;
 
 const PROGRAM: &str = "target/bin/key";
 const TAPE: &str = "target/host/bench.tape";
@@ -62,7 +61,7 @@ pub fn row(table: &mut Table) {
 /// two pages in either list, and no fault that is met, since no call of the tape takes its page back.
 fn draw() -> Vec<Call> {
     let mut random = Random::new(1);
-    let mut board = Board::lend(SMALL as usize);
+    let mut board = Parts::lend(SMALL as usize);
     assert_eq!(board.start(START, END), Line::met(0));
     let (mut kernel, mut user) = (Vec::new(), [None; 2]);
     let next = |_| {
@@ -145,11 +144,11 @@ fn of_same(same: &mut Same, tape: &[u8]) -> (f64, String) {
 }
 
 /// The first call of a tape, made: its line, and its length on the tape.
-fn turn(board: &mut Board, tape: &[u8]) -> Option<(Line, usize)> {
+fn turn(board: &mut Parts, tape: &[u8]) -> Option<(Line, usize)> {
     let word = |at: usize| Some(u64::from_le_bytes(tape.get(at..at + 8)?.try_into().ok()?));
     let half = |at: usize| Some(i32::from_le_bytes(tape.get(at..at + 4)?.try_into().ok()?));
     let Frames { start_frame, total, levels, .. } = board.frames();
-    let Board { words, fields, bits, root, kernel, user, marked } = board;
+    let Parts { words, fields, bits, root, kernel, user, marked } = board;
     let root = *root;
     Some(match tape.first()? {
         1 => (same::vmalloc(words, fields, bits, root, kernel, word(1)?), 9),

@@ -4,8 +4,8 @@ use crate::sides::Side;
 use crate::table::{timed, Row, Table, Work};
 use crate::trio::{each, state, Trio};
 use crate::{LARGE, SMALL};
-use gadulnos::{LEVELS, MOST_LEVELS};
-use paper::{PAGE, USER_WINDOW};
+use calls::{PAGE, USER_WINDOW};
+use gadulnos::raw::{LEVELS, MOST_LEVELS};
 use std::hint::black_box;
 
 /// Frames, pages, regions, and whether the line stands in the first table.

@@ -2,11 +2,11 @@
 //! written once, over `Side`. The Rust has boards of four levels alone.
 
 use crate::same;
-use gadulnos::{Board, Found, Frames, Line, Marked, LEVELS, SHOWN_NUMBERS};
-use paper::state::Region;
+use gadulnos::raw::{self, Found, Frames, Line, Marked, Parts, LEVELS, SHOWN_NUMBERS};
 use rinux::paging::{HugePageSize, PageMapper, PhysAddr, VirtAddr};
 use rinux::{frame, mmap, oracle, page_fault, page_handler, vmalloc};
 use std::hint::black_box;
+use trial::state::Region;
 
 /// The calls, and below them what is set between rounds. A met call has its value, 0 if it has none.
 pub trait Side {
@@ -67,11 +67,11 @@ pub struct Shown {
     pub numbers: [u64; SHOWN_NUMBERS],
 }
 
-/// A side on packed parts, whose functions stand in a module by the names of `gadulnos`.
+/// A side on packed parts, whose functions stand in a module by the names of `gadulnos::raw`.
 macro_rules! packed_side {
     ($name:ident, $calls:ident) => {
         pub struct $name {
-            pub board: Board,
+            pub board: Parts,
             /// The lent frames and the levels, as a host knows them.
             start: u64,
             total: u64,
@@ -83,13 +83,13 @@ macro_rules! packed_side {
         impl $name {
             pub fn lend(start: u64, total: u64, levels: u64) -> $name {
                 let shown = Box::new(Shown { _front: [0; 256], numbers: [0; SHOWN_NUMBERS] });
-                $name { board: Board::lend(total as usize), start, total, levels, shown }
+                $name { board: Parts::lend(total as usize), start, total, levels, shown }
             }
         }
 
         impl Side for $name {
             fn start(&mut self, from: u64, to: u64) -> Option<u64> {
-                let Board { words, fields, bits, root, kernel, user, marked } = &mut self.board;
+                let Parts { words, fields, bits, root, kernel, user, marked } = &mut self.board;
                 met(match self.levels {
                     LEVELS => {
                         $calls::start(words, fields, bits, root, kernel, user, marked, from, to)
@@ -117,60 +117,60 @@ macro_rules! packed_side {
             }
 
             fn translate(&self, virt: u64) -> Option<u64> {
-                let Board { words, root, .. } = &self.board;
+                let Parts { words, root, .. } = &self.board;
                 met($calls::translate(words, self.start, self.total, self.levels, *root, virt))
             }
 
             fn show_translate(&mut self, virt: u64) -> Option<u64> {
-                let $name { board: Board { words, root, .. }, start, total, levels, shown } = self;
+                let $name { board: Parts { words, root, .. }, start, total, levels, shown } = self;
                 let out = &mut shown.numbers;
                 met($calls::show_translate(words, *start, *total, *levels, *root, virt, out))
             }
 
             fn user_may(&self, virt: u64, write: bool) -> Option<u64> {
-                let $name { board: Board { words, root, .. }, start, total, levels, .. } = self;
+                let $name { board: Parts { words, root, .. }, start, total, levels, .. } = self;
                 met($calls::user_may(words, *start, *total, *levels, *root, virt, write))
             }
 
             fn map_page(&mut self, virt: u64, phys: u64) -> Option<u64> {
-                let Board { words, fields, bits, root, .. } = &mut self.board;
+                let Parts { words, fields, bits, root, .. } = &mut self.board;
                 met($calls::map_page(words, fields, bits, *root, virt, phys, true, true))
             }
 
             fn map_huge_page(&mut self, virt: u64, phys: u64, gigabyte: bool) -> Option<u64> {
-                let Board { words, fields, bits, root, .. } = &mut self.board;
+                let Parts { words, fields, bits, root, .. } = &mut self.board;
                 met($calls::map_huge_page(
                     words, fields, bits, *root, virt, phys, gigabyte, true, true,
                 ))
             }
 
             fn unmap_page(&mut self, virt: u64) -> Option<u64> {
-                let Board { words, root, .. } = &mut self.board;
+                let Parts { words, root, .. } = &mut self.board;
                 met($calls::unmap_page(words, self.start, self.total, self.levels, *root, virt))
             }
 
             fn vmalloc(&mut self, size: u64) -> Option<u64> {
-                let Board { words, fields, bits, root, kernel, .. } = &mut self.board;
+                let Parts { words, fields, bits, root, kernel, .. } = &mut self.board;
                 met($calls::vmalloc(words, fields, bits, *root, kernel, size))
             }
 
             fn vfree(&mut self, addr: u64) -> Option<u64> {
-                let Board { words, fields, bits, root, kernel, .. } = &mut self.board;
+                let Parts { words, fields, bits, root, kernel, .. } = &mut self.board;
                 gave($calls::vfree(words, fields, bits, *root, kernel, addr))
             }
 
             fn mmap(&mut self, size: u64) -> Option<u64> {
-                let Board { words, fields, bits, root, user, .. } = &mut self.board;
+                let Parts { words, fields, bits, root, user, .. } = &mut self.board;
                 met($calls::mmap(words, fields, bits, *root, user, false, 0, size, 3, 0x22))
             }
 
             fn munmap(&mut self, addr: u64, size: u64) -> Option<u64> {
-                let Board { words, fields, bits, root, user, .. } = &mut self.board;
+                let Parts { words, fields, bits, root, user, .. } = &mut self.board;
                 gave($calls::munmap(words, fields, bits, *root, user, addr, size))
             }
 
             fn mprotect(&mut self, addr: u64, size: u64, prot: i32) -> Option<u64> {
-                let $name { board: Board { words, root, user, .. }, start, total, levels, .. } =
+                let $name { board: Parts { words, root, user, .. }, start, total, levels, .. } =
                     self;
                 met($calls::mprotect(words, *start, *total, *levels, *root, user, addr, size, prot))
             }
@@ -195,17 +195,17 @@ macro_rules! packed_side {
             }
 
             fn fault(&mut self, addr: u64, code: u64) -> Option<u64> {
-                let Board { words, fields, bits, root, marked, .. } = &mut self.board;
+                let Parts { words, fields, bits, root, marked, .. } = &mut self.board;
                 gave($calls::handle_page_fault(words, fields, bits, *root, marked, addr, code))
             }
 
             fn second_fault(&mut self, addr: u64, code: u64) -> Option<u64> {
-                let Board { words, fields, bits, root, .. } = &mut self.board;
+                let Parts { words, fields, bits, root, .. } = &mut self.board;
                 met($calls::handle_page_fault_second(words, fields, bits, *root, addr, code))
             }
 
             fn set_frames(&mut self, marked: u64) {
-                *self.board.bits = gadulnos::pack_bitmap(&lowest(marked));
+                *self.board.bits = raw::pack_bitmap(&lowest(marked));
                 let frames = Frames { allocated: marked, ..self.board.frames() };
                 self.board.fields = frames.pack();
             }
@@ -227,7 +227,7 @@ macro_rules! packed_side {
     };
 }
 
-packed_side!(Port, gadulnos);
+packed_side!(Port, raw);
 packed_side!(Same, same);
 
 /// The original, whose state is its own but for the frames.

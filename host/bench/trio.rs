@@ -1,9 +1,9 @@
 //! A board of each side, kept in the same state. On five levels there is none of the Rust's.
 
 use crate::sides::{Port, Rust, Same, Side};
-use gadulnos::{Board, Frames, Kernel, Marked, User, LEVELS};
-use paper::state::{Region, Slot, State, SLOTS};
-use paper::PAGE;
+use calls::PAGE;
+use gadulnos::raw::{Frames, Kernel, Marked, Parts, User, LEVELS};
+use trial::state::{Region, Slot, State, SLOTS};
 
 /// The physical address of the first lent frame, and its number.
 pub const START: u64 = 0x10_0000;
@@ -67,7 +67,7 @@ impl Trio {
 }
 
 /// The first part in which two boards differ.
-pub fn alike(one: &Board, other: &Board) -> Result<(), &'static str> {
+pub fn alike(one: &Parts, other: &Parts) -> Result<(), &'static str> {
     let parts = [
         ("fields", one.fields == other.fields),
         ("bits", one.bits == other.bits),
@@ -81,7 +81,7 @@ pub fn alike(one: &Board, other: &Board) -> Result<(), &'static str> {
 }
 
 /// The state that packed parts stand for, if all slots past a count are zero.
-pub fn state(board: &Board) -> Option<State<'_>> {
+pub fn state(board: &Parts) -> Option<State<'_>> {
     let frames = Frames::unpack(&board.fields)?;
     let (kernel, user) = (Kernel::unpack(&board.kernel)?, User::unpack(&board.user)?);
     let marked = Marked::unpack(&board.marked)?;
@@ -98,7 +98,7 @@ pub fn state(board: &Board) -> Option<State<'_>> {
         total: frames.total,
         allocated: frames.allocated,
         levels: frames.levels,
-        bitmap: gadulnos::unpack_bitmap(&board.bits),
+        bitmap: gadulnos::raw::unpack_bitmap(&board.bits),
         root: board.root,
         vmalloc_count: (kernel.count as usize).min(SLOTS),
         slots: kernel.slots.map(|s| Slot { start: s.start, size: s.size, used: s.used }),

@@ -5,8 +5,8 @@ use crate::sides::Side;
 use crate::table::{mean_of, timed, Row, Table, Work};
 use crate::trio::{each, Trio, FIRST};
 use crate::{LARGE, SMALL};
-use gadulnos::{LEVELS, MOST_LEVELS};
-use paper::PAGE;
+use calls::PAGE;
+use gadulnos::raw::{LEVELS, MOST_LEVELS};
 use std::hint::black_box;
 
 /// Pages that are mapped and unmapped: all the entries of one table.

@@ -8,14 +8,15 @@ mod play;
 pub mod pure;
 
 use crate::{frame, mmap, page_fault, paging, stand_in, vmalloc};
+pub use calls::tape;
+pub use calls::Call;
 use memory::Lent;
-pub use paper::answer::{Numbers, Outcome};
-pub use paper::call::Call;
-use paper::generate::Parts;
-pub use paper::state::{Region, Slot, State, BITMAP_WORDS, SLOTS};
-pub use paper::{answer, call, domain, generate, minimise, state, tape};
 use std::panic::AssertUnwindSafe;
 use std::sync::atomic::{AtomicBool, Ordering};
+pub use trial::answer::{Numbers, Outcome};
+use trial::generate::Perturbed;
+pub use trial::state::{Region, Slot, State, BITMAP_WORDS, SLOTS};
+pub use trial::{answer, domain, generate, minimise, state};
 
 /// Whether this build panics where a sum overflows. The other build wraps.
 pub const CHECKED: bool = cfg!(checked);
@@ -106,7 +107,7 @@ impl Board {
             start_frame: record.start_frame,
             total: record.total,
             allocated: record.allocated,
-            levels: paper::LEVELS,
+            levels: calls::LEVELS,
             bitmap: record.bitmap,
             root: stand_in::cr3() / 4096,
             vmalloc_count: vmalloc::access::count(),
@@ -155,7 +156,7 @@ impl Board {
     }
 
     /// Sets every part but the words that are not named.
-    pub fn set(&mut self, parts: &Parts) {
+    pub fn set(&mut self, parts: &Perturbed) {
         for &(index, word) in &parts.words {
             self.words_mut()[index] = word;
         }

@@ -1,6 +1,6 @@
 /* Every C function called once from C, by the header. Prints `ok NAME` or `FAILED NAME` for each check and
  * ends with the two counts. */
-#include "../gadulnos.h"
+#include "../gadulnos_board.h"
 
 #include <stdio.h>
 #include <string.h>
@@ -286,6 +286,60 @@ static void faults(void)
                              && is(gadulnos_handle_page_fault_second(MEMORY, RECORD, root, 0x7000, 3), 17, 0));
 }
 
+/* The struct of gadulnos_board.h: each call on it once. */
+static void in_one_struct(void)
+{
+    static struct gadulnos_board board;
+    static uint64_t lent[WORDS];
+    const uint64_t mapped = UINT64_C(0x100000000000);
+    uint64_t shown[GADULNOS_SHOWN_NUMBERS];
+    uint64_t compared = 0;
+
+    check("a board that is not started", is(gadulnos_board_vmalloc(&board, 1), 10, 0)
+                                             && gadulnos_board_word(&board, 0, 0) == 0);
+    check("a refused start of a board",
+          is(gadulnos_board_start(&board, lent, WORDS - 1, 0x100000, 0x110000, 4), GADULNOS_REFUSED_BROKEN_RECORD, 0)
+              && is(gadulnos_board_start(&board, lent, WORDS, 0x100000, 0x100000, 4),
+                    GADULNOS_REFUSED_NO_FREE_FRAME, 0)
+              && board.words_len == 0);
+    check("a board", is(gadulnos_board_start(&board, lent, WORDS, 0x100000, 0x110000, 4), GADULNOS_MET, 0)
+                         && board.root == 0x100 && gadulnos_board_field(&board, GADULNOS_FIELD_TOTAL) == FRAMES
+                         && gadulnos_board_field(&board, GADULNOS_FIELD_LEVELS) == 4);
+    check("its regions",
+          gadulnos_board_vmalloc(&board, 1).number == 0
+              && is(gadulnos_board_mmap(&board, 5000, GADULNOS_PROT_WRITE, 0), 0, mapped)
+              && is(gadulnos_board_find_free_region(&board, 1, &compared), 0, mapped + 8192)
+              && is(gadulnos_board_mmap_at(&board, 0x1000, 1, 0, GADULNOS_MAP_FIXED), 0, 0x1000)
+              && is(gadulnos_board_mprotect(&board, mapped, 5000, 0), 0, 0)
+              && is(gadulnos_board_user_may(&board, mapped, true), 0, 0)
+              && found(gadulnos_board_munmap(&board, mapped, 5000), 0, 2, 0, 0)
+              && found(gadulnos_board_vfree(&board, UINT64_C(0xFFFFFFC000000000)), 0, 1, 0, 0));
+    check("its tables",
+          is(gadulnos_board_map_page(&board, 0x7000, 0x10F000, true, true), 0, 0)
+              && is(gadulnos_board_map_huge_page(&board, 1, 0, false, true, true), 4, 0)
+              && is(gadulnos_board_translate(&board, 0x7010), 0, 0x10F010)
+              && is(gadulnos_board_show_translate(&board, 0x7010, shown), 0, 0x10F010) && shown[0] == 4
+              && gadulnos_board_word(&board, shown[17], shown[18]) == 0x10F007
+              && gadulnos_board_word(&board, 0x110, 0) == 0 && gadulnos_board_word(&board, 0x100, 512) == 0
+              && is(gadulnos_board_unmap_page(&board, 0x7000), 0, 0x10F));
+    check("its frames",
+          is(gadulnos_board_deallocate_frame(&board, 0x110), 0, GADULNOS_NOT_HERE)
+              && is(gadulnos_board_mark_allocated(&board, 0x10F), 0, 0)
+              && is(gadulnos_board_is_allocated(&board, 0x10F), 0, 1)
+              && is(gadulnos_board_deallocate_frame(&board, 0x10F), 0, GADULNOS_FREED)
+              && gadulnos_board_allocate_frame(&board).number == 0
+              && gadulnos_board_allocated_frames(&board).value
+                     == gadulnos_board_field(&board, GADULNOS_FIELD_ALLOCATED));
+    check("its faults",
+          found(gadulnos_board_fault(&board, 0x9000, GADULNOS_FAULT_WRITE | GADULNOS_FAULT_USER), 0, 0, 0, 0)
+              && is(gadulnos_board_mark_cow(&board, 0x9000), 0, 0) && is(gadulnos_board_is_cow(&board, 0x9FFF), 0, 1)
+              && is(gadulnos_board_unmark_cow(&board, 0x9000), 0, 0)
+              && found(gadulnos_board_fault(&board, 0x9000, GADULNOS_FAULT_PRESENT | GADULNOS_FAULT_WRITE),
+                       GADULNOS_REFUSED_WRITE_TO_READ_ONLY, 0, 0, 0)
+              && is(gadulnos_board_fault_second(&board, 0x9000, GADULNOS_FAULT_RESERVED),
+                    GADULNOS_REFUSED_RESERVED_BIT, 0));
+}
+
 int main(void)
 {
     numbers();
@@ -297,6 +351,7 @@ int main(void)
     regions();
     given_back();
     faults();
+    in_one_struct();
     printf("%d passed, %d failed\n", passed, failed);
     return failed > 0;
 }

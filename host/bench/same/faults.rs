@@ -4,7 +4,7 @@ use super::memory::Memory;
 use super::packed::{put, shift, word};
 use super::tables::entry;
 use super::{found, line, Answer, Giving, BROKEN, PAGE};
-use gadulnos::{Found, Line, Marks};
+use gadulnos::raw::{Found, Line, Marks};
 
 const SLOTS: usize = 256;
 const BYTES: usize = 8 + 8 * SLOTS;

@@ -2,7 +2,7 @@
 
 use super::packed::{are_zero, put, word};
 use super::{is_levels, line, Answer, Tally, BROKEN};
-use gadulnos::{Finding, Line, Marks};
+use gadulnos::raw::{Finding, Line, Marks};
 
 /// A record that was tested.
 #[derive(Clone, Copy)]

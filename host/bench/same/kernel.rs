@@ -3,7 +3,7 @@
 use super::memory::Memory;
 use super::packed::{are_zero, clear, put, shift, word};
 use super::{found, is_placed, line, rounded, Answer, Giving, BROKEN, PAGE};
-use gadulnos::{Found, Line, Marks};
+use gadulnos::raw::{Found, Line, Marks};
 
 const SLOTS: usize = 256;
 const BYTES: usize = 8 + 24 * SLOTS;

@@ -3,7 +3,7 @@
 use super::frames::Frames;
 use super::tables::{down, entry, frame_of, index, Tables, PRESENT};
 use super::{Answer, Tally, PAGE};
-use gadulnos::Marks;
+use gadulnos::raw::Marks;
 
 pub struct Memory<'a> {
     pub words: &'a mut [u64],

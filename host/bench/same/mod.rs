@@ -33,7 +33,7 @@ pub use tables::{map_huge_page, map_page, translate, unmap_page, user_may};
 pub use user::{find_free_region, mmap, mprotect, munmap};
 pub use working::show_translate;
 
-use gadulnos::{Found, Line, LEVELS, MOST_LEVELS};
+use gadulnos::raw::{Found, Line, LEVELS, MOST_LEVELS};
 
 /// A value, or one of document 01's numbers.
 type Answer = Result<u64, u64>;

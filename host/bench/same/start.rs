@@ -2,7 +2,7 @@
 
 use super::packed::put;
 use super::{is_levels, BROKEN, PAGE};
-use gadulnos::{Line, Marks, LEVELS};
+use gadulnos::raw::{Line, Marks, LEVELS};
 
 /// The vmalloc window, and where a fresh search of mmap begins.
 const WINDOW: (u64, u64) = (0xFFFF_FFC0_0000_0000, 0xFFFF_FFE0_0000_0000);

@@ -2,7 +2,7 @@
 
 use super::memory::Memory;
 use super::{is_levels, line, Answer, BROKEN, PAGE};
-use gadulnos::{Line, Marks};
+use gadulnos::raw::{Line, Marks};
 
 pub const PRESENT: u64 = 1;
 pub const WRITABLE: u64 = 2;

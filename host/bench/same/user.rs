@@ -6,7 +6,7 @@ use super::packed::{clear, put, shift, word};
 use super::protect::protect_pages;
 use super::tables::Tables;
 use super::{found, is_placed, line, rounded, Answer, Giving, BROKEN, LAST, PAGE};
-use gadulnos::{Found, Line, Marks};
+use gadulnos::raw::{Found, Line, Marks};
 
 const SLOTS: usize = 256;
 const BYTES: usize = 16 + 24 * SLOTS;

@@ -2,7 +2,7 @@
 
 use super::tables::{down, frame_of, index, Tables, ADDR_MASK, HUGE, PRESENT};
 use super::{line, Answer, BROKEN};
-use gadulnos::{Line, Verdict, SHOWN_NUMBERS};
+use gadulnos::raw::{Line, Verdict, SHOWN_NUMBERS};
 
 impl Tables {
     /// What a translation makes of an entry.

@@ -4,12 +4,12 @@
 use crate::page_fault::PageFaultError;
 use crate::paging::{HugePageSize, PageMapper, PhysAddr, VirtAddr};
 use crate::{frame, mmap, page_fault, page_handler, vmalloc};
-use paper::answer::{Numbers, Outcome};
-use paper::call::{user, writable, Call};
+use calls::{user, writable, Call};
 use std::any::Any;
 use std::cell::Cell;
 use std::panic::{self, AssertUnwindSafe, UnwindSafe};
 use std::sync::Once;
+use trial::answer::{Numbers, Outcome};
 
 thread_local! {
     /// Whether a panic now is an answer, not an accident.

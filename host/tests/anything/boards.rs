@@ -2,17 +2,16 @@
 
 use crate::guard::Against;
 use crate::port::{self, Port};
-use gadulnos::{Board, Line, LEVELS, MOST_LEVELS};
-use paper::call::Call;
-use paper::generate::{Generator, Profile, Random};
-use paper::PAGE;
+use calls::{Call, PAGE};
+use gadulnos::raw::{Line, Parts, LEVELS, MOST_LEVELS};
+use trial::generate::{Generator, Profile, Random};
 
 /// Frames end at most at this number: addresses have 52 bits.
 pub const FRAMES_END: u64 = 1 << 40;
 
 /// A board, and calls that are drawn to what stands on it.
 pub struct Base {
-    pub board: Board,
+    pub board: Parts,
     pub calls: Vec<Call>,
 }
 
@@ -58,8 +57,8 @@ pub fn base(random: &mut Random) -> Result<Base, String> {
     Ok(Base { board: port::unguarded(&port), calls })
 }
 
-pub fn copy(board: &Board) -> Board {
-    Board {
+pub fn copy(board: &Parts) -> Parts {
+    Parts {
         words: board.words.clone(),
         fields: board.fields.clone(),
         bits: board.bits.clone(),

@@ -1,13 +1,13 @@
 //! Records broken in each of the ways that document 01 lists.
 
 use crate::boards::FRAMES_END;
-use gadulnos::{Board, Frames, Kernel, Marked, Region, Slot, User};
-use paper::generate::Random;
-use paper::{LAST, PAGE};
+use calls::{LAST, PAGE};
+use gadulnos::raw::{Frames, Kernel, Marked, Parts, Region, Slot, User};
+use trial::generate::Random;
 
 /// Breaks a part, mostly: total above 8192, lent words too few, frames ending above 2^52, root
 /// outside, another counter, other levels, or a list.
-pub fn broken(random: &mut Random, board: &mut Board) {
+pub fn broken(random: &mut Random, board: &mut Parts) {
     let mut record = board.frames();
     let Frames { start_frame, total, allocated, levels } = record;
     match random.below(9) {
@@ -60,7 +60,7 @@ fn misplaced(random: &mut Random, start: u64, size: u64) -> (u64, u64) {
     }
 }
 
-fn broken_kernel(random: &mut Random, board: &mut Board) {
+fn broken_kernel(random: &mut Random, board: &mut Parts) {
     let mut list = match Kernel::unpack(&board.kernel) {
         Some(list) => list,
         None => return,
@@ -90,7 +90,7 @@ fn broken_kernel(random: &mut Random, board: &mut Board) {
     board.kernel = list.pack();
 }
 
-fn broken_user(random: &mut Random, board: &mut Board) {
+fn broken_user(random: &mut Random, board: &mut Parts) {
     let mut list = match User::unpack(&board.user) {
         Some(list) => list,
         None => return,
@@ -113,7 +113,7 @@ fn broken_user(random: &mut Random, board: &mut Board) {
     board.user = list.pack();
 }
 
-fn broken_marked(random: &mut Random, board: &mut Board) {
+fn broken_marked(random: &mut Random, board: &mut Parts) {
     let mut list = match Marked::unpack(&board.marked) {
         Some(list) => list,
         None => return,

@@ -3,10 +3,12 @@
 use crate::boards::{any_levels, FRAMES_END};
 use crate::broken::broken;
 use crate::given;
-use gadulnos::{Board, Frames, Kernel, Marked, Region, Slot, User, LEVELS, MOST_LEVELS, SLOTS};
-use paper::generate::Random;
-use paper::state::bit;
-use paper::{KERNEL_WINDOW, LAST, PAGE, TEMPORARY, USER_WINDOW};
+use calls::{KERNEL_WINDOW, LAST, PAGE, TEMPORARY, USER_WINDOW};
+use gadulnos::raw::{
+    Frames, Kernel, Marked, Parts, Region, Slot, User, LEVELS, MOST_LEVELS, SLOTS,
+};
+use trial::generate::Random;
+use trial::state::bit;
 
 const WRITABLE: u64 = 2;
 const USER: u64 = 4;
@@ -48,7 +50,7 @@ impl Kind {
         }
     }
 
-    pub fn apply(self, random: &mut Random, board: &mut Board) {
+    pub fn apply(self, random: &mut Random, board: &mut Parts) {
         if self != Kind::Rubbish {
             (0..random.below(5)).for_each(|_| odd(random, board));
         }
@@ -63,7 +65,7 @@ impl Kind {
 }
 
 /// A change that leaves every record sound.
-fn odd(random: &mut Random, board: &mut Board) {
+fn odd(random: &mut Random, board: &mut Parts) {
     match random.below(16) {
         0..=2 => entries(random, board),
         10 | 11 => rights(random, board),
@@ -92,7 +94,7 @@ fn odd(random: &mut Random, board: &mut Board) {
 }
 
 /// A few entries, or one or all frames full of them.
-fn entries(random: &mut Random, board: &mut Board) {
+fn entries(random: &mut Random, board: &mut Parts) {
     let Frames { start_frame, total, .. } = board.frames();
     let lent = total as usize * 512;
     match random.below(8) {
@@ -122,7 +124,7 @@ fn entries(random: &mut Random, board: &mut Board) {
 
 /// USER and WRITABLE in every entry that is present, but for a few on the way to a page, so that one of them
 /// decides what user code may.
-fn rights(random: &mut Random, board: &mut Board) {
+fn rights(random: &mut Random, board: &mut Parts) {
     let (frames, root) = (board.frames(), board.root);
     let lent = frames.total as usize * 512;
     for word in board.words[..lent].iter_mut().filter(|word| **word & 1 == 1) {
@@ -139,7 +141,7 @@ fn rights(random: &mut Random, board: &mut Board) {
 
 /// A way that leads back: the last table of some pages is one of those above them, whose entries are these pages'
 /// own too. A region lies over them.
-fn looped(random: &mut Random, board: &mut Board) {
+fn looped(random: &mut Random, board: &mut Parts) {
     let (frames, root) = (board.frames(), board.root);
     let virt = walked(random, &board.words, frames, root);
     let above = 2 + random.below(frames.levels - 1);
@@ -188,8 +190,8 @@ fn any_word(random: &mut Random, one_in: u64, start: u64, total: u64) -> u64 {
 }
 
 /// Other marks, also past the frames; the counter follows.
-fn marks(random: &mut Random, board: &mut Board) {
-    let mut bitmap = gadulnos::unpack_bitmap(&board.bits);
+fn marks(random: &mut Random, board: &mut Parts) {
+    let mut bitmap = gadulnos::raw::unpack_bitmap(&board.bits);
     let mut record = board.frames();
     match random.below(4) {
         0 => bitmap.fill_with(|| random.word()),
@@ -202,13 +204,13 @@ fn marks(random: &mut Random, board: &mut Board) {
         }
     }
     record.allocated = (0..record.total as usize).filter(|&i| bit(&bitmap, i)).count() as u64;
-    *board.bits = gadulnos::pack_bitmap(&bitmap);
+    *board.bits = gadulnos::raw::pack_bitmap(&bitmap);
     board.fields = record.pack();
 }
 
 /// A region that is well placed: of a few pages where something is mapped or in a window, or a large
 /// one, up to nearly 2^64 bytes.
-fn region(random: &mut Random, board: &Board) -> (u64, u64) {
+fn region(random: &mut Random, board: &Parts) -> (u64, u64) {
     let near = match random.below(5) {
         0 | 1 => walked(random, &board.words, board.frames(), board.root),
         2 => KERNEL_WINDOW.0,
@@ -256,7 +258,7 @@ fn length(random: &mut Random) -> usize {
 }
 
 /// Any well placed regions in any order, overlapping or not.
-fn kernel(random: &mut Random, board: &Board) -> Kernel {
+fn kernel(random: &mut Random, board: &Parts) -> Kernel {
     let mut slots = [Slot { start: 0, size: 0, used: false }; SLOTS];
     let count = length(random);
     for slot in &mut slots[..count] {
@@ -276,7 +278,7 @@ fn kernel(random: &mut Random, board: &Board) -> Kernel {
 
 /// Any well placed regions, strictly rising, with rubbish in the slots past them. In a long list most
 /// have pages of their own, so that it comes to 256.
-fn user(random: &mut Random, board: &Board) -> User {
+fn user(random: &mut Random, board: &Parts) -> User {
     let count = length(random) as u64;
     let mut regions: Vec<Region> = Vec::new();
     for k in 0..count {
@@ -303,7 +305,7 @@ fn user(random: &mut Random, board: &Board) -> User {
 }
 
 /// Any numbers that rise, pages or not, with rubbish in the slots past them.
-fn marked(random: &mut Random, board: &Board) -> Marked {
+fn marked(random: &mut Random, board: &Parts) -> Marked {
     let count = length(random) as u64;
     let mut pages: Vec<u64> = Vec::new();
     for k in 0..count {
@@ -325,7 +327,7 @@ fn marked(random: &mut Random, board: &Board) -> Marked {
 }
 
 /// Other lengths for some parts: none, one short, one long, or any.
-fn lengths(random: &mut Random, board: &mut Board) {
+fn lengths(random: &mut Random, board: &mut Parts) {
     let mut which = random.word();
     let mut other = |length: usize| {
         which >>= 3;
@@ -336,7 +338,7 @@ fn lengths(random: &mut Random, board: &mut Board) {
     };
     let words = other(board.words.len());
     board.words.resize(words, 7);
-    let Board { fields, kernel, user, marked, .. } = board;
+    let Parts { fields, kernel, user, marked, .. } = board;
     for part in [fields, kernel, user, marked] {
         let length = other(part.len());
         part.resize(length, 0);
@@ -344,8 +346,8 @@ fn lengths(random: &mut Random, board: &mut Board) {
 }
 
 /// A byte of a part, or a word, made any.
-fn any_byte(random: &mut Random, board: &mut Board) {
-    let Board { words, fields, bits, kernel, user, marked, .. } = board;
+fn any_byte(random: &mut Random, board: &mut Parts) {
+    let Parts { words, fields, bits, kernel, user, marked, .. } = board;
     let part: &mut [u8] = match random.below(6) {
         0 => fields,
         1 => &mut bits[..],
@@ -367,14 +369,14 @@ fn any_byte(random: &mut Random, board: &mut Board) {
 }
 
 /// Nothing but random bytes and words; at times of the right lengths.
-fn rubbish(random: &mut Random, board: &mut Board) {
+fn rubbish(random: &mut Random, board: &mut Parts) {
     let right = random.chance(2, 3);
     let mut length = |length: usize| match right {
         true => length,
         false => random.below(2 * length as u64 + 2) as usize,
     };
     board.words.resize(length(512 * 4), 0);
-    let Board { words, fields, bits, kernel, user, marked, .. } = board;
+    let Parts { words, fields, bits, kernel, user, marked, .. } = board;
     for part in [&mut *fields, &mut *kernel, &mut *user, &mut *marked] {
         let length = length(part.len());
         part.resize(length, 0);

@@ -7,12 +7,10 @@ use crate::guard::{self, Against, Guarded};
 use crate::model::Model;
 use crate::report::{equal, holds, Checked};
 use crate::table::{Answer, Arg, Row, TABLE};
-use crate::told::{Told, NONE};
 use crate::PATIENCE;
-use gadulnos::{Board, Frames, Kernel, Line, Marked, User, SHOWN_NUMBERS};
-use paper::call::Call;
-use paper::generate::Random;
-use paper::{KERNEL_WINDOW, LAST, PAGE, TEMPORARY, USER_WINDOW};
+use calls::{Call, KERNEL_WINDOW, LAST, PAGE, TEMPORARY, USER_WINDOW};
+use gadulnos::raw::{Frames, Kernel, Line, Marked, Parts, Told, User, NONE, SHOWN_NUMBERS};
+use trial::generate::Random;
 
 /// Bytes that stand around a part at an odd address.
 const AROUND: u8 = 0xA5;
@@ -230,7 +228,7 @@ fn model(words: &Lent, args: &[u64; ARGS]) -> Result<(Model, u64), String> {
     let [start_frame, total, levels, root, virt]: [u64; 5] =
         args[2..7].try_into().expect("five numbers");
     let frames = Frames { start_frame, total, allocated: 0, levels };
-    let board = Board { words, fields: frames.pack(), root, ..Board::lend(0) };
+    let board = Parts { words, fields: frames.pack(), root, ..Parts::lend(0) };
     Ok((Model::of(&board), virt))
 }
 
@@ -254,7 +252,7 @@ fn asked(words: &Lent, args: &[u64; ARGS], line: Line) -> Result<(), String> {
 /// That a call that gives frames back told what the model tells, and left what the model leaves. It is lent words,
 /// fields, bitmap and a list, and the root's number before the list.
 fn given(row: &Row, lent: &[(Arg, Lent)], args: &[u64; ARGS], told: Told) -> Result<(), String> {
-    let mut before = Board { root: args[5], ..Board::lend(0) };
+    let mut before = Parts { root: args[5], ..Parts::lend(0) };
     let mut left = before.clone();
     for (arg, part) in lent {
         let [old, new] = match part {

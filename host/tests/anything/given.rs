@@ -5,13 +5,13 @@ use crate::found::{self, Event};
 use crate::port::Port;
 use crate::report::{holds, Report};
 use crate::shot::Seen;
-use crate::told::Told;
-use gadulnos::{Board, Frames, Kernel, Marked, Region, Slot, User, LEVELS, MOST_LEVELS, SLOTS};
-use paper::call::Call;
-use paper::generate::Random;
-use paper::state::bit;
-use paper::{LAST, PAGE, TEMPORARY, USER_WINDOW};
+use calls::{Call, LAST, PAGE, TEMPORARY, USER_WINDOW};
+use gadulnos::raw::{
+    Frames, Kernel, Marked, Parts, Region, Slot, Told, User, LEVELS, MOST_LEVELS, SLOTS,
+};
 use std::collections::BTreeMap;
+use trial::generate::Random;
+use trial::state::bit;
 
 /// How often each event came, by the levels of the board.
 pub type Given = BTreeMap<(u64, Event), u64>;
@@ -25,7 +25,7 @@ const LEAST: u64 = 3;
 /// A board with frames to take and one marked page, which leads to a lent frame: by a leaf, by a HUGE entry below
 /// which `unmap_page` finds another leaf or none, or by a root that leads to itself. At times the temporary page is
 /// mapped.
-pub fn to_copy(random: &mut Random, board: &mut Board) {
+pub fn to_copy(random: &mut Random, board: &mut Parts) {
     free_half(board);
     let Frames { start_frame, total, levels, .. } = board.frames();
     let any = walked(random, &board.words, board.frames(), board.root);
@@ -63,7 +63,7 @@ pub fn to_copy(random: &mut Random, board: &mut Board) {
 
 /// A region in either list, some of whose pages have one frame, a free one, one off the board or none; at times two
 /// entries lead to their table, so that each page comes by twice.
-pub fn to_release(random: &mut Random, board: &mut Board) {
+pub fn to_release(random: &mut Random, board: &mut Parts) {
     let Frames { start_frame, total, .. } = board.frames();
     let any = walked(random, &board.words, board.frames(), board.root);
     let start = (any >> 21 << 21).min(LAST - (1 << 22));
@@ -88,7 +88,7 @@ pub fn to_release(random: &mut Random, board: &mut Board) {
 }
 
 /// The word of an address's entry on a level. Entries on the way that lead to no lent table are made to.
-fn led_to(random: &mut Random, board: &mut Board, virt: u64, to: u64) -> usize {
+fn led_to(random: &mut Random, board: &mut Parts, virt: u64, to: u64) -> usize {
     let Frames { start_frame, total, levels, .. } = board.frames();
     let place = |table: u64, level| (table * 512 + (virt >> (3 + 9 * level)) % 512) as usize;
     let mut table = board.root - start_frame;
@@ -104,21 +104,21 @@ fn led_to(random: &mut Random, board: &mut Board, virt: u64, to: u64) -> usize {
 }
 
 /// Frees the upper half of the frames, but for the root.
-fn free_half(board: &mut Board) {
+fn free_half(board: &mut Parts) {
     let mut record = board.frames();
     let root = (board.root - record.start_frame) as usize;
-    let mut bitmap = gadulnos::unpack_bitmap(&board.bits);
+    let mut bitmap = gadulnos::raw::unpack_bitmap(&board.bits);
     for i in (record.total as usize / 2..record.total as usize).filter(|i| *i != root) {
         bitmap[i / 64] &= !(1 << (i % 64));
     }
     record.allocated = (0..record.total as usize).filter(|i| bit(&bitmap, *i)).count() as u64;
-    *board.bits = gadulnos::pack_bitmap(&bitmap);
+    *board.bits = gadulnos::raw::pack_bitmap(&bitmap);
     board.fields = record.pack();
 }
 
 /// What holds of a call that was made.
 pub fn on_board(
-    before: &Board,
+    before: &Parts,
     port: &Port,
     call: &Call,
     told: Told,

@@ -35,8 +35,6 @@ mod report;
 mod rights;
 mod shot;
 mod table;
-#[path = "../shared/told.rs"]
-mod told;
 mod working;
 mod worst;
 

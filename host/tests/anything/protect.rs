@@ -7,11 +7,10 @@ use crate::port::Port;
 use crate::protected::{self, Asked, Event};
 use crate::report::{equal, holds, Report};
 use crate::shot::{Seen, Walk};
-use gadulnos::{Board, Line, User, LEVELS, MOST_LEVELS};
-use paper::call::Call;
-use paper::generate::Random;
-use paper::{LAST, PAGE};
+use calls::{Call, LAST, PAGE};
+use gadulnos::raw::{Line, Parts, User, LEVELS, MOST_LEVELS};
 use std::collections::BTreeMap;
+use trial::generate::Random;
 
 /// How often each event came, by the levels of the board.
 pub type Events = BTreeMap<(u64, Event), u64>;
@@ -39,7 +38,7 @@ pub fn listed(random: &mut Random, port: &Port) -> Option<Call> {
 /// again, and others that lead back.
 pub fn on_board(
     random: &mut Random,
-    before: &Board,
+    before: &Parts,
     port: &mut Port,
     (addr, size, prot): (u64, u64, i32),
     line: Line,
@@ -72,7 +71,7 @@ pub fn on_numbers(
     let (addr, size) = region.map_or((0, 0), |region| (region.start, region.size));
     let prot = (virt >> 20) as i32;
     let (words, user) = (&mut port.words, &mut port.user);
-    let line = gadulnos::mprotect(words, start, total, levels, root, user, addr, size, prot);
+    let line = gadulnos::raw::mprotect(words, start, total, levels, root, user, addr, size, prot);
     equal(line, model.play(&Call::Mprotect { addr, size, prot }).line)?;
     holds(words[..] == model.words[..], "the model's words")?;
     let wanted = model.user.as_ref().map(User::pack);

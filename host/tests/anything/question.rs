@@ -6,8 +6,8 @@ use crate::report::{equal, Report};
 use crate::rights::{often, Case};
 use crate::shot::Seen;
 use crate::working::address;
-use gadulnos::{Frames, LEVELS, MOST_LEVELS};
-use paper::generate::Random;
+use gadulnos::raw::{Frames, LEVELS, MOST_LEVELS};
+use trial::generate::Random;
 
 /// Each case comes at least so often, on boards of four levels and of five.
 const LEAST: u64 = 20;
@@ -34,7 +34,7 @@ pub fn ask(
     let Frames { start_frame, total, levels, .. } = frames;
     let root = model.root;
     let may = [false, true]
-        .map(|write| gadulnos::user_may(words, start_frame, total, levels, root, virt, write));
+        .map(|write| gadulnos::raw::user_may(words, start_frame, total, levels, root, virt, write));
     equal(may, model.user_may(virt))?;
     // Of a broken record nothing is read.
     let (_, working) = model.show_translate(virt);

@@ -11,14 +11,12 @@ use crate::question;
 use crate::report::{equal, holds};
 use crate::rights::Cases;
 use crate::table;
-use crate::told::Told;
 use crate::working::{self, Verdicts};
-use gadulnos::{Board, Frames, Kernel, Line, Marked, User, LEVELS, MOST_LEVELS};
-use paper::call::Call;
-use paper::generate::Random;
-use paper::minimise;
-use paper::{PAGE, USER_WINDOW};
+use calls::{Call, PAGE, USER_WINDOW};
+use gadulnos::raw::{Frames, Kernel, Line, Marked, Parts, Told, User, LEVELS, MOST_LEVELS};
 use std::collections::BTreeMap;
+use trial::generate::Random;
+use trial::minimise;
 
 /// What a run met with.
 #[derive(Default)]
@@ -93,7 +91,7 @@ impl Shot {
     }
 
     /// The levels of the board that it is made on, or makes.
-    fn levels(&self, board: &Board) -> u64 {
+    fn levels(&self, board: &Parts) -> u64 {
         match self {
             Shot::Call(_) | Shot::Show(_) | Shot::Search(_) => board.frames().levels,
             Shot::Init(..) | Shot::Start(_, _, None) => LEVELS,
@@ -280,7 +278,7 @@ fn ask(
 fn search(port: &Port, model: &Model, size: u64) -> Result<(Line, Line), String> {
     let old = u64::MAX;
     let mut compared = old;
-    let line = gadulnos::find_free_region(&port.user, size, &mut compared);
+    let line = gadulnos::raw::find_free_region(&port.user, size, &mut compared);
     let (wanted, counted) = model.find_free_region(size);
     equal(compared, counted.unwrap_or(old))?;
     Ok((line, wanted.map_or_else(Line::refused, Line::met)))
@@ -299,20 +297,20 @@ fn walk(port: &mut Port, mut model: Model, lent: Walk, seen: &mut Seen) -> Resul
     let known = if (LEVELS..=MOST_LEVELS).contains(&levels) { levels } else { 0 };
     *seen.walks.entry((known, line.number)).or_default() += 1;
     protect::on_numbers(port, &mut model, lent, seen)?;
-    let line = gadulnos::unmap_page(&mut port.words, start, total, levels, root, virt);
+    let line = gadulnos::raw::unmap_page(&mut port.words, start, total, levels, root, virt);
     equal(line, model.play(&Call::UnmapPage { virt }).line)?;
     holds(port.words[..] == model.words[..], "the model's words")
 }
 
 /// Whether each part has its length: the words may have any, and the bitmap has it by its type.
-fn has_lengths(board: &Board) -> bool {
+fn has_lengths(board: &Parts) -> bool {
     board.fields.len() == Frames::BYTES
         && board.kernel.len() == Kernel::BYTES
         && board.user.len() == User::BYTES
         && board.marked.len() == Marked::BYTES
 }
 
-fn same(port: &Port, board: &Board) -> bool {
+fn same(port: &Port, board: &Parts) -> bool {
     port.words[..] == board.words[..]
         && port.fields[..] == board.fields[..]
         && port.bits[..] == board.bits[..]
@@ -323,7 +321,7 @@ fn same(port: &Port, board: &Board) -> bool {
 }
 
 /// That each part is the model's; one that stands for no record has stayed.
-fn compare(port: &Port, before: &Board, model: &Model) -> Result<(), String> {
+fn compare(port: &Port, before: &Parts, model: &Model) -> Result<(), String> {
     model.compare(port)?;
     let stayed = [
         ("fields", model.frames.is_some() || port.fields[..] == before.fields[..]),

@@ -3,7 +3,7 @@
 
 use crate::report::{equal, holds, Report};
 use crate::shot::Seen;
-use gadulnos::Line;
+use gadulnos::raw::Line;
 use std::collections::{BTreeMap, BTreeSet};
 
 /// An argument as C sees it. A part is a pointer and a length, but for the bitmap.
@@ -199,12 +199,11 @@ const MOST_GAVE_UP: u64 = 1000;
 /// At least one call in so many walks five levels and is compared whole.
 const LEAST_ON_FIVE: u64 = 8;
 
-/// The functions behind the calls whose names differ: a tape's faults, and the three counts.
+/// The functions behind the calls whose names differ: a tape's faults.
 fn function_of(call: &str) -> String {
     let name = match call {
         "fault" => "handle_page_fault",
         "second_fault" => "handle_page_fault_second",
-        "counts" => "allocated_frames",
         name => name,
     };
     format!("gadulnos_{name}")

@@ -6,10 +6,10 @@ use crate::model::Model;
 use crate::port::{self, Port, Working};
 use crate::report::{equal, holds, Report};
 use crate::shot::Seen;
-use gadulnos::{Frames, Line, Verdict, LEVELS, MOST_LEVELS};
-use paper::generate::Random;
-use paper::{KERNEL_WINDOW, PAGE, USER_WINDOW};
+use calls::{KERNEL_WINDOW, PAGE, USER_WINDOW};
+use gadulnos::raw::{Frames, Line, Verdict, LEVELS, MOST_LEVELS};
 use std::collections::BTreeMap;
+use trial::generate::Random;
 
 /// How often each verdict came, by the levels of the walk and the entry's.
 pub type Verdicts = BTreeMap<(u64, u64, u64), u64>;
@@ -40,7 +40,7 @@ pub fn show(
     let (line, working) = port::show_translate(words, frames, root, virt);
     let (wanted, numbers) = model.show_translate(virt);
     equal(working, numbers)?;
-    equal(line, gadulnos::translate(words, start_frame, total, levels, root, virt))?;
+    equal(line, gadulnos::raw::translate(words, start_frame, total, levels, root, virt))?;
     count(&mut seen.verdicts, levels, &working);
     Ok((line, wanted))
 }

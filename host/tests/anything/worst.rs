@@ -6,10 +6,10 @@ use crate::guard::{self, Against};
 use crate::model::Model;
 use crate::port::{self, Port};
 use crate::report::{equal, holds, Report};
-use crate::told::{Tally, Told, NONE};
-use gadulnos::{Board, Kernel, Line, Region, User, LEVELS, MOST_LEVELS};
-use paper::call::Call;
-use paper::{LAST, PAGE};
+use calls::{Call, LAST, PAGE};
+use gadulnos::raw::{
+    Kernel, Line, Parts, Region, TallyNumbers, Told, User, LEVELS, MOST_LEVELS, NONE,
+};
 use std::time::Instant;
 
 /// The number of frames of a large board.
@@ -44,7 +44,7 @@ pub fn check(report: &mut Report) {
         words
     };
     // What is found where every page comes by, and from the kernel window up to the end, without the last page.
-    let boards: [(&str, Tables, [Tally; 2]); 6] = [
+    let boards: [(&str, Tables, [TallyNumbers; 2]); 6] = [
         ("no table", absent, [NONE, NONE]),
         ("one page", one, [[0, 1, 0], NONE]),
         ("every table outside", outside, [NONE, NONE]),
@@ -98,15 +98,15 @@ fn timed(report: &mut Report, levels: u64, name: &str, check: impl FnOnce() -> R
 }
 
 /// A fresh board of so many frames and levels.
-fn fresh(frames: u64, levels: u64) -> Result<Board, String> {
-    let mut board = Board::lend(frames as usize);
+fn fresh(frames: u64, levels: u64) -> Result<Parts, String> {
+    let mut board = Parts::lend(frames as usize);
     let (from, to) = (FIRST * PAGE, (FIRST + frames) * PAGE);
     equal(board.start_levels(from, to, levels), Line::met(0))?;
     Ok(board)
 }
 
 /// A board of few frames, a table of each level.
-fn small(levels: u64, tables: Tables) -> Result<Board, String> {
+fn small(levels: u64, tables: Tables) -> Result<Parts, String> {
     let mut board = fresh(8, levels)?;
     for i in 0..512 {
         for (table, word) in tables(levels, i).into_iter().enumerate() {
@@ -117,7 +117,7 @@ fn small(levels: u64, tables: Tables) -> Result<Board, String> {
 }
 
 /// vfree and munmap of a region from `start` up to the last page, each of which finds this.
-fn release(levels: u64, tables: Tables, start: u64, tally: Tally) -> Result<(), String> {
+fn release(levels: u64, tables: Tables, start: u64, tally: TallyNumbers) -> Result<(), String> {
     let mut board = small(levels, tables)?;
     let size = LAST - start;
     record(&mut board, start, size)?;
@@ -130,7 +130,7 @@ fn release(levels: u64, tables: Tables, start: u64, tally: Tally) -> Result<(), 
 }
 
 /// Makes a release, which is met and finds this, as can be read of the boards before and after it.
-fn found(board: &Board, against: Against, call: Call, tally: Tally) -> Result<Port, String> {
+fn found(board: &Parts, against: Against, call: Call, tally: TallyNumbers) -> Result<Port, String> {
     let mut port = port::guarded(board, against);
     let told = port::play(&mut port, &call);
     equal(told, Told::found(tally))?;
@@ -139,9 +139,9 @@ fn found(board: &Board, against: Against, call: Call, tally: Tally) -> Result<Po
 }
 
 /// Records one used vmalloc region and one mmap region.
-fn record(board: &mut Board, start: u64, size: u64) -> Result<(), String> {
+fn record(board: &mut Parts, start: u64, size: u64) -> Result<(), String> {
     let mut kernel = Kernel::unpack(&board.kernel).ok_or("no list")?;
-    kernel.slots[0] = gadulnos::Slot { start, size, used: true };
+    kernel.slots[0] = gadulnos::raw::Slot { start, size, used: true };
     board.kernel = kernel.pack();
     let mut user = User::unpack(&board.user).ok_or("no list")?;
     user.count = 1;
@@ -151,7 +151,7 @@ fn record(board: &mut Board, start: u64, size: u64) -> Result<(), String> {
 }
 
 /// The largest board, every frame of it a table full of present entries: what stands at an index of a frame.
-fn large(levels: u64, word: fn(u64, u64, u64) -> u64) -> Result<Board, String> {
+fn large(levels: u64, word: fn(u64, u64, u64) -> u64) -> Result<Parts, String> {
     let mut board = fresh(LARGE, levels)?;
     for frame in 0..LARGE {
         for i in 0..512 {
@@ -196,7 +196,7 @@ fn protections(
     report: &mut Report,
     levels: u64,
     name: &str,
-    board: Result<Board, String>,
+    board: Result<Parts, String>,
     regions: &[(u64, u64)],
 ) {
     guard::within(PATIENCE);
@@ -209,7 +209,7 @@ fn protections(
 }
 
 /// Takes WRITABLE away and gives it back. Words and list are the model's, which finds the entries level by level.
-fn protect(board: &Board, (start, size): (u64, u64), longest: &mut f64) -> Result<(), String> {
+fn protect(board: &Parts, (start, size): (u64, u64), longest: &mut f64) -> Result<(), String> {
     let mut port = port::guarded(board, Against::Behind);
     let mut user = User::unpack(&port.user).ok_or("no list")?;
     user.count = 1;

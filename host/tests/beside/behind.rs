@@ -8,9 +8,9 @@ use crate::port::{self, Port};
 use crate::protected::{self, Asked};
 use crate::rare;
 use crate::report::equal;
-use gadulnos::{Board, Line};
-use paper::call::Call;
-use paper::state::State;
+use calls::Call;
+use gadulnos::raw::{Line, Parts};
+use trial::state::State;
 
 /// Plays the mprotect and the calls that `next` draws behind it, all pushed on `calls`, the last being the one that
 /// differs. No call is passed over: the model knows what lies outside the domain.
@@ -66,7 +66,7 @@ fn one(port: &mut Port, model: &mut Model, call: &Call, seen: &mut Seen) -> Resu
 
 /// What holds of an mprotect apart from the model.
 fn mprotect(
-    before: &Board,
+    before: &Parts,
     port: &mut Port,
     asked: &Asked,
     line: Line,

@@ -4,12 +4,11 @@ use crate::churn::Churn;
 use crate::draw::Draw;
 use crate::guard::Against;
 use crate::spoil::Spoil;
-use paper::call::Call;
-use paper::domain::{self, Verdict};
-use paper::generate::{Generator, Parts, Profile, Random};
-use paper::state::{Region, Slot, State};
-use paper::{KERNEL_WINDOW, PAGE, TEMPORARY, USER_WINDOW};
+use calls::{Call, KERNEL_WINDOW, PAGE, TEMPORARY, USER_WINDOW};
 use rinux::oracle::Board;
+use trial::domain::{self, Verdict};
+use trial::generate::{Generator, Perturbed, Profile, Random};
+use trial::state::{Region, Slot, State};
 
 /// What a sequence runs on.
 #[derive(Clone, Copy, PartialEq, Eq)]
@@ -139,7 +138,7 @@ pub struct Setting {
     /// The frames' words before the start.
     pub words: Vec<u64>,
     /// What replaces the state that the start leaves: words and records.
-    pub near: Option<(Vec<u64>, Parts)>,
+    pub near: Option<(Vec<u64>, Perturbed)>,
     /// A seed for what the port's records hold before the start.
     pub rubbish: u64,
     pub against: Against,
@@ -244,8 +243,8 @@ fn play(generator: &mut Generator, board: &mut Board, calls: usize) {
 }
 
 /// The records of a state.
-fn parts_of(state: &State) -> Parts {
-    Parts {
+fn parts_of(state: &State) -> Perturbed {
+    Perturbed {
         words: Vec::new(),
         bitmap: state.bitmap,
         allocated: state.marked_frames(),
@@ -258,14 +257,14 @@ fn parts_of(state: &State) -> Parts {
 }
 
 /// A state near the one that some calls lead to.
-fn near(generator: &mut Generator, board: &mut Board, calls: usize) -> (Vec<u64>, Parts) {
+fn near(generator: &mut Generator, board: &mut Board, calls: usize) -> (Vec<u64>, Perturbed) {
     play(generator, board, calls);
     let parts = generator.perturb(&board.state());
     (board.words().to_vec(), parts)
 }
 
 /// Every frame marked but up to a dozen, never the root.
-fn few_free(random: &mut Random, board: &Board) -> (Vec<u64>, Parts) {
+fn few_free(random: &mut Random, board: &Board) -> (Vec<u64>, Perturbed) {
     let mut state = board.state();
     state.bitmap.fill(u64::MAX);
     for _ in 0..random.below(13) {
@@ -284,7 +283,7 @@ fn far(
     board: &mut Board,
     calls: &mut Vec<Call>,
     protects: bool,
-) -> (Vec<u64>, Parts) {
+) -> (Vec<u64>, Perturbed) {
     play(generator, board, 12);
     let mut parts = parts_of(&board.state());
     let start = parts.regions.first().map_or(parts.next_addr, |region| region.start);

@@ -2,12 +2,11 @@
 //! freed, and where few are left, regions and pages are released.
 
 use crate::rare::leaf;
-use paper::call::Call;
-use paper::domain;
-use paper::generate::{Generator, Profile, Random};
-use paper::state::State;
-use paper::PAGE;
+use calls::{Call, PAGE};
 use std::collections::BTreeSet;
+use trial::domain;
+use trial::generate::{Generator, Profile, Random};
+use trial::state::State;
 
 pub struct Churn {
     random: Random,

@@ -1,9 +1,8 @@
 //! Draws calls on the mapper and the frames that are drawn to addresses and frames that stand.
 
-use paper::call::Call;
-use paper::generate::Random;
-use paper::state::State;
-use paper::{KERNEL_WINDOW, LAST, PAGE, TEMPORARY, USER_WINDOW};
+use calls::{Call, KERNEL_WINDOW, LAST, PAGE, TEMPORARY, USER_WINDOW};
+use trial::generate::Random;
+use trial::state::State;
 
 /// Addresses at which something changes.
 const ADDRESSES: [u64; 10] = [

@@ -9,13 +9,11 @@ use crate::port::{self, Port};
 use crate::protected::{frame_of, Tables};
 use crate::rare::leaf;
 use crate::report::{equal, equal_at, holds};
-use crate::told::{Told, NONE};
-use gadulnos::{Bitmap, Board as Parts, Finding, Frames};
-use paper::call::Call;
-use paper::state::{bit, page_of, State};
-use paper::{PAGE, TEMPORARY};
+use calls::{Call, PAGE, TEMPORARY};
+use gadulnos::raw::{Bitmap, Finding, Frames, Parts, Told, NONE};
 use rinux::oracle::Board;
 use std::collections::BTreeSet;
+use trial::state::{bit, page_of, State};
 
 /// What is kept of both before the call.
 pub struct Before {

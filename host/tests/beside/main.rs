@@ -34,8 +34,6 @@ mod rights;
 mod seen;
 mod spoil;
 mod starts;
-#[path = "../shared/told.rs"]
-mod told;
 
 use boards::Kind;
 use options::Options;

@@ -7,15 +7,14 @@ use crate::port::{self, Port};
 use crate::rare::{self, leaf};
 use crate::report::{equal, holds, Checked};
 use crate::rights::Case;
-use crate::told::NONE;
-use gadulnos::{Line, LEVELS};
-use paper::call::Call;
-use paper::domain::{self, Reason, Verdict};
-use paper::generate::Random;
-use paper::minimise;
-use paper::state::State;
+use calls::Call;
+use gadulnos::raw::{Line, LEVELS, NONE};
 use rinux::oracle::Board;
 use std::collections::BTreeMap;
+use trial::domain::{self, Reason, Verdict};
+use trial::generate::Random;
+use trial::minimise;
+use trial::state::State;
 
 /// How often each answer to each call came, and other things worth seeing.
 pub type Seen = BTreeMap<String, u64>;

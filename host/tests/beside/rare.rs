@@ -1,8 +1,7 @@
 //! Names for calls that seldom come about, told from the state before them.
 
-use paper::call::Call;
-use paper::state::{page_of, State, SLOTS};
-use paper::{PAGE, TEMPORARY};
+use calls::{Call, PAGE, TEMPORARY};
+use trial::state::{page_of, State, SLOTS};
 
 const HUGE: u64 = 128;
 

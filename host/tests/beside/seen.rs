@@ -36,7 +36,7 @@ const ANSWERS: [(&str, &[Least]); 23] = [
     ("mark_allocated ", &[(0, 1100)]),
     ("is_allocated ", &[(0, 1100)]),
     ("is_vmalloc_addr ", &[(0, 600)]),
-    ("counts ", &[(0, 1200)]),
+    ("allocated_frames ", &[(0, 1200)]),
 ];
 
 /// Each event by its name and answer.

@@ -2,10 +2,9 @@
 //! the board or to a frame that another page has, so that releases find frames of every kind.
 
 use crate::rare::leaf;
-use paper::call::Call;
-use paper::generate::{Generator, Random};
-use paper::state::State;
-use paper::PAGE;
+use calls::{Call, PAGE};
+use trial::generate::{Generator, Random};
+use trial::state::State;
 
 pub struct Spoil {
     random: Random,

@@ -5,8 +5,8 @@ use crate::guard::Against;
 use crate::options::Options;
 use crate::port;
 use crate::report::{equal_at, Checked};
-use gadulnos::Line;
-use paper::PAGE;
+use calls::PAGE;
+use gadulnos::raw::Line;
 use rinux::oracle::{Board, Refused};
 
 pub fn check(options: &Options) -> Checked {
@@ -45,7 +45,7 @@ pub fn check(options: &Options) -> Checked {
     Ok(cases)
 }
 
-fn unchanged(port: &port::Port, before: &gadulnos::Board) -> Result<(), String> {
+fn unchanged(port: &port::Port, before: &gadulnos::raw::Parts) -> Result<(), String> {
     let parts = [&port.fields[..], &port.bits[..], &port.kernel, &port.user, &port.marked];
     let old = [&before.fields[..], &before.bits[..], &before.kernel, &before.user, &before.marked];
     let same = parts == old;

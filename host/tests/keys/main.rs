@@ -21,16 +21,11 @@ mod port;
 mod process;
 #[path = "../shared/report.rs"]
 mod report;
-#[path = "../shared/told.rs"]
-mod told;
 
-use gadulnos::{Board as Parts, Line, LEVELS};
+use calls::{tape, Call, Shape};
+use gadulnos::raw::{Line, Parts, LEVELS};
 use model::Model;
 use options::Options;
-use paper::call::{Call, Shape};
-use paper::domain::{self, Verdict};
-use paper::generate::{Generator, Profile, Random};
-use paper::{minimise, tape};
 use port::Port;
 use report::{equal, holds, Checked, Report};
 use rinux::oracle::Board;
@@ -38,6 +33,9 @@ use std::io::Write;
 use std::path::Path;
 use std::process::{Command, Stdio};
 use std::thread;
+use trial::domain::{self, Verdict};
+use trial::generate::{Generator, Profile, Random};
+use trial::minimise;
 
 const PROGRAM: &str = "target/bin/key";
 

@@ -2,9 +2,9 @@
 
 use crate::options::Options;
 use crate::report::{equal_at, Checked, Report};
-use paper::generate::Random;
 use rinux::frame::Frame;
 use rinux::paging::{HugePageSize, MemoryZone, PhysAddr, VirtAddr};
+use trial::generate::Random;
 
 pub fn check(report: &mut Report, options: &Options) {
     report.tell("addresses: is_aligned", is_aligned(options));
@@ -34,7 +34,7 @@ fn is_aligned(options: &Options) -> Checked {
             [0, 1, align, align.wrapping_add(1), align.wrapping_mul(3), multiple, random.word()]
         {
             let wanted = VirtAddr::new(addr).is_aligned(align);
-            equal_at((addr, align), gadulnos::is_aligned(addr, align), wanted)?;
+            equal_at((addr, align), gadulnos::raw::is_aligned(addr, align), wanted)?;
             equal_at((addr, align), PhysAddr::new(addr).is_aligned(align), wanted)?;
             cases += 1;
         }
@@ -46,8 +46,8 @@ fn pages(options: &Options) -> Checked {
     let numbers = numbers(&mut options.random(31), 20 * options.amount);
     for &virt in &numbers {
         let original = VirtAddr::new(virt);
-        equal_at(virt, gadulnos::page_offset(virt), original.page_offset())?;
-        equal_at(virt, gadulnos::page_number(virt), original.page_number())?;
+        equal_at(virt, gadulnos::raw::page_offset(virt), original.page_offset())?;
+        equal_at(virt, gadulnos::raw::page_number(virt), original.page_number())?;
     }
     Ok(2 * numbers.len() as u64)
 }
@@ -60,7 +60,7 @@ fn zones(options: &Options) -> Checked {
             MemoryZone::Normal => 1,
             MemoryZone::High => 2,
         };
-        equal_at(phys, gadulnos::zone(phys), wanted)?;
+        equal_at(phys, gadulnos::raw::zone(phys), wanted)?;
     }
     Ok(numbers.len() as u64)
 }
@@ -70,19 +70,19 @@ fn frames(options: &Options) -> Checked {
     let numbers = numbers(&mut options.random(33), 20 * options.amount);
     for &number in &numbers {
         let frame = Frame::containing_address(number);
-        equal_at(number, gadulnos::containing_address(number), frame.number())?;
-        equal_at(number, gadulnos::start_address(frame.number()), frame.start_address())?;
+        equal_at(number, gadulnos::raw::containing_address(number), frame.number())?;
+        equal_at(number, gadulnos::raw::start_address(frame.number()), frame.start_address())?;
         let any = Frame::containing_address(number << 12);
-        equal_at(number, gadulnos::start_address(any.number()), any.start_address())?;
-        equal_at(number, gadulnos::start_address(number), number.wrapping_mul(4096))?;
+        equal_at(number, gadulnos::raw::start_address(any.number()), any.start_address())?;
+        equal_at(number, gadulnos::raw::start_address(number), number.wrapping_mul(4096))?;
     }
     Ok(4 * numbers.len() as u64)
 }
 
 fn huge_sizes() -> Checked {
     for (gigabyte, original) in [(false, HugePageSize::Size2MB), (true, HugePageSize::Size1GB)] {
-        equal_at(gigabyte, gadulnos::huge_size(gigabyte), original.size())?;
-        equal_at(gigabyte, gadulnos::huge_alignment(gigabyte), original.alignment())?;
+        equal_at(gigabyte, gadulnos::raw::huge_size(gigabyte), original.size())?;
+        equal_at(gigabyte, gadulnos::raw::huge_alignment(gigabyte), original.alignment())?;
     }
     Ok(4)
 }

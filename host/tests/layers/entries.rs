@@ -3,11 +3,11 @@
 use crate::guard::{Against, GuardedArray};
 use crate::options::Options;
 use crate::report::{equal_at, Checked, Report};
-use gadulnos::Line;
-use paper::generate::Random;
-use paper::{KERNEL_WINDOW, LAST, TEMPORARY, USER_WINDOW};
+use calls::{KERNEL_WINDOW, LAST, TEMPORARY, USER_WINDOW};
+use gadulnos::raw::Line;
 use rinux::oracle::pure;
 use rinux::page_handler::PageFlags;
+use trial::generate::Random;
 
 const NO_ENTRY: Line = Line::refused(14);
 
@@ -34,7 +34,7 @@ fn set(options: &Options) -> Checked {
     for &phys in &words {
         for (writable, user) in [(false, false), (true, false), (false, true), (true, true)] {
             let at = (phys, writable, user);
-            let (set, huge) = (gadulnos::entry_set, gadulnos::entry_set_huge);
+            let (set, huge) = (gadulnos::raw::entry_set, gadulnos::raw::entry_set_huge);
             equal_at(at, set(phys, writable, user), pure::entry_word(phys, writable, user))?;
             equal_at(at, huge(phys, writable, user), pure::huge_entry_word(phys, writable, user))?;
         }
@@ -46,16 +46,16 @@ fn parts(options: &Options) -> Checked {
     let words = words(&mut options.random(11), 40 * options.amount);
     for &word in &words {
         let bits = [
-            gadulnos::entry_present(word),
-            gadulnos::entry_writable(word),
-            gadulnos::entry_user(word),
-            gadulnos::entry_huge(word),
+            gadulnos::raw::entry_present(word),
+            gadulnos::raw::entry_writable(word),
+            gadulnos::raw::entry_user(word),
+            gadulnos::raw::entry_huge(word),
         ];
-        equal_at(word, (bits, gadulnos::entry_addr(word)), pure::entry_parts(word))?;
+        equal_at(word, (bits, gadulnos::raw::entry_addr(word)), pure::entry_parts(word))?;
         let second = (
-            gadulnos::handler_present(word),
-            gadulnos::handler_addr(word),
-            gadulnos::handler_flags(word),
+            gadulnos::raw::handler_present(word),
+            gadulnos::raw::handler_addr(word),
+            gadulnos::raw::handler_flags(word),
         );
         equal_at(word, second, pure::second_entry_parts(word))?;
     }
@@ -84,7 +84,7 @@ fn choices() -> Checked {
     for number in 0..1024 {
         let flags = choice(number);
         let word = flags.to_bits();
-        let ours = gadulnos::flags_to_bits(
+        let ours = gadulnos::raw::flags_to_bits(
             flags.present,
             flags.writable,
             flags.user,
@@ -97,7 +97,7 @@ fn choices() -> Checked {
             flags.no_execute,
         );
         equal_at(number, ours, word)?;
-        equal_at(number, gadulnos::flags(word), word)?;
+        equal_at(number, gadulnos::raw::flags(word), word)?;
     }
     Ok(1024)
 }
@@ -105,7 +105,7 @@ fn choices() -> Checked {
 fn flags(options: &Options) -> Checked {
     let words = words(&mut options.random(12), 40 * options.amount);
     for &word in &words {
-        equal_at(word, gadulnos::flags(word), pure::page_flags(word))?;
+        equal_at(word, gadulnos::raw::flags(word), pure::page_flags(word))?;
     }
     Ok(words.len() as u64)
 }
@@ -122,7 +122,7 @@ fn second(options: &Options) -> Checked {
         pairs.extend(flags.map(|flags| (phys, flags)));
     }
     for &(phys, flags) in &pairs {
-        let ours = gadulnos::handler_entry(phys, flags);
+        let ours = gadulnos::raw::handler_entry(phys, flags);
         equal_at((phys, flags), ours, pure::second_entry_word(phys, flags))?;
     }
     Ok(pairs.len() as u64)
@@ -140,7 +140,7 @@ fn get_entry(options: &Options) -> Checked {
         let any = [random.word() as usize, random.below(1024) as usize];
         for index in (0..512).chain(far).chain(any) {
             let wanted = table.get(index).map_or(NO_ENTRY, |&word| Line::met(word));
-            equal_at(index, gadulnos::get_entry(table, index), wanted)?;
+            equal_at(index, gadulnos::raw::get_entry(table, index), wanted)?;
             equal_at(index, pure::get_entry(table, index), [table.get(index).copied(); 2])?;
             cases += 1;
         }
@@ -155,7 +155,7 @@ fn page_indices(options: &Options) -> Checked {
     addresses.extend(words(&mut options.random(15), 40 * options.amount));
     for &addr in &addresses {
         let mut out = [usize::MAX; 4];
-        gadulnos::page_indices(addr, &mut out);
+        gadulnos::raw::page_indices(addr, &mut out);
         equal_at(addr, out, pure::page_indices(addr))?;
     }
     Ok(addresses.len() as u64)

@@ -4,10 +4,8 @@ use crate::guard::{Against, Guarded};
 use crate::model::Model;
 use crate::port::{self, Port};
 use crate::report::{equal, equal_at};
-use crate::told::{Tally, Told};
-use gadulnos::{Board, Line};
-use paper::call::Call;
-use paper::PAGE;
+use calls::{Call, PAGE};
+use gadulnos::raw::{Line, Parts, TallyNumbers, Told};
 
 /// Where the boards' frames begin.
 pub const FROM: u64 = 0x10_0000;
@@ -25,7 +23,7 @@ pub struct Example {
 
 impl Example {
     pub fn fresh(levels: u64, frames: u64) -> Result<Example, String> {
-        let mut board = Board::lend(frames as usize);
+        let mut board = Parts::lend(frames as usize);
         let mut model = Model::of(&board);
         let to = FROM + frames * PAGE;
         equal(board.start_levels(FROM, to, levels), Line::met(0))?;
@@ -44,7 +42,7 @@ impl Example {
     }
 
     /// Plays a call that gives frames back, which is met and finds this of them.
-    pub fn finds(&mut self, call: Call, tally: Tally) -> Result<(), String> {
+    pub fn finds(&mut self, call: Call, tally: TallyNumbers) -> Result<(), String> {
         let told = self.one(&call)?;
         equal_at(call.to_string(), told, Told::found(tally))
     }
@@ -107,7 +105,7 @@ impl Example {
     /// Another packed frame record.
     pub fn lend_fields(&mut self, fields: &[u8]) {
         self.port.fields = Guarded::copy(fields, Against::Behind);
-        self.model.frames = gadulnos::Frames::unpack(fields);
+        self.model.frames = gadulnos::raw::Frames::unpack(fields);
     }
 }
 

@@ -3,9 +3,8 @@
 
 use crate::example::{anywhere, fixed, hint, huge, map, translate, Example, FRAMES, FROM};
 use crate::report::{equal, equal_at, holds, Check, Report};
-use gadulnos::{Kernel, Line, Region, Slot, User, LEVELS, MOST_LEVELS};
-use paper::call::Call;
-use paper::{KERNEL_WINDOW, PAGE, TEMPORARY, USER_WINDOW};
+use calls::{Call, KERNEL_WINDOW, PAGE, TEMPORARY, USER_WINDOW};
+use gadulnos::raw::{Kernel, Line, Region, Slot, User, LEVELS, MOST_LEVELS};
 
 pub fn check(report: &mut Report) {
     let checks: [Check; 12] = [
@@ -211,7 +210,8 @@ fn other_levels() -> Result<(), String> {
     let virt = KERNEL_WINDOW.0;
     let mut board = five()?;
     board.play(&[(Call::Vmalloc { size: 1 }, 0, virt), (translate(virt), 0, 0x10_1000)])?;
-    let lent = |levels| gadulnos::translate(&board.port.words, 0x100, FRAMES, levels, 0x100, virt);
+    let lent =
+        |levels| gadulnos::raw::translate(&board.port.words, 0x100, FRAMES, levels, 0x100, virt);
     equal_at(4, lent(4), Line::refused(14))?;
     equal_at(5, lent(5), Line::met(0x10_1000))
 }

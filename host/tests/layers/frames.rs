@@ -6,15 +6,15 @@ use crate::guard::Against;
 use crate::options::Options;
 use crate::port;
 use crate::report::{equal_at, holds, Checked, Report};
-use crate::told::{Tally, Told, NONE};
-use gadulnos::{Bitmap, Board, Finding, Frames, Line, LEVELS, MOST_LEVELS};
-use paper::call::Call;
-use paper::generate::Random;
-use paper::minimise;
-use paper::state::bit;
-use paper::PAGE;
+use calls::{Call, PAGE};
+use gadulnos::raw::{
+    Bitmap, Finding, Frames, Line, Parts, TallyNumbers, Told, LEVELS, MOST_LEVELS, NONE,
+};
 use rinux::frame::access;
 use rinux::frame::FrameAllocator;
+use trial::generate::Random;
+use trial::minimise;
+use trial::state::bit;
 
 /// Frames end at most at this number: addresses have 52 bits.
 const FRAMES_END: u64 = 1 << 40;
@@ -69,7 +69,7 @@ fn after_set(options: &Options) -> Checked {
 }
 
 /// That frames were found freed, free already and off the board as often as there are sequences.
-fn often(found: Tally, options: &Options) -> Result<(), String> {
+fn often(found: TallyNumbers, options: &Options) -> Result<(), String> {
     println!("  deallocate_frame: freed, already free, not on this board: {found:?}");
     let many = found.iter().all(|times| *times >= options.amount);
     holds(many, &format!("each {} times, not {found:?}", options.amount))
@@ -92,15 +92,15 @@ fn other_levels(options: &Options) -> Checked {
             cases += 1;
         }
         equal_at(levels, ours.frames(), frames)?;
-        equal_at(levels, gadulnos::unpack_bitmap(&ours.bits), bitmap)?;
+        equal_at(levels, gadulnos::raw::unpack_bitmap(&ours.bits), bitmap)?;
     }
     Ok(cases)
 }
 
 /// A record between guards.
 fn lent(frames: &Frames, bitmap: &Bitmap, against: Against) -> port::Port {
-    let (fields, bits) = (frames.pack(), Box::new(gadulnos::pack_bitmap(bitmap)));
-    port::guarded(&Board { fields, bits, ..Board::lend(0) }, against)
+    let (fields, bits) = (frames.pack(), Box::new(gadulnos::raw::pack_bitmap(bitmap)));
+    port::guarded(&Parts { fields, bits, ..Parts::lend(0) }, against)
 }
 
 /// The number of a board's first frame: low, above 2^47 / 4096, or as high as it goes.
@@ -116,7 +116,7 @@ fn sequence(
     first: u64,
     size: u64,
     start: &Start,
-    found: &mut Tally,
+    found: &mut TallyNumbers,
 ) -> Checked {
     let calls = draw_calls(random, first, size);
     let against = random.one_of(&[Against::Before, Against::Behind]);
@@ -161,7 +161,12 @@ fn draw_frame(random: &mut Random, first: u64, size: u64) -> u64 {
 }
 
 /// Plays calls on both, and compares answers, bitmap words and records after each.
-fn play(start: &Start, against: Against, calls: &[Call], found: &mut Tally) -> Result<(), String> {
+fn play(
+    start: &Start,
+    against: Against,
+    calls: &[Call],
+    found: &mut TallyNumbers,
+) -> Result<(), String> {
     let Start { bitmap, frames, init } = *start;
     let Frames { start_frame, total, allocated, mut levels } = frames;
     let mut rust = access::of(&access::Record { start_frame, total, allocated, bitmap });
@@ -220,7 +225,7 @@ fn compare(ours: &port::Port, rust: &FrameAllocator, levels: u64) -> Result<(), 
     let (start_frame, total, allocated) = (record.start_frame, record.total, record.allocated);
     let frames = Frames { start_frame, total, allocated, levels };
     equal_at("the record", ours.frames(), frames)?;
-    equal_at("the bitmap", gadulnos::unpack_bitmap(&ours.bits), record.bitmap)
+    equal_at("the bitmap", gadulnos::raw::unpack_bitmap(&ours.bits), record.bitmap)
 }
 
 /// Any marks, also past the board's frames, and how many of these they mark.

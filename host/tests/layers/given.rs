@@ -3,10 +3,10 @@
 
 use crate::example::{anywhere, fixed, map, translate, Example, FRAMES, FROM};
 use crate::report::{equal, holds, Report};
-use crate::told::NONE;
-use gadulnos::{Finding, Found, Frames, Kernel, Line, Region, Slot, User, LEVELS, MOST_LEVELS};
-use paper::call::Call;
-use paper::{KERNEL_WINDOW, LAST, PAGE, TEMPORARY, USER_WINDOW};
+use calls::{Call, KERNEL_WINDOW, LAST, PAGE, TEMPORARY, USER_WINDOW};
+use gadulnos::raw::{
+    Finding, Found, Frames, Kernel, Line, Region, Slot, User, LEVELS, MOST_LEVELS, NONE,
+};
 
 /// Where a fresh search of mmap finds room, and where vmalloc does.
 const START: u64 = USER_WINDOW.0;

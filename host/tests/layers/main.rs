@@ -33,8 +33,6 @@ mod report;
 mod rights;
 mod rounding;
 mod search;
-#[path = "../shared/told.rs"]
-mod told;
 mod walks;
 mod working;
 

@@ -4,9 +4,9 @@
 
 use crate::example::{Example, FROM};
 use crate::report::{equal, equal_at, holds, Checked, Report};
-use gadulnos::{Frames, Line, Region, User};
-use paper::call::Call;
-use paper::PAGE;
+use calls::text::{self, Setting};
+use calls::{Call, PAGE};
+use gadulnos::raw::{Frames, Region, User};
 use std::collections::BTreeSet;
 
 const PAPERS: [(&str, &str); 4] = [
@@ -53,14 +53,14 @@ struct Paper {
 
 impl Paper {
     fn start(line: &str) -> Result<Paper, String> {
-        let parts: Vec<&str> = line.split_whitespace().collect();
-        let (levels, frames, from) = match parts[..] {
-            ["board", levels, "levels,", frames, "frames", "from", from] => (levels, frames, from),
-            _ => return Err("no board".to_string()),
-        };
-        equal(number(from)?, FROM)?;
-        let board = Example::fresh(number(levels)?, number(frames)?)?;
-        Ok(Paper { board, told: BTreeSet::new(), regions: Vec::new() })
+        let paper = text::parse(line.as_bytes()).map_err(|mistakes| mistakes[0].to_string())?;
+        match paper.board {
+            Setting { frames: Some(frames), from: Some(FROM), levels: Some(levels) } => {
+                let board = Example::fresh(levels, frames)?;
+                Ok(Paper { board, told: BTreeSet::new(), regions: Vec::new() })
+            }
+            _ => Err("a board without frames, from and levels".to_string()),
+        }
     }
 
     /// A call and its key, a word or a region.
@@ -73,34 +73,12 @@ impl Paper {
                 self.region(Region { start, size, prot: signed(prot)?, flags: signed(flags)? })
             }
             [ref call @ .., "freed", freed, "already_free", free, "not_here", off] => {
-                let call = frame_call(call).or_else(|_| region_call(call))?;
-                self.board.finds(call, [number(freed)?, number(free)?, number(off)?])
+                self.board.finds(read(call)?, [number(freed)?, number(free)?, number(off)?])
             }
-            [ref call @ .., "=", value] => self.call(call, Line::met(number(value)?)),
-            [ref call @ .., "refused", why] => self.call(call, Line::refused(number(why)?)),
+            [ref call @ .., "=", value] => self.board.play(&[(read(call)?, 0, number(value)?)]),
+            [ref call @ .., "refused", why] => self.board.play(&[(read(call)?, number(why)?, 0)]),
             _ => Err("no key".to_string()),
         }
-    }
-
-    /// Makes a call on both, with this answer.
-    fn call(&mut self, call: &[&str], key: Line) -> Result<(), String> {
-        let call = match *call {
-            ["may_read", virt] => return self.may(number(virt)?, false, key),
-            ["may_write", virt] => return self.may(number(virt)?, true, key),
-            ["map_page", virt, phys, ref flags @ ..] => {
-                Call::MapPage { virt: number(virt)?, phys: number(phys)?, flags: bits(flags)? }
-            }
-            ["unmap_page", virt] => Call::UnmapPage { virt: number(virt)? },
-            ["translate", virt] => Call::Translate { addr: number(virt)? },
-            ["allocated_frames"] => Call::Counts,
-            _ => frame_call(call).or_else(|_| region_call(call))?,
-        };
-        self.board.play(&[(call, key.number, key.value)])
-    }
-
-    fn may(&mut self, virt: u64, write: bool, key: Line) -> Result<(), String> {
-        equal(self.board.port.user_may(virt, write), key)?;
-        equal(self.board.model.user_may(virt)[usize::from(write)], key)
     }
 
     /// That a word stands, as in `0x100[0]`.
@@ -136,54 +114,18 @@ impl Paper {
     }
 }
 
-/// A call on a frame, the kernel's regions or a page that faults.
-fn frame_call(call: &[&str]) -> Result<Call, String> {
-    Ok(match *call {
-        ["deallocate_frame", frame] => Call::DeallocateFrame { frame: number(frame)? },
-        ["vmalloc", size] => Call::Vmalloc { size: number(size)? },
-        ["vfree", addr] => Call::Vfree { addr: number(addr)? },
-        ["mark_cow", addr] => Call::MarkCow { addr: number(addr)? },
-        ["fault", addr, "code", code] => Call::Fault { addr: number(addr)?, code: number(code)? },
-        _ => return Err("no such call".to_string()),
-    })
-}
-
-/// A call on mmap's regions.
-fn region_call(call: &[&str]) -> Result<Call, String> {
-    Ok(match *call {
-        ["mmap", size, "prot", prot, "flags", flags] => {
-            let (prot, flags) = (signed(prot)?, signed(flags)?);
-            Call::Mmap { given: false, addr: 0, size: number(size)?, prot, flags }
-        }
-        ["mprotect", addr, size, "prot", prot] => {
-            Call::Mprotect { addr: number(addr)?, size: number(size)?, prot: signed(prot)? }
-        }
-        ["munmap", addr, size] => Call::Munmap { addr: number(addr)?, size: number(size)? },
-        _ => return Err("no such call".to_string()),
-    })
+fn read(call: &[&str]) -> Result<Call, String> {
+    text::parse_call(&call.join(" ")).map_err(|mistake| mistake.to_string())
 }
 
 fn number(text: &str) -> Result<u64, String> {
-    let digits = text.strip_prefix("0x");
-    let number = digits.map_or_else(|| text.parse(), |digits| u64::from_str_radix(digits, 16));
-    number.map_err(|_| format!("`{text}` is no number"))
+    text::number(text).ok_or_else(|| format!("`{text}` is no number"))
 }
 
-/// A signed number of 32 bits, in decimal or by its bits in hexadecimal.
+/// A signed number of 32 bits, by its bits.
 fn signed(text: &str) -> Result<i32, String> {
-    let bits = || u32::try_from(number(text)?).map_err(|_| format!("`{text}` is too large"));
-    text.parse().or_else(|_| bits().map(|bits| bits as i32))
-}
-
-/// The flags of a map call.
-fn bits(flags: &[&str]) -> Result<u8, String> {
-    match *flags {
-        [] => Ok(0),
-        ["writable"] => Ok(1),
-        ["user"] => Ok(2),
-        ["writable", "user"] => Ok(3),
-        _ => Err(format!("{flags:?} are no flags")),
-    }
+    let bits = u32::try_from(number(text)?).map_err(|_| format!("`{text}` is too large"))?;
+    Ok(bits as i32)
 }
 
 /// That a paper fails, and says where, if a line has another key or another first word, or tells a word or a region

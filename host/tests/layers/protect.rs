@@ -6,11 +6,10 @@ use crate::model::Model;
 use crate::options::Options;
 use crate::port::Port;
 use crate::report::{equal, equal_at, holds, Checked, Report};
-use gadulnos::{Board, Frames, Line, Region, User, LEVELS, MOST_LEVELS, SLOTS};
-use paper::call::Call;
-use paper::generate::Random;
-use paper::{LAST, PAGE, USER_WINDOW};
+use calls::{Call, LAST, PAGE, USER_WINDOW};
+use gadulnos::raw::{Frames, Line, Parts, Region, User, LEVELS, MOST_LEVELS, SLOTS};
 use std::collections::BTreeSet;
+use trial::generate::Random;
 
 const READ: i32 = 1;
 const WRITE: i32 = 2;
@@ -426,10 +425,10 @@ fn both_ways(random: &mut Random, cases: u64) -> Checked {
 }
 
 /// Random entries on few frames, so that tables loop and are shared.
-fn looped(random: &mut Random) -> Result<Board, String> {
+fn looped(random: &mut Random) -> Result<Parts, String> {
     let levels = random.one_of(&[LEVELS, MOST_LEVELS]);
     let total = 1 + random.below(6);
-    let mut board = Board::lend(total as usize);
+    let mut board = Parts::lend(total as usize);
     equal(board.start_levels(0x10_0000, 0x10_0000 + total * PAGE, levels), Line::met(0))?;
     let one_in = random.one_of(&[1, 1, 2, 4]);
     board.words.fill_with(|| match random.chance(1, one_in) {

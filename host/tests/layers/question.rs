@@ -5,7 +5,7 @@ use crate::reader::Tables;
 use crate::report::{equal_at, Checked, Report};
 use crate::rights::{often, Case, Cases};
 use crate::working::any_tables;
-use gadulnos::{Frames, LEVELS, MOST_LEVELS};
+use gadulnos::raw::{Frames, LEVELS, MOST_LEVELS};
 
 /// Each case comes at least so often, on boards of four levels and of five, in 400 sequences.
 const LEAST: u64 = 20;
@@ -35,7 +35,7 @@ fn random_words(options: &Options, cases: &mut Cases) -> Checked {
             for _ in 0..256 {
                 let virt = random.word();
                 let ask = |write| {
-                    gadulnos::user_may(&words, start_frame, total, levels, root, virt, write)
+                    gadulnos::raw::user_may(&words, start_frame, total, levels, root, virt, write)
                 };
                 let at = (start_frame, total, levels, root, virt);
                 equal_at(at, [false, true].map(ask), tables.user_may(virt))?;

@@ -3,7 +3,7 @@
 
 use crate::port::Working;
 use crate::report::{equal, equal_at, holds};
-use gadulnos::{Frames, Line};
+use gadulnos::raw::{Frames, Line};
 
 const PRESENT: u64 = 1;
 const WRITABLE: u64 = 2;
@@ -129,5 +129,5 @@ fn table_of(row: &[u64; 5]) -> u64 {
 /// That a call answered 10 and wrote zeros alone.
 pub fn is_broken(line: Line, working: &Working) -> Result<(), String> {
     equal(line, Line::refused(10))?;
-    equal(working, &[0; gadulnos::SHOWN_NUMBERS])
+    equal(working, &[0; gadulnos::raw::SHOWN_NUMBERS])
 }

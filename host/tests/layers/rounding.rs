@@ -2,12 +2,12 @@
 
 use crate::options::Options;
 use crate::report::{equal_at, Checked, Report};
-use gadulnos::Line;
-use paper::generate::Random;
-use paper::LAST;
+use calls::LAST;
+use gadulnos::raw::Line;
 use rinux::allocator::access;
 use rinux::oracle::pure;
 use rinux::paging::{PhysAddr, VirtAddr};
+use trial::generate::Random;
 
 const TOO_LARGE: Line = Line::refused(3);
 
@@ -42,8 +42,8 @@ fn pages(options: &Options) -> Checked {
             true => TOO_LARGE,
             false => Line::met(pure::align_up(size)?),
         };
-        equal_at(size, gadulnos::page_align_up(size), wanted)?;
-        equal_at(size, gadulnos::align_up(size, 4096), wanted)?;
+        equal_at(size, gadulnos::raw::page_align_up(size), wanted)?;
+        equal_at(size, gadulnos::raw::align_up(size, 4096), wanted)?;
     }
     Ok(sizes.len() as u64)
 }
@@ -58,7 +58,7 @@ fn powers(options: &Options) -> Checked {
             let (wide, step) = (u128::from(addr), u128::from(align));
             let multiple = (wide + step - 1) / step * step;
             let wanted = u64::try_from(multiple).map_or(TOO_LARGE, Line::met);
-            equal_at((addr, align), gadulnos::align_up(addr, align), wanted)?;
+            equal_at((addr, align), gadulnos::raw::align_up(addr, align), wanted)?;
             cases += 1;
         }
     }
@@ -93,21 +93,21 @@ fn both(addr: u64, align: u64) -> Result<(), String> {
     let at = (addr, align);
     let down = VirtAddr::new(addr).align_down(align).as_u64();
     equal_at(at, PhysAddr::new(addr).align_down(align).as_u64(), down)?;
-    equal_at(at, gadulnos::align_down(addr, align), down)?;
+    equal_at(at, gadulnos::raw::align_down(addr, align), down)?;
     if addr.checked_add(align - 1).is_none() {
-        return equal_at(at, gadulnos::align_up(addr, align), TOO_LARGE);
+        return equal_at(at, gadulnos::raw::align_up(addr, align), TOO_LARGE);
     }
     let up = access::align_up(addr as usize, align as usize) as u64;
     equal_at(at, VirtAddr::new(addr).align_up(align).as_u64(), up)?;
     equal_at(at, PhysAddr::new(addr).align_up(align).as_u64(), up)?;
-    equal_at(at, gadulnos::align_up(addr, align), Line::met(up))
+    equal_at(at, gadulnos::raw::align_up(addr, align), Line::met(up))
 }
 
 fn zero(options: &Options) -> Checked {
     let addresses = numbers(&mut options.random(4), 1000);
     for &addr in &addresses {
-        equal_at(addr, gadulnos::align_up(addr, 0), Line::met(addr))?;
-        equal_at(addr, gadulnos::align_down(addr, 0), addr)?;
+        equal_at(addr, gadulnos::raw::align_up(addr, 0), Line::met(addr))?;
+        equal_at(addr, gadulnos::raw::align_down(addr, 0), addr)?;
     }
     Ok(addresses.len() as u64)
 }

@@ -4,10 +4,10 @@
 use crate::guard::{Against, Guarded};
 use crate::options::Options;
 use crate::report::{equal, equal_at, holds, Checked, Report};
-use gadulnos::{Board, Line, Region, User, SLOTS};
-use paper::generate::Random;
-use paper::{LAST, PAGE, USER_WINDOW};
+use calls::{LAST, PAGE, USER_WINDOW};
+use gadulnos::raw::{Line, Parts, Region, User, SLOTS};
 use rinux::mmap::access;
+use trial::generate::Random;
 
 /// What the number of comparisons holds before a call.
 const OLD: u64 = 0xA5A5_A5A5_A5A5_A5A5;
@@ -43,7 +43,7 @@ fn row(n: usize) -> Vec<Region> {
 fn rows() -> Checked {
     for n in 0..=SLOTS {
         let user = packed(&row(n), USER_WINDOW.0).pack();
-        let (line, compared) = Board { user, ..Board::lend(0) }.find_free_region(PAGE);
+        let (line, compared) = Parts { user, ..Parts::lend(0) }.find_free_region(PAGE);
         let wanted = (Line::met(USER_WINDOW.0 + n as u64 * PAGE), n * (n + 3) / 2);
         equal_at(n, (line, compared as usize), wanted)?;
     }
@@ -64,7 +64,7 @@ fn packed(list: &[Region], next_addr: u64) -> User {
 fn on_bytes(bytes: &[u8], size: u64) -> (Line, u64) {
     let list = Guarded::copy(bytes, Against::Behind);
     let mut compared = Guarded::copy(&[OLD], Against::Behind);
-    let line = gadulnos::find_free_region(&list, size, &mut compared[0]);
+    let line = gadulnos::raw::find_free_region(&list, size, &mut compared[0]);
     (line, compared[0])
 }
 

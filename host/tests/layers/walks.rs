@@ -7,9 +7,9 @@ use crate::options::Options;
 use crate::port;
 use crate::reader::{self, Tables};
 use crate::report::{equal_at, holds, Checked, Report};
-use gadulnos::{Frames, Line, LEVELS, MOST_LEVELS};
-use paper::generate::Random;
-use paper::PAGE;
+use calls::PAGE;
+use gadulnos::raw::{Frames, Line, LEVELS, MOST_LEVELS};
+use trial::generate::Random;
 
 const WRITABLE: u64 = 2;
 const USER: u64 = 4;
@@ -67,7 +67,7 @@ impl Chain {
     /// A translation. Its working has the same answer, and rows that give it.
     fn translate(&self, virt: u64) -> Result<Line, String> {
         let Chain { words, start, total, levels, root, .. } = self;
-        let line = gadulnos::translate(words, *start, *total, *levels, *root, virt);
+        let line = gadulnos::raw::translate(words, *start, *total, *levels, *root, virt);
         let frames = Frames { start_frame: *start, total: *total, allocated: 0, levels: *levels };
         let (shown, working) = port::show_translate(words, frames, *root, virt);
         equal_at("the working's answer", shown, line)?;
@@ -80,15 +80,16 @@ impl Chain {
 
     fn user_may(&self, virt: u64) -> [Line; 2] {
         let Chain { words, start, total, levels, root, .. } = self;
-        [false, true]
-            .map(|write| gadulnos::user_may(words, *start, *total, *levels, *root, virt, write))
+        [false, true].map(|write| {
+            gadulnos::raw::user_may(words, *start, *total, *levels, *root, virt, write)
+        })
     }
 
     /// Unmaps a page, and tells whether that one entry was cleared and nothing else changed.
     fn unmap(&mut self, virt: u64) -> (Line, bool) {
         let mut wanted = self.words.to_vec();
         let Chain { words, start, total, levels, root, .. } = self;
-        let line = gadulnos::unmap_page(words, *start, *total, *levels, *root, virt);
+        let line = gadulnos::raw::unmap_page(words, *start, *total, *levels, *root, virt);
         if line.number == 0 {
             wanted[self.places[0]] = 0;
         }

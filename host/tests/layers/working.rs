@@ -7,12 +7,11 @@ use crate::options::Options;
 use crate::port;
 use crate::reader::{self, Tables};
 use crate::report::{equal, equal_at, holds, Check, Checked, Report};
-use gadulnos::Verdict::{self, Absent, Followed, LargePage, Last, Outside};
-use gadulnos::{Frames, Line, Row, Shown, LEVELS, MOST_LEVELS, SHOWN_NUMBERS};
-use paper::call::Call;
-use paper::generate::Random;
-use paper::KERNEL_WINDOW;
+use calls::{Call, KERNEL_WINDOW};
+use gadulnos::raw::Verdict::{self, Absent, Followed, LargePage, Last, Outside};
+use gadulnos::raw::{Frames, Line, Row, Shown, LEVELS, MOST_LEVELS, SHOWN_NUMBERS};
 use std::collections::BTreeSet;
+use trial::generate::Random;
 
 /// A row that is to come: level, table, index, word and verdict.
 type Wanted = (u64, u64, u64, u64, Verdict);
@@ -285,9 +284,10 @@ fn broken() -> Result<(), String> {
     let refused = |words: &[u64], frames: Frames, root: u64| {
         let (line, working) = port::show_translate(words, frames, root, 0x1000);
         let Frames { start_frame, total, levels, .. } = frames;
-        equal(line, gadulnos::translate(words, start_frame, total, levels, root, 0x1000))?;
+        equal(line, gadulnos::raw::translate(words, start_frame, total, levels, root, 0x1000))?;
         for write in [false, true] {
-            let may = gadulnos::user_may(words, start_frame, total, levels, root, 0x1000, write);
+            let may =
+                gadulnos::raw::user_may(words, start_frame, total, levels, root, 0x1000, write);
             equal(may, line)?;
         }
         reader::is_broken(line, &working).map_err(|why| format!("{frames:x?}, {root:x}: {why}"))
@@ -356,7 +356,8 @@ fn random_words(options: &Options) -> Checked {
                 let (line, working) = port::show_translate(&words, frames, root, virt);
                 let read = Tables { words: &words, frames, root }.read_again(virt, line, &working);
                 read.map_err(|why| format!("at {at:x?}: {why}"))?;
-                let wanted = gadulnos::translate(&words, start_frame, total, levels, root, virt);
+                let wanted =
+                    gadulnos::raw::translate(&words, start_frame, total, levels, root, virt);
                 equal_at(at, line, wanted)?;
                 let rows = reader::rows(&working)?;
                 seen.extend(rows.into_iter().map(|row| (levels, row[0], row[4])));

@@ -3,9 +3,9 @@
 use crate::checked::rinux::oracle::{Board, Call};
 use crate::checked::run::{board, fixed, hint, mmap};
 use crate::report::{equal, holds, Check, Report};
-use paper::domain::{read, Reason, Sequence, Verdict};
-use paper::state::{Region, State};
-use paper::{LAST, PAGE, TEMPORARY};
+use calls::{LAST, PAGE, TEMPORARY};
+use trial::domain::{read, Reason, Sequence, Verdict};
+use trial::state::{Region, State};
 
 const FIRST: u64 = 0x100;
 const USER: u64 = 0x1000_0000_0000;

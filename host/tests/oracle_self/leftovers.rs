@@ -7,7 +7,7 @@ use crate::report::{equal, holds, Check, Report};
 const FIRST: u64 = START / PAGE;
 const USER: u64 = 0x1000_0000_0000;
 const KERNEL: u64 = 0xFFFF_FFC0_0000_0000;
-const TEMPORARY: u64 = paper::TEMPORARY;
+const TEMPORARY: u64 = calls::TEMPORARY;
 
 pub fn check(report: &mut Report) {
     let checks: [Check; 9] = [

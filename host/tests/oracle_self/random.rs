@@ -5,12 +5,12 @@ use crate::checked::rinux::oracle::Board;
 use crate::guard;
 use crate::report::{holds, Report};
 use crate::wrapping::rinux::oracle::Board as WrappingBoard;
-use paper::answer::Outcome;
-use paper::call::Call;
-use paper::domain::{self, Verdict};
-use paper::generate::{Generator, Parts, Profile};
-use paper::state::{page_of, State};
+use calls::Call;
 use std::collections::BTreeMap;
+use trial::answer::Outcome;
+use trial::domain::{self, Verdict};
+use trial::generate::{Generator, Perturbed, Profile};
+use trial::state::{page_of, State};
 
 /// How often something was seen.
 type Seen = BTreeMap<String, usize>;
@@ -20,7 +20,7 @@ type Seen = BTreeMap<String, usize>;
 struct Played {
     memory: (u64, u64),
     words: Vec<u64>,
-    parts: Option<Parts>,
+    parts: Option<Perturbed>,
     calls: Vec<Call>,
     outcomes: Vec<Outcome>,
     digest: u64,

@@ -3,8 +3,8 @@
 use super::rinux::oracle::{Board, Call, Outcome};
 use crate::report::Report;
 
-pub const PAGE: u64 = paper::PAGE;
-pub const LAST: u64 = paper::LAST;
+pub const PAGE: u64 = calls::PAGE;
+pub const LAST: u64 = calls::LAST;
 pub const START: u64 = 0x10_0000;
 
 /// The name of this build.

@@ -1,10 +1,10 @@
 //! Tapes, sets of numbers, and the search for a short tape.
 
 use crate::report::{equal, holds, Report};
-use paper::answer::Numbers;
-use paper::call::{Call, Shape};
-use paper::generate::Random;
-use paper::{minimise, tape};
+use calls::{tape, Call, Shape};
+use trial::answer::Numbers;
+use trial::generate::Random;
+use trial::minimise;
 
 pub fn check(report: &mut Report) {
     report.check("tape: calls to bytes and back", calls_and_back());

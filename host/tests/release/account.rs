@@ -2,12 +2,10 @@
 //! book and the page tables that there must be. All of it from calls and answers alone.
 
 use crate::report::{equal, equal_at, holds};
-use crate::told::Told;
-use gadulnos::Line;
-use paper::call::Call;
-use paper::state::{Region, Slot, State, SLOTS};
-use paper::{KERNEL_WINDOW, PAGE, USER_WINDOW};
+use calls::{Call, KERNEL_WINDOW, PAGE, USER_WINDOW};
+use gadulnos::raw::{Line, Told};
 use std::collections::BTreeSet;
+use trial::state::{Region, Slot, State, SLOTS};
 
 const MAP_FIXED: i32 = 0x10;
 

@@ -3,11 +3,11 @@
 use crate::model::Model;
 use crate::port::{self, Port};
 use crate::report::{equal, holds};
-use crate::told::Told;
-use paper::call::Call;
-use paper::domain::{self, Reason, Verdict};
-use paper::state::State;
+use calls::Call;
+use gadulnos::raw::Told;
 use rinux::oracle::Board;
+use trial::domain::{self, Reason, Verdict};
+use trial::state::State;
 
 pub enum Beside {
     Rust(Board),

@@ -1,10 +1,9 @@
 //! Draws the calls of a list, with what stands and what once stood in view.
 
 use crate::account::{kernel, top, user, Account, Live};
-use paper::call::Call;
-use paper::generate::Random;
-use paper::state::{State, SLOTS};
-use paper::{KERNEL_WINDOW, LAST, PAGE, USER_WINDOW};
+use calls::{Call, KERNEL_WINDOW, LAST, PAGE, USER_WINDOW};
+use trial::generate::Random;
+use trial::state::{State, SLOTS};
 
 /// What a list is made for.
 #[derive(Clone, Copy, PartialEq, Eq, Debug)]

@@ -2,10 +2,10 @@
 
 use crate::account::{Account, Run};
 use crate::report::{equal_at, holds};
-use paper::generate::Random;
-use paper::state::{Slot, State};
-use paper::{KERNEL_WINDOW, LAST, PAGE, TEMPORARY, USER_WINDOW};
+use calls::{KERNEL_WINDOW, LAST, PAGE, TEMPORARY, USER_WINDOW};
 use std::collections::{BTreeMap, BTreeSet};
+use trial::generate::Random;
+use trial::state::{Slot, State};
 
 const PRESENT: u64 = 1;
 const HUGE: u64 = 128;

@@ -9,13 +9,12 @@ use crate::model::Model;
 use crate::port::{self, Port};
 use crate::report::{equal, holds};
 use crate::seen::Seen;
-use gadulnos::{Board as Parts, Line, LEVELS};
-use paper::call::Call;
-use paper::domain::Reason;
-use paper::generate::Random;
-use paper::state::{State, SLOTS};
-use paper::PAGE;
+use calls::{Call, PAGE};
+use gadulnos::raw::{Line, Parts, LEVELS};
 use rinux::oracle::Board;
+use trial::domain::Reason;
+use trial::generate::Random;
+use trial::state::{State, SLOTS};
 
 /// What both sides start from.
 pub struct Setting {

@@ -25,17 +25,15 @@ mod port;
 #[path = "../shared/report.rs"]
 mod report;
 mod seen;
-#[path = "../shared/told.rs"]
-mod told;
 
+use calls::Call;
 use draw::Kind;
-use gadulnos::{LEVELS, MOST_LEVELS};
+use gadulnos::raw::{LEVELS, MOST_LEVELS};
 use list::{Setting, Source};
 use options::Options;
-use paper::call::Call;
-use paper::minimise;
 use report::{Checked, Report};
 use seen::Seen;
+use trial::minimise;
 
 fn main() {
     let options = Options::read("release", "lists", 1000);

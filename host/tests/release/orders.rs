@@ -9,10 +9,9 @@ use crate::list::{Played, Setting};
 use crate::port;
 use crate::report::{equal, equal_at, holds};
 use crate::seen::Seen;
-use gadulnos::{Board as Parts, Line};
-use paper::call::Call;
-use paper::generate::Random;
-use paper::PAGE;
+use calls::{Call, PAGE};
+use gadulnos::raw::{Line, Parts};
+use trial::generate::Random;
 
 /// All orders are tried of at most so many regions.
 const FEW: usize = 4;

@@ -2,8 +2,7 @@
 
 use crate::account::{top, Account, Live};
 use crate::report::Report;
-use paper::call::Call;
-use paper::{LEVELS, PAGE};
+use calls::{Call, LEVELS, PAGE};
 use std::collections::BTreeMap;
 
 /// On boards of one number of levels.

@@ -6,13 +6,13 @@
 use crate::port::Port;
 use crate::protected::{frame_of, Tables};
 use crate::report::{equal, equal_at, holds};
-use crate::told::{Tally, Told, NONE};
-use gadulnos::{Bitmap, Board, Finding, Frames, Kernel, Line, Marked};
-use paper::call::Call;
-use paper::state::{bit, page_of};
-use paper::{PAGE, TEMPORARY};
+use calls::{Call, PAGE, TEMPORARY};
+use gadulnos::raw::{
+    Bitmap, Finding, Frames, Kernel, Line, Marked, Parts, TallyNumbers, Told, NONE,
+};
 use std::collections::{BTreeMap, BTreeSet};
 use std::fmt::{self, Display, Formatter};
+use trial::state::{bit, page_of};
 
 const PRESENT: u64 = 1;
 
@@ -133,7 +133,7 @@ impl Reading {
 
     /// That a release which found this led from one reading to the other: each page that was unmapped is an entry
     /// less, each frame that was freed a mark less.
-    pub fn releases(&self, after: &Reading, tally: Tally) -> Result<(), String> {
+    pub fn releases(&self, after: &Reading, tally: TallyNumbers) -> Result<(), String> {
         let [freed, already_free, not_here] = tally;
         let wanted = Reading {
             marked: self.marked.wrapping_sub(freed),
@@ -146,7 +146,7 @@ impl Reading {
 }
 
 /// That a call told what it found, and of others nothing. What was met with is handed back.
-pub fn check(before: &Board, port: &Port, call: &Call, told: Told) -> Result<Vec<Event>, String> {
+pub fn check(before: &Parts, port: &Port, call: &Call, told: Told) -> Result<Vec<Event>, String> {
     let number = told.line.number;
     if number != 0 {
         equal(told, Told::refused(number))?;
@@ -172,9 +172,9 @@ pub fn check(before: &Board, port: &Port, call: &Call, told: Told) -> Result<Vec
 }
 
 /// The value by the bitmap before and the range; the bitmap after, and the counter.
-fn deallocated(before: &Board, port: &Port, frame: u64, told: Told) -> Result<Vec<Event>, String> {
+fn deallocated(before: &Parts, port: &Port, frame: u64, told: Told) -> Result<Vec<Event>, String> {
     let mut frames = before.frames();
-    let mut bitmap = gadulnos::unpack_bitmap(&before.bits);
+    let mut bitmap = gadulnos::raw::unpack_bitmap(&before.bits);
     let index = frame.wrapping_sub(frames.start_frame);
     let finding = match index < frames.total {
         false => Finding::NotHere,
@@ -186,21 +186,22 @@ fn deallocated(before: &Board, port: &Port, frame: u64, told: Told) -> Result<Ve
         bitmap[index as usize / 64] &= !(1 << (index % 64));
         frames.allocated -= 1;
     }
-    equal(gadulnos::unpack_bitmap(&port.bits), bitmap)?;
+    equal(gadulnos::raw::unpack_bitmap(&port.bits), bitmap)?;
     equal(port.frames(), frames)?;
     Ok(vec![Event::Frame(finding)])
 }
 
 /// A release of so many pages: marks and entries counted, the words that were cleared, and page by page.
 fn released(
-    before: &Board,
+    before: &Parts,
     port: &Port,
     start: u64,
     pages: u64,
     told: Told,
 ) -> Result<Vec<Event>, String> {
-    let read =
-        |words: &[u64], frames, bits| Reading::of(words, frames, &gadulnos::unpack_bitmap(bits));
+    let read = |words: &[u64], frames, bits| {
+        Reading::of(words, frames, &gadulnos::raw::unpack_bitmap(bits))
+    };
     let old = read(&before.words, before.frames(), &before.bits);
     old.releases(&read(&port.words, port.frames(), &port.bits), told.tally)?;
     let mut events = cleared(before, port)?;
@@ -218,7 +219,7 @@ fn released(
 
 /// Every word that changed was an entry and is 0; the marks that are gone are those of the frames that these
 /// entries named.
-fn cleared(before: &Board, port: &Port) -> Result<Vec<Event>, String> {
+fn cleared(before: &Parts, port: &Port) -> Result<Vec<Event>, String> {
     let frames = before.frames();
     let mut named: BTreeMap<u64, u64> = BTreeMap::new();
     for (at, (old, new)) in before.words.iter().zip(port.words.iter()).enumerate() {
@@ -228,7 +229,7 @@ fn cleared(before: &Board, port: &Port) -> Result<Vec<Event>, String> {
             *named.entry(frame_of(*old)).or_default() += 1;
         }
     }
-    let mut bitmap = gadulnos::unpack_bitmap(&before.bits);
+    let mut bitmap = gadulnos::raw::unpack_bitmap(&before.bits);
     let mut twice = false;
     for (frame, times) in named {
         let index = frame.wrapping_sub(frames.start_frame);
@@ -237,18 +238,18 @@ fn cleared(before: &Board, port: &Port) -> Result<Vec<Event>, String> {
             twice |= times > 1;
         }
     }
-    equal(gadulnos::unpack_bitmap(&port.bits), bitmap)?;
+    equal(gadulnos::raw::unpack_bitmap(&port.bits), bitmap)?;
     Ok(twice.then_some(Event::Twice).into_iter().collect())
 }
 
 /// 'For each page': unmap_page, and of one that it finds deallocate_frame. These come to the same tally and leave
 /// the same words and marks.
 fn page_by_page(
-    before: &Board,
+    before: &Parts,
     port: &Port,
     start: u64,
     pages: u64,
-    tally: Tally,
+    tally: TallyNumbers,
 ) -> Result<Option<Event>, String> {
     let tables = Tables { frames: before.frames(), root: before.root };
     let mut board = before.clone();
@@ -269,14 +270,14 @@ fn page_by_page(
 }
 
 /// Counts what a deallocate_frame found.
-fn count(tally: &mut Tally, line: Line) -> Result<(), String> {
+fn count(tally: &mut TallyNumbers, line: Line) -> Result<(), String> {
     let finding = Finding::of(line.value).filter(|_| line.number == 0);
     tally[finding.ok_or(format!("deallocate_frame: {line:x?}"))? as usize] += 1;
     Ok(())
 }
 
 /// That words and frames are the same.
-fn same(board: &Board, port: &Port) -> Result<(), String> {
+fn same(board: &Parts, port: &Port) -> Result<(), String> {
     holds(board.words[..] == port.words[..], "the words that the steps leave")?;
     holds(board.bits[..] == port.bits[..], "the marks that the steps leave")?;
     equal(port.frames(), board.frames())
@@ -284,7 +285,7 @@ fn same(board: &Board, port: &Port) -> Result<(), String> {
 
 /// A copy, step by step.
 fn copied(
-    before: &Board,
+    before: &Parts,
     port: &Port,
     page: u64,
     user: bool,
@@ -308,7 +309,7 @@ fn copied(
 
 /// The steps of a copy, by calls of their own: its number, and what the one frame was found to be that the
 /// remapping gave back. What was unmapped of the temporary page is not counted.
-fn copy(board: &mut Board, page: u64, user: bool, tally: &mut Tally) -> Result<u64, String> {
+fn copy(board: &mut Parts, page: u64, user: bool, tally: &mut TallyNumbers) -> Result<u64, String> {
     let marked = Marked::unpack(&board.marked).ok_or("no list")?;
     let pages: BTreeSet<u64> = marked.pages[..marked.count as usize].iter().copied().collect();
     holds(pages.contains(&page), "a marked page")?;
@@ -341,7 +342,7 @@ fn copy(board: &mut Board, page: u64, user: bool, tally: &mut Tally) -> Result<u
 }
 
 /// The first word of the lent frame that holds a physical address.
-fn lent(board: &Board, phys: Line) -> Option<usize> {
+fn lent(board: &Parts, phys: Line) -> Option<usize> {
     let Frames { start_frame, total, .. } = board.frames();
     let index = (phys.value / PAGE).wrapping_sub(start_frame);
     (phys.number == 0 && index < total).then_some(index as usize * 512)

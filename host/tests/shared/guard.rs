@@ -4,7 +4,7 @@
 #![allow(dead_code)] // no program uses all of it
 
 use crate::report::{equal, Report};
-use paper::call::Call;
+use calls::Call;
 use std::ffi::c_void;
 use std::mem::size_of_val;
 use std::ops::{Deref, DerefMut};
@@ -200,7 +200,10 @@ fn ended(words: &[&str], message: &str) -> Result<(), String> {
     let output = Command::new(program).args(words).output();
     let output = output.map_err(|why| why.to_string())?;
     let text = String::from_utf8_lossy(&output.stdout).into_owned();
-    equal((output.status.code(), text), (Some(1), format!("{message}: a trial, at counts\n")))
+    equal(
+        (output.status.code(), text),
+        (Some(1), format!("{message}: a trial, at allocated_frames\n")),
+    )
 }
 
 /// If the program was started by `check`: reads a word beside three lent ones, or hangs, and does not

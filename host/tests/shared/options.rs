@@ -2,8 +2,8 @@
 
 #![allow(dead_code)] // no program uses all of it
 
-use paper::generate::Random;
 use std::{env, process};
+use trial::generate::Random;
 
 pub struct Options {
     pub seed: u64,

@@ -3,13 +3,12 @@
 #![allow(dead_code)] // no program uses all of it
 
 use crate::guard::{self, Against, Guarded, GuardedArray};
-use crate::told::Told;
-use gadulnos::{Board, Frames, Kernel, Line, Marked, User, BITMAP_BYTES, SHOWN_NUMBERS};
-use paper::call::{user, writable, Call};
-use paper::generate::Random;
-use paper::state::{Region, Slot, State, SLOTS};
+use calls::Call;
+use gadulnos::raw::{Frames, Kernel, Line, Marked, Parts, Told, User, BITMAP_BYTES, SHOWN_NUMBERS};
+use trial::generate::Random;
+use trial::state::{Region, Slot, State, SLOTS};
 
-pub type Port = Board<Guarded<u64>, Guarded<u8>, GuardedArray<u8, BITMAP_BYTES>>;
+pub type Port = Parts<Guarded<u64>, Guarded<u8>, GuardedArray<u8, BITMAP_BYTES>>;
 
 /// The numbers that a translation's working is.
 pub type Working = [u64; SHOWN_NUMBERS];
@@ -18,8 +17,8 @@ pub type Working = [u64; SHOWN_NUMBERS];
 const OLD: u64 = 0xA5A5_A5A5_A5A5_A5A5;
 
 /// A copy of lent parts between guards.
-pub fn guarded(board: &Board, against: Against) -> Port {
-    Board {
+pub fn guarded(board: &Parts, against: Against) -> Port {
+    Parts {
         words: Guarded::copy(&board.words, against),
         fields: Guarded::copy(&board.fields, against),
         bits: GuardedArray::copy(&board.bits, against),
@@ -31,8 +30,8 @@ pub fn guarded(board: &Board, against: Against) -> Port {
 }
 
 /// A copy of the parts without guards.
-pub fn unguarded(port: &Port) -> Board {
-    Board {
+pub fn unguarded(port: &Port) -> Parts {
+    Parts {
         words: port.words.to_vec(),
         fields: port.fields.to_vec(),
         bits: Box::new(*port.bits),
@@ -44,9 +43,9 @@ pub fn unguarded(port: &Port) -> Board {
 }
 
 /// Parts of the right lengths that hold anything, for these words; a start is to make them a board.
-pub fn rubbish(random: &mut Random, words: &[u64]) -> Board {
-    let mut board = Board { words: words.to_vec(), root: random.word(), ..Board::lend(0) };
-    let Board { fields, bits, kernel, user, marked, .. } = &mut board;
+pub fn rubbish(random: &mut Random, words: &[u64]) -> Parts {
+    let mut board = Parts { words: words.to_vec(), root: random.word(), ..Parts::lend(0) };
+    let Parts { fields, bits, kernel, user, marked, .. } = &mut board;
     for part in [&mut fields[..], &mut bits[..], kernel, user, marked] {
         part.fill_with(|| random.word() as u8);
     }
@@ -54,25 +53,25 @@ pub fn rubbish(random: &mut Random, words: &[u64]) -> Board {
 }
 
 /// The parts of a state, packed. Slots past a count are zero.
-pub fn packed(state: &State) -> Board {
-    let no_slot = gadulnos::Slot { start: 0, size: 0, used: false };
+pub fn packed(state: &State) -> Parts {
+    let no_slot = gadulnos::raw::Slot { start: 0, size: 0, used: false };
     let mut kernel = Kernel { count: state.vmalloc_count as u64, slots: [no_slot; SLOTS] };
     for (to, s) in kernel.slots.iter_mut().zip(state.vmalloc()) {
-        *to = gadulnos::Slot { start: s.start, size: s.size, used: s.used };
+        *to = gadulnos::raw::Slot { start: s.start, size: s.size, used: s.used };
     }
     let (count, next_addr) = (state.regions.len() as u64, state.next_addr);
-    let none = gadulnos::Region { start: 0, size: 0, prot: 0, flags: 0 };
+    let none = gadulnos::raw::Region { start: 0, size: 0, prot: 0, flags: 0 };
     let mut user = User { count, next_addr, slots: [none; SLOTS] };
     for (to, r) in user.slots.iter_mut().zip(&state.regions) {
-        *to = gadulnos::Region { start: r.start, size: r.size, prot: r.prot, flags: r.flags };
+        *to = gadulnos::raw::Region { start: r.start, size: r.size, prot: r.prot, flags: r.flags };
     }
     let mut marked = Marked { count: state.marked.len() as u64, pages: [0; SLOTS] };
     marked.pages.iter_mut().zip(&state.marked).for_each(|(to, page)| *to = *page);
     let State { start_frame, total, allocated, levels, root, .. } = *state;
-    Board {
+    Parts {
         words: state.words.to_vec(),
         fields: Frames { start_frame, total, allocated, levels }.pack(),
-        bits: Box::new(gadulnos::pack_bitmap(&state.bitmap)),
+        bits: Box::new(gadulnos::raw::pack_bitmap(&state.bitmap)),
         root,
         kernel: kernel.pack(),
         user: user.pack(),
@@ -80,36 +79,10 @@ pub fn packed(state: &State) -> Board {
     }
 }
 
-/// Makes a call. The bool of a question that nothing can refuse is its value.
+/// Makes a call, which the watchdog is told.
 pub fn play(port: &mut Port, call: &Call) -> Told {
     guard::calling(call);
-    let line = match *call {
-        Call::Vfree { addr } => return port.vfree(addr).into(),
-        Call::Munmap { addr, size } => return port.munmap(addr, size).into(),
-        Call::Fault { addr, code } => return port.handle_page_fault(addr, code).into(),
-        Call::Vmalloc { size } => port.vmalloc(size),
-        Call::Mmap { given, addr, size, prot, flags } => port.mmap(given, addr, size, prot, flags),
-        Call::Translate { addr } => port.translate(addr),
-        Call::SecondFault { addr, code } => port.handle_page_fault_second(addr, code),
-        Call::MapPage { virt, phys, flags } => {
-            port.map_page(virt, phys, writable(flags), user(flags))
-        }
-        Call::UnmapPage { virt } => port.unmap_page(virt),
-        Call::MapHugePage { virt, phys, gigabyte, flags } => {
-            port.map_huge_page(virt, phys, gigabyte, writable(flags), user(flags))
-        }
-        Call::MarkCow { addr } => port.mark_cow(addr),
-        Call::UnmarkCow { addr } => port.unmark_cow(addr),
-        Call::IsCow { addr } => port.is_cow(addr),
-        Call::AllocateFrame => port.allocate_frame(),
-        Call::DeallocateFrame { frame } => port.deallocate_frame(frame),
-        Call::MarkAllocated { frame } => port.mark_allocated(frame),
-        Call::IsAllocated { frame } => port.is_allocated(frame),
-        Call::IsVmallocAddr { addr } => Line::met(gadulnos::is_vmalloc_addr(addr).into()),
-        Call::Mprotect { addr, size, prot } => port.mprotect(addr, size, prot),
-        Call::Counts => port.allocated_frames(),
-    };
-    line.into()
+    port.play(call)
 }
 
 /// The three counts: free, allocated, total.
@@ -126,7 +99,8 @@ pub fn user_may(port: &Port, virt: u64) -> [Line; 2] {
 pub fn show_translate(words: &[u64], frames: Frames, root: u64, virt: u64) -> (Line, Working) {
     let Frames { start_frame, total, levels, .. } = frames;
     let mut out = GuardedArray::copy(&[OLD; SHOWN_NUMBERS], Against::Behind);
-    let line = gadulnos::show_translate(words, start_frame, total, levels, root, virt, &mut out);
+    let line =
+        gadulnos::raw::show_translate(words, start_frame, total, levels, root, virt, &mut out);
     (line, *out)
 }
 
@@ -143,7 +117,7 @@ pub fn state(port: &Port) -> Result<State<'_>, String> {
     let blank_slot =
         |i: usize| kernel.slots[i].start | kernel.slots[i].size == 0 && !kernel.slots[i].used;
     let blank_region = |i: usize| {
-        let gadulnos::Region { start, size, prot, flags } = user.slots[i];
+        let gadulnos::raw::Region { start, size, prot, flags } = user.slots[i];
         start | size == 0 && prot | flags == 0
     };
     if !past(kernel.count, &blank_slot) {
@@ -158,7 +132,7 @@ pub fn state(port: &Port) -> Result<State<'_>, String> {
         total: frames.total,
         allocated: frames.allocated,
         levels: frames.levels,
-        bitmap: gadulnos::unpack_bitmap(&port.bits),
+        bitmap: gadulnos::raw::unpack_bitmap(&port.bits),
         root: port.root,
         vmalloc_count: kernel.count as usize,
         slots: kernel.slots.map(|s| Slot { start: s.start, size: s.size, used: s.used }),

@@ -6,8 +6,8 @@
 use crate::guard::Against;
 use crate::port::{self, Port};
 use crate::report::{equal, equal_at, holds};
-use gadulnos::{Board, Frames, Line};
-use paper::PAGE;
+use calls::PAGE;
+use gadulnos::raw::{Frames, Line, Parts};
 use std::collections::BTreeSet;
 
 const PRESENT: u64 = 1;
@@ -96,14 +96,14 @@ impl Tables {
 
     fn translate(&self, words: &[u64], virt: u64) -> Line {
         let Frames { start_frame, total, levels, .. } = self.frames;
-        gadulnos::translate(words, start_frame, total, levels, self.root, virt)
+        gadulnos::raw::translate(words, start_frame, total, levels, self.root, virt)
     }
 
     /// Whether user code may read an address, and write it.
     fn may(&self, words: &[u64], virt: u64) -> [Line; 2] {
         let Frames { start_frame, total, levels, .. } = self.frames;
         [false, true].map(|write| {
-            gadulnos::user_may(words, start_frame, total, levels, self.root, virt, write)
+            gadulnos::raw::user_may(words, start_frame, total, levels, self.root, virt, write)
         })
     }
 }
@@ -116,7 +116,7 @@ pub fn frame_of(word: u64) -> u64 {
 /// of the words WRITABLE alone, in present entries, so that it follows PROT_WRITE on the region's pages that are
 /// found. What was met with is handed back.
 pub fn check(
-    before: &Board,
+    before: &Parts,
     port: &Port,
     asked: &Asked,
     line: Line,
@@ -141,7 +141,7 @@ pub fn check(
 }
 
 /// 'As munmap does, in munmap's order of checks': munmap answers the same, or 10 for what it is lent besides.
-fn as_munmap(before: &Board, asked: &Asked, line: Line) -> Result<(), String> {
+fn as_munmap(before: &Parts, asked: &Asked, line: Line) -> Result<(), String> {
     let mut trial = port::guarded(before, Against::Behind);
     let munmap = trial.munmap(asked.addr, asked.size).line();
     let same = munmap == line || munmap == Line::refused(10);
@@ -149,7 +149,7 @@ fn as_munmap(before: &Board, asked: &Asked, line: Line) -> Result<(), String> {
 }
 
 /// Of the list nothing has changed but the prot of the region.
-fn list(before: &Board, port: &Port, asked: &Asked) -> Result<(), String> {
+fn list(before: &Parts, port: &Port, asked: &Asked) -> Result<(), String> {
     let mut wanted = before.user.clone();
     let count = u64::from_le_bytes(wanted[..8].try_into().expect("eight bytes")) as usize;
     let mut slots = wanted[16..].chunks_mut(24).take(count);
@@ -159,7 +159,7 @@ fn list(before: &Board, port: &Port, asked: &Asked) -> Result<(), String> {
 }
 
 /// The words, one by one and page by page.
-fn words(before: &Board, port: &Port, asked: &Asked) -> Result<BTreeSet<Event>, String> {
+fn words(before: &Parts, port: &Port, asked: &Asked) -> Result<BTreeSet<Event>, String> {
     let (old, new) = (&before.words[..], &port.words[..]);
     equal(new.len(), old.len())?;
     let changed: BTreeSet<usize> = (0..old.len()).filter(|at| old[*at] != new[*at]).collect();

@@ -2,10 +2,9 @@
 
 use super::memory::{entry, Memory};
 use super::{Answer, Giving, Model, BROKEN};
-use crate::told::NONE;
-use gadulnos::SLOTS;
-use paper::state::page_of;
-use paper::{PAGE, TEMPORARY};
+use calls::{PAGE, TEMPORARY};
+use gadulnos::raw::{NONE, SLOTS};
+use trial::state::page_of;
 
 impl Model {
     /// The marked pages, if their list is sound.

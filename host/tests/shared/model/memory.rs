@@ -1,10 +1,9 @@
 //! Frames and page tables. Levels count from the bottom, 1 the last.
 
 use super::{is_levels, Answer};
-use crate::told::{Tally, NONE};
-use gadulnos::{Bitmap, Frames};
-use paper::state::is_multiple;
-use paper::PAGE;
+use calls::PAGE;
+use gadulnos::raw::{Bitmap, Frames, TallyNumbers, NONE};
+use trial::state::is_multiple;
 
 pub const PRESENT: u64 = 1;
 pub const WRITABLE: u64 = 2;
@@ -204,7 +203,7 @@ impl Memory<'_> {
 
     /// Unmaps pages and frees their frames, one after the other, passing over those that are not
     /// mapped: 'how many frames fell in each'. Nothing if it took too many steps.
-    pub fn release(&mut self, start: u64, pages: u64) -> Option<Tally> {
+    pub fn release(&mut self, start: u64, pages: u64) -> Option<TallyNumbers> {
         // Once all indices came round, no page is mapped: an absent entry stays absent.
         let pages = pages.min(1 << (9 * self.frames.levels));
         let (mut done, mut tally) = (0, NONE);

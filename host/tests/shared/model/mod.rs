@@ -11,20 +11,20 @@ mod protect;
 mod regions;
 mod working;
 
-use crate::told::{Tally, Told};
-use gadulnos::{Bitmap, Board, Frames, Kernel, Line, Marked, Marks, User, SLOTS};
+use calls::{user, writable, Call, KERNEL_WINDOW, LAST, PAGE, USER_WINDOW};
+use gadulnos::raw::{
+    Bitmap, Frames, Kernel, Line, Marked, Marks, Parts, TallyNumbers, Told, User, SLOTS,
+};
 use memory::Memory;
-use paper::call::{user, writable, Call};
-use paper::state::is_multiple;
-use paper::{KERNEL_WINDOW, LAST, PAGE, USER_WINDOW};
 use std::fmt::LowerHex;
 use std::ops::Deref;
+use trial::state::is_multiple;
 
 /// A value, or one of document 01's numbers.
 pub type Answer = Result<u64, u64>;
 
 /// What was found of the frames that a met call gave back, or one of document 01's numbers.
-pub type Giving = Result<Tally, u64>;
+pub type Giving = Result<TallyNumbers, u64>;
 
 const BROKEN: u64 = 10;
 
@@ -43,7 +43,7 @@ pub struct Model {
 }
 
 impl Model {
-    pub fn of<W, B, M>(board: &Board<W, B, M>) -> Model
+    pub fn of<W, B, M>(board: &Parts<W, B, M>) -> Model
     where
         W: Deref<Target = [u64]>,
         B: Deref<Target = [u8]>,
@@ -52,7 +52,7 @@ impl Model {
         Model {
             words: board.words.to_vec(),
             frames: Frames::unpack(&board.fields),
-            bitmap: gadulnos::unpack_bitmap(&board.bits),
+            bitmap: gadulnos::raw::unpack_bitmap(&board.bits),
             root: board.root,
             kernel: Kernel::unpack(&board.kernel),
             user: User::unpack(&board.user),
@@ -62,7 +62,7 @@ impl Model {
     }
 
     /// That a board has the model's parts. Of a part that stands for no record nothing is said.
-    pub fn compare<W, B, M>(&self, board: &Board<W, B, M>) -> Result<(), String>
+    pub fn compare<W, B, M>(&self, board: &Parts<W, B, M>) -> Result<(), String>
     where
         W: Deref<Target = [u64]>,
         B: Deref<Target = [u8]>,
@@ -70,7 +70,7 @@ impl Model {
     {
         let wanted = [
             self.frames.as_ref().map(Frames::pack),
-            Some(gadulnos::pack_bitmap(&self.bitmap).to_vec()),
+            Some(gadulnos::raw::pack_bitmap(&self.bitmap).to_vec()),
             self.kernel.as_ref().map(Kernel::pack),
             self.user.as_ref().map(User::pack),
             self.marked.as_ref().map(Marked::pack),
@@ -123,6 +123,14 @@ impl Model {
                 Ok((KERNEL_WINDOW.0..KERNEL_WINDOW.1).contains(&addr).into())
             }
             Call::Mprotect { addr, size, prot } => self.mprotect(addr, size, prot),
+            Call::UserMay { addr, write } => {
+                let line = self.user_may(addr)[usize::from(write)];
+                if line.number == 0 {
+                    Ok(line.value)
+                } else {
+                    Err(line.number)
+                }
+            }
             _ => self.on_frames(call),
         }
     }
@@ -194,7 +202,7 @@ impl Model {
         self.root = frames.start_frame;
         let (start, size) = (KERNEL_WINDOW.0, KERNEL_WINDOW.1 - KERNEL_WINDOW.0);
         let mut slots = [regions::NO_SLOT; SLOTS];
-        slots[0] = gadulnos::Slot { start, size, used: false };
+        slots[0] = gadulnos::raw::Slot { start, size, used: false };
         self.kernel = Some(Kernel { count: 1, slots });
         let slots = [regions::NO_REGION; SLOTS];
         self.user = Some(User { count: 0, next_addr: USER_WINDOW.0, slots });

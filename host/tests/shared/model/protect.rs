@@ -5,7 +5,7 @@
 use super::memory::Memory;
 use super::regions::{named, PROT_WRITE};
 use super::{Answer, Model, BROKEN};
-use paper::PAGE;
+use calls::PAGE;
 use std::collections::HashSet;
 
 /// Up to so many pages are taken one by one, as the slip says it.

@@ -2,9 +2,9 @@
 
 use super::memory::{entry, Memory};
 use super::{is_misplaced, Answer, Giving, Model, BROKEN};
-use gadulnos::{Kernel, Region, Slot, SLOTS};
-use paper::state::is_multiple;
-use paper::{LAST, PAGE, USER_WINDOW};
+use calls::{LAST, PAGE, USER_WINDOW};
+use gadulnos::raw::{Kernel, Region, Slot, SLOTS};
+use trial::state::is_multiple;
 
 pub const NO_SLOT: Slot = Slot { start: 0, size: 0, used: false };
 pub const NO_REGION: Region = Region { start: 0, size: 0, prot: 0, flags: 0 };

@@ -4,8 +4,8 @@
 
 use super::memory::Memory;
 use super::Model;
-use gadulnos::{Line, SHOWN_NUMBERS};
-use paper::call::Call;
+use calls::Call;
+use gadulnos::raw::{Line, SHOWN_NUMBERS};
 
 /// 'absent, outside, followed, large page .. or last'.
 const ABSENT: u64 = 0;

@@ -1,0 +1,215 @@
+//! A board's parts, and the calls on them.
+
+use super::*;
+use std::ops::DerefMut;
+
+/// All that the calls are lent. The parts may stand in vectors and a box or in memory of the host's own.
+#[derive(Clone, PartialEq, Eq)]
+pub struct Parts<W = Vec<u64>, B = Vec<u8>, M = Box<Marks>> {
+    /// Frame number n sits at word (n - start_frame) * 512.
+    pub words: W,
+    /// The frame record.
+    pub fields: B,
+    /// The bitmap.
+    pub bits: M,
+    /// The root's frame number.
+    pub root: u64,
+    /// The vmalloc list.
+    pub kernel: B,
+    /// The mmap list.
+    pub user: B,
+    /// The copy-on-write pages.
+    pub marked: B,
+}
+
+impl Parts {
+    /// Memory for a board of this many frames, all zero; `start` makes it one.
+    pub fn lend(frames: usize) -> Parts {
+        Parts {
+            words: vec![0; frames * 512],
+            fields: vec![0; Frames::BYTES],
+            bits: Box::new([0; BITMAP_BYTES]),
+            root: 0,
+            kernel: vec![0; Kernel::BYTES],
+            user: vec![0; User::BYTES],
+            marked: vec![0; Marked::BYTES],
+        }
+    }
+}
+
+/// Each call, lent the parts that it needs. The free function of the same name says what it answers.
+impl<W, B, M> Parts<W, B, M>
+where
+    W: DerefMut<Target = [u64]>,
+    B: DerefMut<Target = [u8]>,
+    M: DerefMut<Target = Marks>,
+{
+    /// [`start`](super::start), lent these parts.
+    pub fn start(&mut self, from: u64, to: u64) -> Line {
+        let Parts { words, fields, bits, root, kernel, user, marked } = self;
+        start(words, fields, bits, root, kernel, user, marked, from, to)
+    }
+
+    /// [`start_levels`](super::start_levels), lent these parts.
+    pub fn start_levels(&mut self, from: u64, to: u64, levels: u64) -> Line {
+        let Parts { words, fields, bits, root, kernel, user, marked } = self;
+        start_levels(words, fields, bits, root, kernel, user, marked, from, to, levels)
+    }
+
+    /// [`init`](super::init), lent these parts.
+    pub fn init(&mut self, from: u64, to: u64) -> Line {
+        init(&mut self.fields, &mut self.bits, from, to)
+    }
+
+    /// [`is_allocated`](super::is_allocated), lent these parts.
+    pub fn is_allocated(&self, frame: u64) -> Line {
+        is_allocated(&self.fields, &self.bits, frame)
+    }
+
+    /// [`mark_allocated`](super::mark_allocated), lent these parts.
+    pub fn mark_allocated(&mut self, frame: u64) -> Line {
+        mark_allocated(&mut self.fields, &mut self.bits, frame)
+    }
+
+    /// [`allocate_frame`](super::allocate_frame), lent these parts.
+    pub fn allocate_frame(&mut self) -> Line {
+        allocate_frame(&mut self.fields, &mut self.bits)
+    }
+
+    /// [`deallocate_frame`](super::deallocate_frame), lent these parts.
+    pub fn deallocate_frame(&mut self, frame: u64) -> Line {
+        deallocate_frame(&mut self.fields, &mut self.bits, frame)
+    }
+
+    /// [`free_frames`](super::free_frames), lent these parts.
+    pub fn free_frames(&self) -> Line {
+        free_frames(&self.fields, &self.bits)
+    }
+
+    /// [`allocated_frames`](super::allocated_frames), lent these parts.
+    pub fn allocated_frames(&self) -> Line {
+        allocated_frames(&self.fields, &self.bits)
+    }
+
+    /// [`total_frames`](super::total_frames), lent these parts.
+    pub fn total_frames(&self) -> Line {
+        total_frames(&self.fields, &self.bits)
+    }
+
+    /// The frame record; a part of another length counts as zeros.
+    pub fn frames(&self) -> Frames {
+        let none = Frames { start_frame: 0, total: 0, allocated: 0, levels: 0 };
+        Frames::unpack(&self.fields).unwrap_or(none)
+    }
+
+    /// [`translate`](super::translate), lent these parts.
+    pub fn translate(&self, virt: u64) -> Line {
+        let Frames { start_frame, total, levels, .. } = self.frames();
+        translate(&self.words, start_frame, total, levels, self.root, virt)
+    }
+
+    /// A translation and the entries that it read.
+    pub fn show_translate(&self, virt: u64) -> Shown {
+        let Frames { start_frame, total, levels, .. } = self.frames();
+        let mut out = [0; SHOWN_NUMBERS];
+        let (words, root) = (&self.words, self.root);
+        let answer = show_translate(words, start_frame, total, levels, root, virt, &mut out);
+        Shown::unpack(answer, &out).expect("a working in every call")
+    }
+
+    /// [`user_may`](super::user_may), lent these parts.
+    pub fn user_may(&self, virt: u64, write: bool) -> Line {
+        let Frames { start_frame, total, levels, .. } = self.frames();
+        user_may(&self.words, start_frame, total, levels, self.root, virt, write)
+    }
+
+    /// [`map_page`](super::map_page), lent these parts.
+    pub fn map_page(&mut self, virt: u64, phys: u64, writable: bool, user: bool) -> Line {
+        let Parts { words, fields, bits, root, .. } = self;
+        map_page(words, fields, bits, *root, virt, phys, writable, user)
+    }
+
+    /// [`map_huge_page`](super::map_huge_page), lent these parts.
+    pub fn map_huge_page(
+        &mut self,
+        virt: u64,
+        phys: u64,
+        gigabyte: bool,
+        writable: bool,
+        user: bool,
+    ) -> Line {
+        let Parts { words, fields, bits, root, .. } = self;
+        map_huge_page(words, fields, bits, *root, virt, phys, gigabyte, writable, user)
+    }
+
+    /// [`unmap_page`](super::unmap_page), lent these parts.
+    pub fn unmap_page(&mut self, virt: u64) -> Line {
+        let Frames { start_frame, total, levels, .. } = self.frames();
+        unmap_page(&mut self.words, start_frame, total, levels, self.root, virt)
+    }
+
+    /// [`vmalloc`](super::vmalloc), lent these parts.
+    pub fn vmalloc(&mut self, size: u64) -> Line {
+        let Parts { words, fields, bits, root, kernel, .. } = self;
+        vmalloc(words, fields, bits, *root, kernel, size)
+    }
+
+    /// [`vfree`](super::vfree), lent these parts.
+    pub fn vfree(&mut self, addr: u64) -> Found {
+        let Parts { words, fields, bits, root, kernel, .. } = self;
+        vfree(words, fields, bits, *root, kernel, addr)
+    }
+
+    /// `addr` counts if it is `given`.
+    pub fn mmap(&mut self, given: bool, addr: u64, size: u64, prot: i32, flags: i32) -> Line {
+        let Parts { words, fields, bits, root, user, .. } = self;
+        mmap(words, fields, bits, *root, user, given, addr, size, prot, flags)
+    }
+
+    /// [`munmap`](super::munmap), lent these parts.
+    pub fn munmap(&mut self, addr: u64, size: u64) -> Found {
+        let Parts { words, fields, bits, root, user, .. } = self;
+        munmap(words, fields, bits, *root, user, addr, size)
+    }
+
+    /// [`mprotect`](super::mprotect), lent these parts.
+    pub fn mprotect(&mut self, addr: u64, size: u64, prot: i32) -> Line {
+        let Frames { start_frame, total, levels, .. } = self.frames();
+        let Parts { words, root, user, .. } = self;
+        mprotect(words, start_frame, total, levels, *root, user, addr, size, prot)
+    }
+
+    /// mmap's search by itself, and how many regions it compared, none of a broken list.
+    pub fn find_free_region(&self, size: u64) -> (Line, u64) {
+        let mut compared = 0;
+        let line = find_free_region(&self.user, size, &mut compared);
+        (line, compared)
+    }
+
+    /// [`mark_cow`](super::mark_cow), lent these parts.
+    pub fn mark_cow(&mut self, addr: u64) -> Line {
+        mark_cow(&mut self.marked, addr)
+    }
+
+    /// [`unmark_cow`](super::unmark_cow), lent these parts.
+    pub fn unmark_cow(&mut self, addr: u64) -> Line {
+        unmark_cow(&mut self.marked, addr)
+    }
+
+    /// [`is_cow`](super::is_cow), lent these parts.
+    pub fn is_cow(&self, addr: u64) -> Line {
+        is_cow(&self.marked, addr)
+    }
+
+    /// [`handle_page_fault`](super::handle_page_fault), lent these parts.
+    pub fn handle_page_fault(&mut self, addr: u64, code: u64) -> Found {
+        let Parts { words, fields, bits, root, marked, .. } = self;
+        handle_page_fault(words, fields, bits, *root, marked, addr, code)
+    }
+
+    /// [`handle_page_fault_second`](super::handle_page_fault_second), lent these parts.
+    pub fn handle_page_fault_second(&mut self, addr: u64, code: u64) -> Line {
+        let Parts { words, fields, bits, root, .. } = self;
+        handle_page_fault_second(words, fields, bits, *root, addr, code)
+    }
+}

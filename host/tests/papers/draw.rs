@@ -1,0 +1,73 @@
+//! Random calls, tapes and texts.
+
+use crate::guard::Against;
+use crate::port;
+use calls::{tape, Call, Random, Shape};
+use gadulnos::raw::Parts;
+use gadulnos::{Board, Levels, PhysAddr};
+use trial::generate::{Generator, Profile};
+
+/// Document 01's board.
+pub fn fresh() -> Result<Board, String> {
+    let (from, to) = (PhysAddr::new(0x10_0000), PhysAddr::new(0x11_0000));
+    Board::start(from, to, Levels::Four).map_err(|why| why.to_string())
+}
+
+/// A call of a kind with any fields.
+pub fn any_call(random: &mut Random, kind: u8) -> Call {
+    let fields = Shape::of(kind).map_or(&[][..], |shape| shape.fields);
+    let values: Vec<u64> = fields
+        .iter()
+        .map(|&(name, width)| match name {
+            "given" | "gigabyte" | "write" => random.below(2),
+            _ => random.word() >> (64 - 8 * width) >> random.below(8 * width as u64),
+        })
+        .collect();
+    Call::from_fields(kind, &values).expect("fields of the right widths make a call")
+}
+
+/// Calls of kinds 1 to `kinds`, most of them drawn to what stands on document 01's board.
+pub fn some_calls(random: &mut Random, count: u64, kinds: u8) -> Result<Vec<Call>, String> {
+    let profile = random.one_of(&[Profile::Release, Profile::Faults, Profile::Everything]);
+    let mut generator = Generator::new(random.word(), profile);
+    let parts: Parts = fresh()?.into_parts();
+    let mut board = port::guarded(&parts, Against::Behind);
+    let mut calls = Vec::new();
+    while (calls.len() as u64) < count {
+        let kind = 1 + random.below(kinds.into()) as u8;
+        let call = match random.chance(1, 5) {
+            true => any_call(random, kind),
+            false => generator.next(&port::state(&board)?),
+        };
+        if call.kind() <= kinds {
+            port::play(&mut board, &call);
+            calls.push(call);
+        }
+    }
+    Ok(calls)
+}
+
+/// A tape of such calls; one in three is malformed at its end or in its midst.
+pub fn some_tape(random: &mut Random, most: u64, kinds: u8) -> Result<Vec<u8>, String> {
+    let count = random.below(most);
+    let mut bytes = tape::serialise(&some_calls(random, count, kinds)?);
+    let at = random.below(bytes.len() as u64 + 1) as usize;
+    match random.below(9) {
+        0 => bytes.truncate(at),
+        1 => bytes.insert(at, random.word() as u8),
+        2 => bytes.extend((0..random.below(40)).map(|_| random.word() as u8)),
+        _ => {}
+    }
+    Ok(bytes)
+}
+
+/// Bytes, small ones at times, so that kinds are known ones.
+pub fn any_bytes(random: &mut Random, most: u64) -> Vec<u8> {
+    let end = random.one_of(&[2, 7, 7, 22, 128, 256]);
+    (0..random.below(most)).map(|_| random.below(end) as u8).collect()
+}
+
+/// One of some texts.
+pub fn pick<'a>(random: &mut Random, of: &[&'a str]) -> &'a str {
+    of.get(random.below(of.len() as u64) as usize).copied().unwrap_or_default()
+}
