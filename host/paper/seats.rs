@@ -55,7 +55,11 @@ const CHOICES: &[Choice] = &[
     Choice { name: "seats", value: "N", about: "how many seats there are" },
     Choice { name: "seed", value: "S", about: "a number that decides the orders (1)" },
     Choice { name: "out", value: "DIR", about: "the folder to write, made if it is missing" },
-    Choice { name: "force", value: "", about: "the folder may have files of an earlier run" },
+    Choice {
+        name: "force",
+        value: "",
+        about: "files of an earlier run in the folder are replaced",
+    },
     Choice {
         name: "only",
         value: "text|tape|key",
@@ -64,7 +68,7 @@ const CHOICES: &[Choice] = &[
     Choice {
         name: "odd-sizes",
         value: "",
-        about: "a munmap names any size that rounds to its own",
+        about: "a munmap names any size that rounds to its region's",
     },
     Choice {
         name: "beyond-the-theorem",
@@ -111,7 +115,7 @@ fn run(options: &Options, console: &mut Console) -> Result<Status, Trouble> {
         let sheet = Sheet::of(&source.paper, kinds(options));
         let key = sheet::key(&source.paper, &start.answers, &orders, &one);
         folder.write("key.txt", key.as_bytes())?;
-        folder.write("orders.csv", sheet::orders(&orders, seats).as_bytes())?;
+        folder.write_by("orders.csv", |out| sheet::orders(&orders, seats, out))?;
         fill(&folder, seats, &orders, &sheet, wanted, console)?;
         folder.finish()?;
         writeln!(console.output(), "{}", filled(name, seats, &sheet, wanted))?;
@@ -177,7 +181,7 @@ fn admit(
     }
     if options.has("beyond-the-theorem") {
         lines.push("beyond the theorem: equal ends are tried, not proved".to_string());
-        writeln!(console.errors(), "paper: {}", lines.join("\npaper: "))?;
+        console.note(&lines.join("\npaper: "))?;
         return Ok(false);
     }
     lines.push(
@@ -232,7 +236,7 @@ fn tell(seats: u64, orders: &Orders, one: &OneKey, console: &mut Console) -> Res
 }
 
 /// So many of something.
-fn counted(count: u64, what: &str) -> String {
+pub fn counted(count: u64, what: &str) -> String {
     format!("{count} {what}{}", if count == 1 { "" } else { "s" })
 }
 

@@ -35,7 +35,7 @@ pub const SHOW: Verb = Verb {
     about: "shows the board: as text, JSON, a picture of the tables, or a page to step through",
     more: MORE,
     choices: &[CHOICES, OUT, PAPER, BOARD],
-    example: "paper show examples/user-page.txt --after each",
+    example: "paper show examples/release.txt --after each\npaper show examples/release.txt --as html --out page.html",
     run,
 };
 
@@ -48,6 +48,9 @@ const CHOICES: &[Choice] = &[
     Choice { name: "as", value: "text|json|svg|html", about: "the form (text)" },
 ];
 
+/// How many bytes of what stands behind the calls of a malformed tape are shown.
+const MOST_BYTES: usize = 16;
+
 const MORE: &str = "\
 Shown are the frames with what each holds, both region lists, next_addr, the copy-on-write pages
 and the words of the tables that are not 0, by level. A page's words are no table: of them only
@@ -56,26 +59,40 @@ their number is told. Rows that are alike stand in one, with their number in bra
 text  With --after each: the fresh board, then of each call what changed (+ added, ~ changed,
       - gone), and at the end the whole board.
 json  One object, or with --after each an array with one step a line. Numbers of 64 bits are
-      strings such as \"0x1000\", since JavaScript loses bits above 2^53. Keys: call, calls, text,
-      line, number, value, found, words, walk, malformed_at, board; of the board: levels,
-      first_frame, total_frames, allocated_frames, root, frames, kernel_regions, user_regions,
-      next_addr, marked_pages, tables.
+      strings such as \"0x1000\", since JavaScript loses bits above 2^53. The keys:
+        call, calls, text, line, number, value, words, malformed_at, of the start mostly null
+        found           null or freed, already_free, not_here
+        walk            null or a list of level, table, index, word, verdict
+        board           levels, first_frame, total_frames, allocated_frames, root, next_addr, and
+        frames          a list of frame, marked, words_not_0, and holds: a list of kind, and of a
+                        table level, path, of a page or part_of_large_page addr, flags
+        kernel_regions  a list of start, size, used
+        user_regions    a list of start, size, prot, flags, prot_words, flags_words
+        marked_pages    a list of addresses
+        tables          a list of frame, level, path, and entries: a list of index, word, flags,
+                        and leads_to: null or kind (table, page, large_page or outside), frame,
+                        addr, user_reads, user_writes
 svg   The tree of tables after one call, to print.
 html  A page without anything beside it, for all calls: arrow keys, j and k, Home and End step,
       and #N behind its name begins at call N. --after says which call is shown at first.
 
 Where a tape is malformed, the calls before that place are shown, and the status is 2.";
 
-/// The paper being shown.
-struct Show<'a> {
-    source: &'a Source,
-    steps: Steps<'a>,
-    start: Step,
-    /// Where the tape is malformed.
-    malformed: Option<u64>,
+/// The form of what is shown.
+#[derive(Clone, Copy, PartialEq, Eq)]
+enum Form {
+    Text,
+    Json,
+    Svg,
+    Html,
 }
 
-/// After which calls.
+/// The forms by their names.
+const FORMS: [(&str, Form); 4] =
+    [("text", Form::Text), ("json", Form::Json), ("svg", Form::Svg), ("html", Form::Html)];
+
+/// After which calls a board is shown.
+#[derive(Clone, Copy, PartialEq, Eq)]
 enum After {
     Each,
     End,
@@ -83,40 +100,44 @@ enum After {
 }
 
 fn run(options: &Options, console: &mut Console) -> Result<Status, Trouble> {
-    let form = options.value("as").unwrap_or("text");
-    let after = after(options)?;
-    if !["text", "json", "svg", "html"].contains(&form) {
-        return Err(usage(&format!("--as needs text, json, svg or html, and not `{form}`")));
-    }
-    if let ("svg", After::Each) = (form, &after) {
+    let (form, after) = (form(options)?, after(options)?);
+    if (form, after) == (Form::Svg, After::Each) {
         return Err(usage("--as svg shows one board: --after end, or the number of a call"));
     }
     let source = Source::read(options.word(0), options, console)?;
-    let last = source.paper.calls.len();
-    let after = match after {
-        After::Each => None,
-        After::End => Some(last),
-        After::Call(number) => Some(within(number, last)?),
-    };
+    let number = number(after, source.paper.calls.len())?;
     let (steps, start) = Steps::start(&source.paper)?;
-    let malformed = (!source.paper.rest.is_empty()).then(|| source::offset(&source.paper));
-    let mut show = Show { source: &source, steps, start, malformed };
-    let page =
-        if form == "html" { show.page(after.unwrap_or_default(), console) } else { String::new() };
+    let mut show = Show { source: &source, steps, start };
+    let page = match form {
+        Form::Html => show.page(number.unwrap_or_default(), console),
+        _ => String::new(),
+    };
     let width = console.width;
-    let mut make = |out: &mut dyn Write| match form {
-        "html" => out.write_all(page.as_bytes()),
-        _ => show.write(form, after, width, out),
+    let mut write = |out: &mut dyn Write| match (form, number) {
+        (Form::Html, _) => out.write_all(page.as_bytes()),
+        (Form::Svg, _) => show.svg(number.unwrap_or_default(), out),
+        (Form::Json, Some(number)) => show.json(number, out),
+        (Form::Json, None) => show.json_of_each(out),
+        (Form::Text, Some(number)) => show.text(number, &mut Sheet { out, width }),
+        (Form::Text, None) => show.text_of_each(&mut Sheet { out, width }),
     };
     match output::name(options) {
-        None => make(console.output())?,
+        None => write(console.output())?,
         Some(name) => {
             let mut bytes = Vec::new();
-            make(&mut bytes)?;
+            write(&mut bytes)?;
             output::file(name, &bytes)?;
         }
     }
     source.status(console)
+}
+
+/// What --as says.
+fn form(options: &Options) -> Result<Form, Trouble> {
+    let name = options.value("as").unwrap_or("text");
+    let form = FORMS.iter().find(|(known, _)| *known == name);
+    form.map(|(_, form)| *form)
+        .ok_or_else(|| usage(&format!("--as needs text, json, svg or html, and not `{name}`")))
 }
 
 /// What --after says.
@@ -130,32 +151,28 @@ fn after(options: &Options) -> Result<After, Trouble> {
     }
 }
 
-/// The number of a call that there is.
-fn within(number: u64, last: usize) -> Result<usize, Trouble> {
+/// The number of the call that a board is shown after, which must be there; nothing for each.
+fn number(after: After, last: usize) -> Result<Option<usize>, Trouble> {
+    let number = match after {
+        After::Each => return Ok(None),
+        After::End => return Ok(Some(last)),
+        After::Call(number) => number,
+    };
     match usize::try_from(number) {
-        Ok(number) if number <= last => Ok(number),
+        Ok(number) if number <= last => Ok(Some(number)),
         _ => Err(usage(&format!("there is no call {number} to show: the paper has {last}"))),
     }
 }
 
-impl Show<'_> {
-    /// Writes it in a form, after a call or after each.
-    fn write(
-        &mut self,
-        form: &str,
-        after: Option<usize>,
-        width: usize,
-        out: &mut dyn Write,
-    ) -> io::Result<()> {
-        match (form, after) {
-            ("json", None) => self.json_of_each(out),
-            ("json", Some(number)) => self.json(number, out),
-            ("svg", _) => self.svg(after.unwrap_or_default(), out),
-            (_, None) => self.text_of_each(&mut Sheet { out, width }),
-            (_, Some(number)) => self.text(number, &mut Sheet { out, width }),
-        }
-    }
+/// A paper being shown.
+struct Show<'a> {
+    source: &'a Source,
+    steps: Steps<'a>,
+    /// The start, which no call led to.
+    start: Step,
+}
 
+impl Show<'_> {
     /// Plays up to a call: the step that it is.
     fn play(&mut self, number: usize) -> Step {
         let of = self.start.of;
@@ -163,19 +180,24 @@ impl Show<'_> {
         last.unwrap_or(Step { number: 0, of, made: None })
     }
 
+    /// The board as it stands.
+    fn model(&self) -> Model {
+        Model::of(self.steps.board())
+    }
+
     fn text(&mut self, number: usize, sheet: &mut Sheet) -> io::Result<()> {
         let step = self.play(number);
         sheet.step(&step)?;
-        sheet.board(&sections(&Model::of(self.steps.board())))?;
+        sheet.board(&sections(&self.model()))?;
         self.text_of_rest(sheet)
     }
 
     fn text_of_each(&mut self, sheet: &mut Sheet) -> io::Result<()> {
-        let mut before = sections(&Model::of(self.steps.board()));
+        let mut before = sections(&self.model());
         sheet.step(&self.start)?;
         sheet.board(&before)?;
         while let Some(step) = self.steps.next() {
-            let now = sections(&Model::of(self.steps.board()));
+            let now = sections(&self.model());
             writeln!(sheet.out)?;
             sheet.step(&step)?;
             sheet.changes(&before, &now)?;
@@ -188,7 +210,6 @@ impl Show<'_> {
         self.text_of_rest(sheet)
     }
 
-    /// What stands behind the calls of a malformed tape.
     fn text_of_rest(&self, sheet: &mut Sheet) -> io::Result<()> {
         match self.rest() {
             None => Ok(()),
@@ -196,29 +217,43 @@ impl Show<'_> {
         }
     }
 
-    /// .. in words.
+    /// Where the tape is malformed.
+    fn malformed(&self) -> Option<u64> {
+        let paper = &self.source.paper;
+        (!paper.rest.is_empty()).then(|| source::offset(paper))
+    }
+
+    /// What stands there, in words.
     fn rest(&self) -> Option<String> {
-        let rest = &self.source.paper.rest;
-        let some = &rest[..rest.len().min(16)];
+        let (at, rest) = (self.malformed()?, &self.source.paper.rest);
+        let some = &rest[..rest.len().min(MOST_BYTES)];
         let dots = if some.len() < rest.len() { "..." } else { "" };
         let bytes = tape::hex(some);
-        let at = self.malformed?;
         Some(format!("the tape is malformed at byte {at}, where no call begins: {bytes}{dots}"))
     }
 
     fn json(&mut self, number: usize, out: &mut dyn Write) -> io::Result<()> {
         let step = self.play(number);
-        writeln!(out, "{}", json::step(&step, &Model::of(self.steps.board()), self.malformed))
+        writeln!(out, "{}", json::step(&step, &self.model(), self.malformed()))
     }
 
     fn json_of_each(&mut self, out: &mut dyn Write) -> io::Result<()> {
-        let start = json::step(&self.start, &Model::of(self.steps.board()), self.malformed);
-        write!(out, "[\n{start}")?;
+        let malformed = self.malformed();
+        write!(out, "[\n{}", json::step(&self.start, &self.model(), malformed))?;
         while let Some(step) = self.steps.next() {
-            let step = json::step(&step, &Model::of(self.steps.board()), self.malformed);
-            write!(out, ",\n{step}")?;
+            write!(out, ",\n{}", json::step(&step, &self.model(), malformed))?;
         }
         writeln!(out, "\n]")
+    }
+
+    fn svg(&mut self, number: usize, out: &mut dyn Write) -> io::Result<()> {
+        let step = self.play(number);
+        let title = match step.number {
+            0 => "The page tables of the fresh board".to_string(),
+            _ => format!("The page tables after {}", step.heading()),
+        };
+        let picture = Picture { title: Some(&title), model: &self.model() };
+        write!(out, "<?xml version=\"1.0\" encoding=\"UTF-8\"?>\n{picture}")
     }
 
     /// The page of all steps, which shows one of them at first.
@@ -232,20 +267,5 @@ impl Show<'_> {
         }
         progress.end(console);
         page.finish()
-    }
-
-    fn svg(&mut self, number: usize, out: &mut dyn Write) -> io::Result<()> {
-        let title = title(&self.play(number));
-        let model = Model::of(self.steps.board());
-        let picture = Picture { title: Some(&title), model: &model };
-        write!(out, "<?xml version=\"1.0\" encoding=\"UTF-8\"?>\n{picture}")
-    }
-}
-
-/// What stands over a picture.
-fn title(step: &Step) -> String {
-    match step.number {
-        0 => "The page tables of the fresh board".to_string(),
-        _ => format!("The page tables after {}", step.heading()),
     }
 }

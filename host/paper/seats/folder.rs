@@ -2,8 +2,8 @@
 
 use crate::Trouble;
 use std::ffi::OsStr;
-use std::fs;
-use std::io;
+use std::fs::{self, File};
+use std::io::{self, BufWriter, Write};
 use std::path::{Path, PathBuf};
 
 /// Where files stand until all of them are whole, below the folder itself.
@@ -44,6 +44,20 @@ impl Folder {
     pub fn write(&self, name: &str, bytes: &[u8]) -> Result<(), Trouble> {
         let path = self.part().join(name);
         fs::write(path, bytes).map_err(|why| self.trouble(OsStr::new(name), why))
+    }
+
+    /// Writes a file that is too long to be made at once.
+    pub fn write_by(
+        &self,
+        name: &str,
+        write: impl FnOnce(&mut dyn Write) -> io::Result<()>,
+    ) -> Result<(), Trouble> {
+        let written = File::create(self.part().join(name)).and_then(|file| {
+            let mut file = BufWriter::new(file);
+            write(&mut file)?;
+            file.flush()
+        });
+        written.map_err(|why| self.trouble(OsStr::new(name), why))
     }
 
     fn trouble(&self, name: &OsStr, why: io::Error) -> Trouble {

@@ -5,8 +5,9 @@ use std::sync::atomic::{AtomicU64, Ordering};
 use std::sync::mpsc;
 use std::thread;
 
-/// How many seats a core takes at a time.
+/// How many seats a core takes at a time, and how many cores are used at most: each has a board of its own.
 const PIECE: u64 = 32;
+const MOST_CORES: u64 = 16;
 
 /// Does the work for seats 1 to `seats` and gathers what it has to tell, by the seats' numbers: the first `most`, and
 /// of how many seats there was anything. Each core works on a scratch of its own.
@@ -20,12 +21,17 @@ pub fn each_seat<S, T: Send>(
     let next = AtomicU64::new(0);
     let (sender, receiver) = mpsc::channel();
     let cores = thread::available_parallelism().map_or(1, |cores| cores.get() as u64);
+    let cores = cores.min(MOST_CORES).min(seats / PIECE + 1);
     let mut progress = Progress::new(console, "seats", seats);
     let (mut told, mut count, mut done) = (Vec::new(), 0, 0);
     thread::scope(|scope| {
-        for _ in 0..cores.min(seats / PIECE + 1) {
+        let started = (0..cores).filter(|_| {
             let (next, scratch, work, sender) = (&next, &scratch, &work, sender.clone());
-            scope.spawn(move || take_pieces(seats, next, scratch, work, &sender));
+            let take = move || take_pieces(seats, next, scratch, work, &sender);
+            thread::Builder::new().spawn_scoped(scope, take).is_ok()
+        });
+        if started.count() == 0 {
+            take_pieces(seats, &next, &scratch, &work, &sender);
         }
         drop(sender);
         for (piece, of_seats) in receiver {

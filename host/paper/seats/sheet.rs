@@ -1,6 +1,7 @@
 //! What is written for the seats: their papers, the one key, the list of orders.
 
 use super::check::OneKey;
+use super::counted;
 use super::order::{Orders, Release};
 use crate::explain;
 use crate::key::KeyLine;
@@ -9,6 +10,7 @@ use calls::text::{self, Paper, Setting};
 use calls::Call;
 use gadulnos::raw::Told;
 use gadulnos::Board;
+use std::io::{self, Write};
 
 /// The paper as all seats have it, once as a text and once as a tape.
 pub struct Sheet {
@@ -58,15 +60,16 @@ pub fn key(paper: &Paper, answers: &[(Call, Told)], orders: &Orders, one: &OneKe
 
 /// How the key is read.
 fn head(paper: &Paper, orders: &Orders, one: &OneKey) -> String {
-    let (calls, releases) = (paper.calls.len(), orders.live.len());
+    let calls = counted(paper.calls.len() as u64, "call");
+    let releases = counted(orders.live.len() as u64, "release");
     let why = match one.proved {
         true => "The theorem of the release paper holds of it (docs/RELEASE.md).",
         false => "It lies beyond the theorem: equal ends were tried on these seats, not proved.",
     };
     let mut text = format!(
         "# The one key of every seat. {why}\n\
-         # The calls are {calls}, the same on every seat; then come the releases, {releases}, in an order of the\n\
-         # seat's own. orders.csv has it, by the numbers of the regions below.\n"
+         # Every seat has the same {calls}, and then {releases} in an order of its own, which\n\
+         # stands in orders.csv by the numbers of the regions below.\n"
     );
     if paper.board != Setting::default() {
         let board = text::print(&Paper { board: paper.board, ..Paper::default() });
@@ -101,17 +104,13 @@ fn board(board: &Board) -> String {
     format!("{board:?}\n")
 }
 
-/// The regions in each seat's order, a line a seat, by the numbers that the key gives them.
-pub fn orders(orders: &Orders, seats: u64) -> String {
-    let releases: Vec<String> =
-        (1..=orders.live.len()).map(|at| format!(",release {at}")).collect();
-    let mut text = format!("seat{}\n", releases.concat());
+/// Writes the regions in each seat's order, a line a seat, by the numbers that the key gives them.
+pub fn orders(orders: &Orders, seats: u64, out: &mut dyn Write) -> io::Result<()> {
+    let places = (1..=orders.live.len()).map(|at| format!(",release {at}"));
+    writeln!(out, "seat{}", places.collect::<String>())?;
     for seat in 1..=seats {
-        text += &seat.to_string();
-        for release in orders.of(seat) {
-            text += &format!(",{}", release.region + 1);
-        }
-        text.push('\n');
+        let numbers = orders.of(seat).into_iter().map(|release| format!(",{}", release.region + 1));
+        writeln!(out, "{seat}{}", numbers.collect::<String>())?;
     }
-    text
+    Ok(())
 }

@@ -13,12 +13,7 @@ use super::value::{object, Value};
 
 /// A section's kind.
 pub fn kind(kind: &Kind) -> Value {
-    object([
-        ("name", kind.name.into()),
-        ("keys", kind.keys.into()),
-        ("none", kind.none.into()),
-        ("title", kind.title.into()),
-    ])
+    object([("name", kind.name.into()), ("title", kind.title.into())])
 }
 
 /// A step, the board before it and the board behind it.
@@ -28,7 +23,7 @@ pub fn step(step: &Step, before: &[Section], now: &[Section], picture: Option<us
     let walk = walk.iter().flat_map(|walk| walk.steps.iter());
     let changed = before.iter().zip(now).filter_map(|(before, now)| {
         let differences = differences(&changes(before, now));
-        (!differences.is_empty()).then(|| (now.kind.name, Value::List(differences)))
+        (!differences.is_empty()).then_some((now.kind.name, Value::List(differences)))
     });
     object([
         ("place", step.place().into()),

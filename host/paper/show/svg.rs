@@ -11,6 +11,9 @@ const MARGIN: usize = 12;
 const HEADINGS: usize = 28;
 const TITLE: usize = 36;
 
+/// How wide a picture is at least, so that small trees are not drawn large.
+const LEAST_WIDTH: usize = 900;
+
 /// What the picture's letters and outlines mean.
 pub const LEGEND: [&str; 3] = [
     "An entry is its index, the frame that it names and its rights: W writable, U user, H huge, - none of these.",
@@ -33,7 +36,8 @@ impl Display for Picture<'_> {
         let above = HEADINGS + self.title.map_or(0, |_| TITLE);
         let legend = if self.title.is_some() { &LEGEND[..] } else { &[] };
         let texts = legend.iter().copied().chain(self.title).map(str::len);
-        let width = tree.size.0.max(texts.max().unwrap_or_default() * CHARACTER) + 2 * MARGIN;
+        let text = texts.max().unwrap_or_default() * CHARACTER;
+        let width = tree.size.0.max(text).max(LEAST_WIDTH) + 2 * MARGIN;
         let below = above + tree.size.1;
         let height = below + legend.len() * LINE + MARGIN;
         writeln!(

@@ -13,7 +13,7 @@ const INDENT: usize = 2;
 const HANGING: usize = 6;
 
 /// The least width of a last column. Rows whose other columns leave less are not aligned.
-const LEAST_LAST: usize = 28;
+const LEAST_LAST: usize = 20;
 
 /// A stream of lines of a width.
 pub struct Sheet<'a> {

@@ -132,8 +132,9 @@ fn papers(options: &Options, room: &Room) -> Checked {
         for command in COMMANDS {
             let form = random.one_of(&["--tape", "--text", "", "", ""]);
             let known = !matches!(command[0], "assemble" | "disassemble");
-            let form = if known && !form.is_empty() { &[form][..] } else { &[] };
-            run(&[command, form].concat(), &bytes)?;
+            let mut words = command.to_vec();
+            words.extend(Some(form).filter(|form| known && !form.is_empty()));
+            run(&words, &bytes)?;
         }
         run(&["mark", "-", &answers], &bytes)?;
         run(&["mark", "--key", "-", &answers], &bytes)?;

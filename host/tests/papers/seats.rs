@@ -20,6 +20,7 @@ pub fn check(options: &Options, room: &Room, report: &mut Report) {
     report.check("seats: seats that differ are told with their orders", differing(room));
     report.check("seats: a folder is filled whole or not at all", folders(room));
     report.check("seats: which papers are written", only(room));
+    report.check("seats: the key says what is proved", key_says(room));
     report.check("seats: boards that a tape does not name", other_board(room));
     report.check("seats: 10000 seats", many());
     report.check("seats: wrong command lines", wrong());
@@ -346,6 +347,20 @@ fn only(room: &Room) -> Result<(), String> {
     )
     .quiet(0)?;
     holds(room.names("only").contains(&"seat-0003.tape".to_string()), "a wide tape")
+}
+
+/// key.txt says whether the theorem is about the paper.
+fn key_says(room: &Room) -> Result<(), String> {
+    let beyond = ["--seats", "2", "--beyond-the-theorem"];
+    for (paper, words) in
+        [(FIVE, "The theorem of the release paper holds"), ("allocate_frame\n", "not proved")]
+    {
+        room.clear("says");
+        seats(paper, &[&beyond[..], &["--out", &room.path("says")]].concat()).ended(0)?;
+        let key = room.text("says/key.txt")?;
+        holds(key.lines().next().map_or(false, |line| line.contains(words)), &key)?;
+    }
+    Ok(())
 }
 
 fn other_board(room: &Room) -> Result<(), String> {
