@@ -31,11 +31,12 @@ enum gadulnos_field {
 
 static inline uint64_t gadulnos_board_field(const struct gadulnos_board *board, enum gadulnos_field field)
 {
+    const uint8_t *bytes = board->fields + 8 * (size_t)field;
     uint64_t number = 0;
-    int i;
+    size_t i;
 
-    for (i = 7; i >= 0; i--)
-        number = number << 8 | board->fields[8 * field + i];
+    for (i = 8; i > 0; i--)
+        number = number << 8 | bytes[i - 1];
     return number;
 }
 

@@ -47,14 +47,22 @@ documented() {
     sed -n -E 's/^test result: .* ([0-9]+) passed; ([0-9]+) failed.*/\1 passed, \2 failed/p' <<<"$told"
 }
 
-# The example in C prints what stands beside it.
-example() {
-    if diff <(target/host/board) examples/board.expected; then
-        echo "ok examples/board.c"
-        echo "1 passed, 0 failed"
+# The example in C prints what stands beside it, and ./paper, which finds all built, document 01's key.
+examples() {
+    local passed=0 failed=0
+    same examples/board.c target/host/board examples/board.expected
+    same ./paper "./paper key crates/key/stdin" crates/key/stdout
+    echo "$passed passed, $failed failed"
+}
+
+# Whether a command prints what a file holds.
+same() {
+    if diff <($2) "$3"; then
+        echo "ok $1"
+        passed=$((passed + 1))
     else
-        echo "FAILED examples/board.c"
-        echo "0 passed, 1 failed"
+        echo "FAILED $1"
+        failed=$((failed + 1))
     fi
 }
 
@@ -64,7 +72,7 @@ fixed() {
         counted target/host/$program
     done
     counted documented
-    counted example
+    counted examples
     counted keys
     counted papers
 }

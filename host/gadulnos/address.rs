@@ -20,6 +20,22 @@ macro_rules! number {
             pub const fn get(self) -> u64 {
                 self.0
             }
+
+            /// The one so many further on; nothing past 64 bits.
+            ///
+            /// ```
+            #[doc = concat!("use gadulnos::", stringify!($name), ";")]
+            ///
+            #[doc = concat!("let first = ", stringify!($name), "::new(0x1000);")]
+            #[doc = concat!("assert_eq!(first.checked_add(0x10), Some(", stringify!($name), "::new(0x1010)));")]
+            /// assert_eq!(first.checked_add(u64::MAX), None);
+            /// ```
+            pub const fn checked_add(self, further: u64) -> Option<$name> {
+                match self.0.checked_add(further) {
+                    Some(number) => Some($name(number)),
+                    None => None,
+                }
+            }
         }
 
         impl Display for $name {

@@ -22,9 +22,19 @@ pub use view::{KernelRegion, Link, Place, Table, UserRegion};
 /// assert!(board != other);
 /// # Ok::<(), gadulnos::Refusal>(())
 /// ```
-#[derive(Clone)]
 pub struct Board {
     parts: Parts,
+}
+
+impl Clone for Board {
+    fn clone(&self) -> Board {
+        Board { parts: self.parts.clone() }
+    }
+
+    /// Copies into the memory that is there.
+    fn clone_from(&mut self, other: &Board) {
+        self.parts.clone_from(&other.parts);
+    }
 }
 
 impl Board {

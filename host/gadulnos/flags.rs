@@ -1,11 +1,14 @@
 //! The small arguments of calls: protections, flags, error codes, rights, sizes, levels.
 
 use std::fmt::{self, Debug, Display, Formatter};
-use std::ops::BitOr;
+use std::ops::{BitOr, BitOrAssign};
 
 /// Declares a set of bits with names. Bits without a name are kept.
 macro_rules! bits {
-    ($(#[$about:meta])* $name:ident($repr:ty), $none:literal, $($(#[$of:meta])* $bit:ident $word:literal = $value:literal;)*) => {
+    (
+        $(#[$about:meta])* $name:ident($repr:ty), $none:literal,
+        $($(#[$of:meta])* $bit:ident $word:literal = $value:literal;)*
+    ) => {
         $(#[$about])*
         #[derive(Clone, Copy, Default, PartialEq, Eq, Hash)]
         pub struct $name($repr);
@@ -42,6 +45,12 @@ macro_rules! bits {
 
             fn bitor(self, other: $name) -> $name {
                 $name(self.0 | other.0)
+            }
+        }
+
+        impl BitOrAssign for $name {
+            fn bitor_assign(&mut self, other: $name) {
+                *self = *self | other;
             }
         }
 

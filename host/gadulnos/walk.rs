@@ -7,7 +7,7 @@ use std::fmt::{self, Display, Formatter};
 pub use crate::raw::Verdict;
 
 /// An entry that a translation reads, and what it makes of it.
-#[derive(Clone, Copy, Debug, PartialEq, Eq)]
+#[derive(Clone, Copy, Debug, PartialEq, Eq, Hash)]
 pub struct Step {
     /// The level of its table, counted from the bottom: 1 is the last.
     pub level: u64,
@@ -44,7 +44,7 @@ impl Display for Step {
 /// assert_eq!(walk.answer, Ok(PhysAddr::new(0x10_1000)));
 /// # Ok::<(), gadulnos::Refusal>(())
 /// ```
-#[derive(Clone, Debug, PartialEq, Eq)]
+#[derive(Clone, Debug, PartialEq, Eq, Hash)]
 pub struct Walk {
     /// The entries read, in the order read, from the root down.
     pub steps: Vec<Step>,

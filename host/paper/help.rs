@@ -79,7 +79,8 @@ fn page(verb: &'static Verb, width: usize) -> String {
     let choices = columns(choices.chain([("--help".to_string(), "tells this")]), width);
     let examples: String = example.lines().map(|line| format!("  {line}\n")).collect();
     let (about, more) = (flow(about, width), flow(more, width));
-    format!("paper {name} {words} [CHOICES]\n{about}\n{more}\n{choices}\nExample:\n{examples}")
+    let words = if words.is_empty() { String::new() } else { format!(" {words}") };
+    format!("paper {name}{words} [CHOICES]\n{about}\n{more}\n{choices}\nExample:\n{examples}")
 }
 
 /// The lines that a text can have.

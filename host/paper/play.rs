@@ -10,6 +10,9 @@ use gadulnos::{Board, Levels, PhysAddr, Refusal};
 const FRAMES: u64 = 16;
 const FROM: u64 = 0x10_0000;
 
+/// The most frames that a board has: its record has a bit for each.
+const MOST_FRAMES: u64 = 8192;
+
 /// A fresh board as a setting has it.
 pub fn board(setting: &Setting) -> Result<Board, Trouble> {
     let levels = setting.levels.unwrap_or(Levels::Four.get());
@@ -17,7 +20,12 @@ pub fn board(setting: &Setting) -> Result<Board, Trouble> {
         Trouble::Said(format!("a board has 4 or 5 levels of page tables, and not {levels}"))
     })?;
     let from = setting.from.unwrap_or(FROM);
-    let bytes = setting.frames.unwrap_or(FRAMES).checked_mul(calls::PAGE);
+    let frames = setting.frames.unwrap_or(FRAMES);
+    if frames > MOST_FRAMES {
+        let why = format!("a board has {MOST_FRAMES} frames at most, and not {frames}");
+        return Err(Trouble::Said(why));
+    }
+    let bytes = frames.checked_mul(calls::PAGE);
     let to = bytes.and_then(|bytes| from.checked_add(bytes));
     let to = to.ok_or(Trouble::Start(Refusal::BrokenRecord))?;
     Board::start(PhysAddr::new(from), PhysAddr::new(to), levels).map_err(Trouble::Start)

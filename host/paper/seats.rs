@@ -27,8 +27,7 @@ pub const SEATS: Verb = Verb {
     name: "seats",
     words: "[PAPER]",
     most_words: 1,
-    about:
-        "gives each seat an order of releases, with one key for all, and checks every seat's run",
+    about: "gives each seat an order of releases of its own, with one key for all seats",
     more: MORE,
     choices: &[CHOICES, PAPER, BOARD],
     example: "paper seats paper.txt --seats 30 --seed 7 --out room",
@@ -98,11 +97,13 @@ struct Start {
 fn run(options: &Options, console: &mut Console) -> Result<Status, Trouble> {
     let seats = seats(options)?;
     let seed = options.number("seed")?.unwrap_or(1);
-    let wanted = wanted(options)?;
+    let (wanted, out) = (wanted(options)?, out(options)?);
     let source = Source::read(options.word(0), options, console)?;
     let start = play(&source)?;
     let proved = admit(&start, &source, options, console)?;
-    let out = options.value("out");
+    if let (Some(paper), Some(folder)) = (options.word(0), out) {
+        folder::apart(paper, folder)?;
+    }
     let folder = out.map(|name| Folder::open(name, options.has("force"))).transpose()?;
     let live = Live::on(&start.board);
     let orders = Orders { live, seed, odd_sizes: options.has("odd-sizes") };
@@ -143,6 +144,16 @@ fn wanted(options: &Options) -> Result<Wanted, Trouble> {
     }
 }
 
+/// The folder to write.
+fn out(options: &Options) -> Result<Option<&str>, Trouble> {
+    match options.value("out") {
+        Some(name @ ("" | "-")) => {
+            Err(usage(&format!("--out needs a folder, and `{name}` is none")))
+        }
+        out => Ok(out),
+    }
+}
+
 /// Plays the paper.
 fn play(source: &Source) -> Result<Start, Trouble> {
     let Source { name, paper, .. } = source;
@@ -177,7 +188,7 @@ fn admit(
         told.map(|misfit| misfit.told(&source.name, &source.paper.lines)).collect();
     let more = start.misfits.len().saturating_sub(MOST_TOLD);
     if more > 0 {
-        lines.push(format!("and so are {}", counted(more as u64, "further call")));
+        lines.push(format!("and {}", counted(more as u64, "further call")));
     }
     if options.has("beyond-the-theorem") {
         lines.push("beyond the theorem: equal ends are tried, not proved".to_string());
@@ -199,21 +210,25 @@ fn agree(
     console: &mut Console,
 ) -> Result<bool, Trouble> {
     if let Some(why) = one.end_amiss().filter(|_| one.proved) {
-        writeln!(console.output(), "seat 1: {why}")?;
+        writeln!(console.output(), "{}: {why}", named(1, orders))?;
         return Ok(false);
     }
     let scratch = || one.end.clone();
     let differs = |board: &mut Board, seat| one.differs(board, seat);
     let (told, count) = each_seat(seats, MOST_TOLD, console, scratch, differs);
     for (seat, why) in &told {
-        let order: Vec<String> =
-            orders.of(*seat).iter().map(|release| (release.region + 1).to_string()).collect();
-        writeln!(console.output(), "seat {seat}, order {}: {why}", order.join(" "))?;
+        writeln!(console.output(), "{}: {why}", named(*seat, orders))?;
     }
     if count > 0 {
         writeln!(console.output(), "{} of {seats} differ from the key", counted(count, "seat"))?;
     }
     Ok(count == 0)
+}
+
+/// A seat with its order, by the numbers of the regions.
+fn named(seat: u64, orders: &Orders) -> String {
+    let numbers = orders.of(seat).into_iter().map(|release| format!(" {}", release.region + 1));
+    format!("seat {seat}, order{}", numbers.collect::<String>())
 }
 
 /// Says what was found.

@@ -1,5 +1,6 @@
 //! `paper show`: the board as a candidate writes it down.
 
+mod address;
 mod change;
 mod data;
 mod html;
@@ -19,6 +20,7 @@ mod xml;
 use crate::options::{usage, Choice, Options, Verb, BOARD, OUT, PAPER};
 use crate::{output, source, Console, Progress, Source, Status, Trouble};
 use calls::tape;
+use gadulnos::Board;
 use html::Page;
 use model::Model;
 use section::sections;
@@ -55,6 +57,9 @@ const MORE: &str = "\
 Shown are the frames with what each holds, both region lists, next_addr, the copy-on-write pages
 and the words of the tables that are not 0, by level. A page's words are no table: of them only
 their number is told. Rows that are alike stand in one, with their number in brackets.
+Walks ignore what stands above the top index: an address is told as a region or a marked page
+has it, else with its top bit repeated. Where several entries lead to one table, what lies below
+it has several addresses, of which those that a region has are told first.
 
 text  With --after each: the fresh board, then of each call what changed (+ added, ~ changed,
       - gone), and at the end the whole board.
@@ -65,13 +70,15 @@ json  One object, or with --after each an array with one step a line. Numbers of
         walk            null or a list of level, table, index, word, verdict
         board           levels, first_frame, total_frames, allocated_frames, root, next_addr, and
         frames          a list of frame, marked, words_not_0, and holds: a list of kind, and of a
-                        table level, path, of a page or part_of_large_page addr, flags
+                        table level, path, of a page or part_of_large_page addr, flags;
+                        more: true where it is reached at further addresses, else left out
         kernel_regions  a list of start, size, used
         user_regions    a list of start, size, prot, flags, prot_words, flags_words
         marked_pages    a list of addresses
         tables          a list of frame, level, path, and entries: a list of index, word, flags,
                         and leads_to: null or kind (table, page, large_page or outside), frame,
-                        addr, user_reads, user_writes
+                        addr, user_reads, user_writes; where it has further addresses also
+                        others: a list of these three, and more: true if that lacks some
 svg   The tree of tables after one call, to print.
 html  A page without anything beside it, for all calls: arrow keys, j and k, Home and End step,
       and #N behind its name begins at call N. --after says which call is shown at first.
@@ -123,11 +130,7 @@ fn run(options: &Options, console: &mut Console) -> Result<Status, Trouble> {
     };
     match output::name(options) {
         None => write(console.output())?,
-        Some(name) => {
-            let mut bytes = Vec::new();
-            write(&mut bytes)?;
-            output::file(name, &bytes)?;
-        }
+        Some(name) => output::stream(name, write)?,
     }
     source.status(console)
 }
@@ -268,4 +271,11 @@ impl Show<'_> {
         progress.end(console);
         page.finish()
     }
+}
+
+/// A board as text, in lines of at most so many columns.
+pub fn board_text(board: &Board, width: usize) -> String {
+    let mut out = Vec::new();
+    let written = Sheet { out: &mut out, width }.board(&sections(&Model::of(board)));
+    written.map_or(String::new(), |()| String::from_utf8_lossy(&out).into_owned())
 }

@@ -4,8 +4,9 @@ use crate::options::{usage, Options};
 use crate::{Console, Status, Trouble};
 use calls::tape::{KINDS, WIDE_KINDS};
 use calls::text::{self, Paper};
-use calls::Shape;
-use std::fs;
+use calls::{Shape, PAGE};
+use std::fs::File;
+use std::io::Read;
 
 /// A paper and where it came from.
 pub struct Source {
@@ -41,6 +42,11 @@ impl Source {
         board.frames = options.number("frames")?.or(board.frames);
         board.from = options.number("from")?.or(board.from);
         board.levels = options.number("levels")?.or(board.levels);
+        if let Some(from) = board.from.filter(|from| from % PAGE != 0) {
+            let begins = from - from % PAGE;
+            console
+                .note(&format!("the board begins at {begins:#x}, with the frame of {from:#x}"))?;
+        }
         Ok(source)
     }
 
@@ -114,16 +120,27 @@ pub fn bytes(word: Option<&str>, console: &mut Console) -> Result<(String, Vec<u
             if console.input_is_terminal {
                 console.note("reading standard input, up to Ctrl-D")?;
             }
-            let mut bytes = Vec::new();
-            match console.input().read_to_end(&mut bytes) {
-                Ok(_) => Ok((name, bytes)),
-                Err(why) => Err(Trouble::File(name, why)),
-            }
+            whole(name, console.input())
         }
-        Some(file) => match fs::read(file) {
-            Ok(bytes) => Ok((file.to_string(), bytes)),
+        Some(file) => match File::open(file) {
+            Ok(mut open) => whole(file.to_string(), &mut open),
             Err(why) => Err(Trouble::File(file.to_string(), why)),
         },
+    }
+}
+
+/// The most bytes that are read of a paper or of answers: streams that do not end are told so.
+const MOST_BYTES: u64 = 1 << 30;
+
+/// All that a stream has, and its name.
+fn whole(name: String, stream: &mut dyn Read) -> Result<(String, Vec<u8>), Trouble> {
+    let mut bytes = Vec::new();
+    match stream.take(MOST_BYTES + 1).read_to_end(&mut bytes) {
+        Ok(_) if bytes.len() as u64 > MOST_BYTES => {
+            Err(Trouble::Said(format!("{name}: more than {MOST_BYTES} bytes")))
+        }
+        Ok(_) => Ok((name, bytes)),
+        Err(why) => Err(Trouble::File(name, why)),
     }
 }
 

@@ -4,7 +4,7 @@ use super::*;
 use std::ops::DerefMut;
 
 /// All that the calls are lent. The parts may stand in vectors and a box or in memory of the host's own.
-#[derive(Clone, PartialEq, Eq)]
+#[derive(PartialEq, Eq)]
 pub struct Parts<W = Vec<u64>, B = Vec<u8>, M = Box<Marks>> {
     /// Frame number n sits at word (n - start_frame) * 512.
     pub words: W,
@@ -20,6 +20,33 @@ pub struct Parts<W = Vec<u64>, B = Vec<u8>, M = Box<Marks>> {
     pub user: B,
     /// The copy-on-write pages.
     pub marked: B,
+}
+
+impl<W: Clone, B: Clone, M: Clone> Clone for Parts<W, B, M> {
+    fn clone(&self) -> Self {
+        let Parts { words, fields, bits, root, kernel, user, marked } = self;
+        Parts {
+            words: words.clone(),
+            fields: fields.clone(),
+            bits: bits.clone(),
+            root: *root,
+            kernel: kernel.clone(),
+            user: user.clone(),
+            marked: marked.clone(),
+        }
+    }
+
+    /// Copies into the memory that is there.
+    fn clone_from(&mut self, other: &Self) {
+        let Parts { words, fields, bits, root, kernel, user, marked } = other;
+        self.words.clone_from(words);
+        self.fields.clone_from(fields);
+        self.bits.clone_from(bits);
+        self.root = *root;
+        self.kernel.clone_from(kernel);
+        self.user.clone_from(user);
+        self.marked.clone_from(marked);
+    }
 }
 
 impl Parts {

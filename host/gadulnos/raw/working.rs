@@ -11,7 +11,7 @@ pub const SHOWN_NUMBERS: usize = 26;
 const ROW_NUMBERS: usize = 5;
 
 /// What a translation makes of an entry that it reads, by the number that stands for it.
-#[derive(Clone, Copy, Debug, PartialEq, Eq)]
+#[derive(Clone, Copy, Debug, PartialEq, Eq, Hash)]
 pub enum Verdict {
     /// PRESENT is clear: nothing is mapped there, 14.
     Absent = 0,

@@ -153,10 +153,11 @@ fn by_regions(call: &Call, refusal: Refusal) -> Option<String> {
         (
             Refusal::RegionNotFound,
             Call::Munmap { addr, size } | Call::Mprotect { addr, size, .. },
-        ) => format!(
-            "no region starts at {addr:#x} and has the size that {} round up to",
-            bytes(size)
-        ),
+        ) => {
+            let round = if size == 1 { "rounds" } else { "round" };
+            let bytes = bytes(size);
+            format!("no region starts at {addr:#x} and has the size that {bytes} {round} up to")
+        }
         (Refusal::ListFull, Call::Mmap { .. }) => {
             "the list has 256 regions, and none starts where this one would".to_string()
         }
@@ -196,10 +197,10 @@ fn by_tables(call: &Call, refusal: Refusal) -> Option<String> {
 
 /// A size as a paper's text has it: in decimal while that is easily read.
 fn bytes(size: u64) -> String {
-    if size < 1 << 16 {
-        format!("{size} bytes")
-    } else {
-        format!("{size:#x} bytes")
+    match size {
+        1 => "1 byte".to_string(),
+        size if size < 1 << 16 => format!("{size} bytes"),
+        size => format!("{size:#x} bytes"),
     }
 }
 

@@ -34,7 +34,12 @@ impl<'a> Written<'a> {
         self.says.map_or(0, |says| says.rank())
     }
 
-    /// What stands there, cut if it is long.
+    /// What stands there.
+    pub fn text(&self) -> &str {
+        &self.text
+    }
+
+    /// .. cut if it is long.
     pub fn shown(&self) -> String {
         let text = plain(self.text.trim());
         let cut: String = text.chars().take(SHOWN).collect();
@@ -47,7 +52,7 @@ impl<'a> Written<'a> {
 }
 
 /// The lines of a sheet. Empty ones and comments, which stand behind `#`, are passed over.
-pub fn lines(sheet: &[u8]) -> impl Iterator<Item = Written<'_>> {
+pub fn lines(sheet: &[u8]) -> impl Iterator<Item = Written<'_>> + Clone {
     let lines = (1..).zip(split(sheet));
     lines.filter_map(|(number, bytes)| Written::read(number, bytes))
 }
@@ -58,24 +63,35 @@ pub fn from_end(sheet: &[u8]) -> impl Iterator<Item = Written<'_>> {
 }
 
 /// A sheet cut into lines.
-fn split(sheet: &[u8]) -> impl DoubleEndedIterator<Item = &[u8]> {
+fn split(sheet: &[u8]) -> impl DoubleEndedIterator<Item = &[u8]> + Clone {
     let sheet = sheet.strip_prefix("\u{feff}".as_bytes()).unwrap_or(sheet);
     sheet.split(|byte| *byte == b'\n')
 }
 
-/// The line of a key that a text says. The value of a refused call may be left out.
+/// The line of a key that a text says. A value that is left out is 0.
 fn read(text: &str) -> Option<KeyLine> {
+    if let Some(count) = named(text, "frames") {
+        return calls::text::number(count).map(KeyLine::Frames);
+    }
+    if let Some(offset) = named(text, "tape") {
+        return calls::text::number(offset).map(KeyLine::Tape);
+    }
     let words: Vec<&str> = text.split_whitespace().take(4).collect();
     match *words.as_slice() {
-        [word, count] if word.eq_ignore_ascii_case("frames") => {
-            calls::text::number(count).map(KeyLine::Frames)
-        }
-        [word, offset] if word.eq_ignore_ascii_case("tape") => {
-            calls::text::number(offset).map(KeyLine::Tape)
-        }
-        [kind, number] if decimal(number) != Some(0) => call(kind, number, "0"),
+        [kind, number] => call(kind, number, "0"),
         [kind, number, value] => call(kind, number, value),
         _ => None,
+    }
+}
+
+/// What stands behind a name, and a colon if there is one.
+fn named<'a>(text: &'a str, name: &str) -> Option<&'a str> {
+    text.get(..name.len()).filter(|begin| begin.eq_ignore_ascii_case(name))?;
+    let behind = text.get(name.len()..)?;
+    let rest = behind.trim_start();
+    match rest.strip_prefix(':') {
+        Some(rest) => Some(rest.trim_start()),
+        None => (rest.len() < behind.len()).then_some(rest),
     }
 }
 

@@ -2,7 +2,7 @@
 
 use super::wish::{Wish, SLOTS};
 use crate::seats::theorem::{self, Outside};
-use crate::seats::Live;
+use crate::seats::{counted, Live};
 use crate::{Console, Progress, Trouble};
 use calls::{Call, Random};
 use gadulnos::raw::Told;
@@ -12,13 +12,16 @@ use std::collections::BTreeMap;
 /// Calls that belong together, with a word on what they are for.
 #[derive(Debug)]
 pub struct Part {
+    /// That word; empty if there is none.
     pub about: &'static str,
+    /// The calls.
     pub calls: Vec<Call>,
 }
 
 /// A paper as drawn, and what came of it.
 #[derive(Debug, Default)]
 pub struct Drawn {
+    /// The calls.
     pub parts: Vec<Part>,
     /// How many calls were refused with each number.
     pub refused: BTreeMap<u64, u64>,
@@ -66,12 +69,16 @@ impl Aim {
 
 /// A paper in the midst of being drawn.
 pub struct Draw<'a> {
+    /// What is wished of it.
     pub wish: &'a Wish,
+    /// What decides it.
     pub random: Random,
+    /// The board behind the calls so far.
     pub board: Board,
     /// The board some calls ago, and these calls: so a call that was tried is undone.
     base: Board,
     since: Vec<Call>,
+    /// The calls so far.
     pub drawn: Drawn,
     /// Starts of regions that were released.
     pub released: Vec<u64>,
@@ -83,8 +90,10 @@ pub struct Draw<'a> {
 /// How often a call is drawn for an aim before another way is taken.
 const TRIES: usize = 60;
 
-/// How many frames at least are free or hold pages of regions, if the board is not too small for that.
+/// How many frames at least are free or hold pages of regions, if the board is not too small for that; and how many
+/// where hardly a call can be found.
 const ROOM: u64 = 6;
+const LEAST_ROOM: u64 = 2;
 
 /// How many calls are made again at most to undo one.
 const MOST_SINCE: usize = 64;
@@ -162,8 +171,9 @@ impl<'a> Draw<'a> {
                 return Some(call);
             }
         }
-        let last_ways = self.last_ways(aim);
-        last_ways.into_iter().find(|call| self.attempt(aim, *call, 0))
+        let ways = self.last_ways(aim);
+        let find = |room| ways.iter().copied().find(|call| self.attempt(aim, *call, room));
+        [LEAST_ROOM, 0].into_iter().find_map(find)
     }
 
     fn draw(&mut self, aim: Aim, met_left: u64) -> Option<Call> {
@@ -251,9 +261,9 @@ impl<'a> Draw<'a> {
 
     /// That no call can be found.
     fn stuck(&self, at: u64) -> Trouble {
-        let frames = self.board.total_frames();
+        let frames = counted(self.board.total_frames(), "frame");
         Trouble::Said(format!(
-            "no call {at} can be found that is met on this board of {frames} frames: --frames gives it more"
+            "no call {at} can be found that is met on this board of {frames}: --frames gives it more"
         ))
     }
 }

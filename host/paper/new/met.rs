@@ -25,7 +25,7 @@ const PLACES: [u64; 6] = [0x1000, 0x1F_F000, 0x40_0000, 0x60_0000, 0x3FFF_F000, 
 /// Bytes that a size has less than its pages.
 const ODD: [u64; 8] = [0, 0, 0, 1, 96, 2048, 3192, PAGE - 1];
 
-/// The sizes of the pages of a wish, and what lies beyond.
+/// Calls with the board in view.
 impl Draw<'_> {
     /// A size of so many pages at most: whole ones, a byte, or something odd.
     pub fn size(&mut self, most: u64) -> u64 {
@@ -187,15 +187,16 @@ impl Draw<'_> {
         Call::Mmap { given: false, addr: 0, size: 1 + self.random.below(PAGE), prot, flags: 0 }
     }
 
-    /// Calls to try where nothing that was drawn would do.
+    /// Calls to try where nothing that was drawn would do, the best first.
     pub fn last_ways(&mut self, aim: Aim) -> Vec<Call> {
         let live = Live::on(&self.board);
         let mut ways = vec![
             Call::Vmalloc { size: PAGE },
             Call::Mmap { given: false, addr: 0, size: PAGE, prot: PROTECTIONS[0], flags: 0 },
         ];
-        if aim == Aim::Any {
-            ways.extend(self.one_live(&live).map(|live| live.release(0)));
+        if let Some(region) = self.one_live(&live).filter(|_| aim == Aim::Any) {
+            let (release, look) = (region.release(0), Call::Translate { addr: region.start });
+            ways.extend(if live.len() > 2 { [release, look] } else { [look, release] });
         }
         ways
     }

@@ -8,6 +8,7 @@ use std::fmt::{self, Display, Formatter};
 /// What is wished of a new paper.
 #[derive(Clone, Debug)]
 pub struct Wish {
+    /// What decides it.
     pub seed: u64,
     /// How many calls.
     pub calls: u64,
@@ -21,6 +22,7 @@ pub struct Wish {
     pub full: bool,
     /// There are page faults.
     pub faults: bool,
+    /// The board.
     pub board: Setting,
 }
 

@@ -17,6 +17,17 @@ pub struct Folder {
     finished: bool,
 }
 
+/// That a paper does not stand in the folder itself, where it could be taken for what an earlier run wrote.
+pub fn apart(paper: &str, folder: &str) -> Result<(), Trouble> {
+    let paper_in = fs::canonicalize(paper).ok().and_then(|path| Some(path.parent()?.to_path_buf()));
+    match (paper_in, fs::canonicalize(folder)) {
+        (Some(one), Ok(other)) if one == other => {
+            Err(Trouble::Said(format!("{paper} stands in {folder}: name another folder")))
+        }
+        _ => Ok(()),
+    }
+}
+
 impl Folder {
     /// A folder to fill, made if it is missing. One that is not empty is taken with `force` only.
     pub fn open(name: &str, force: bool) -> Result<Folder, Trouble> {
@@ -68,13 +79,17 @@ impl Folder {
     /// a paper that the key is not for.
     pub fn finish(mut self) -> Result<(), Trouble> {
         let part = self.part();
+        let new = names(&part).map_err(|why| self.trouble(OsStr::new(PART), why))?;
+        if let Some(name) = new.iter().find(|name| self.path.join(name).is_dir()) {
+            return Err(self.trouble(name, io::Error::new(io::ErrorKind::Other, "is a folder")));
+        }
         for name in names(&self.path).map_err(|why| self.trouble(OsStr::new(""), why))? {
             if is_ours(&name) && !part.join(&name).exists() {
                 let removed = fs::remove_file(self.path.join(&name));
                 removed.map_err(|why| self.trouble(&name, why))?;
             }
         }
-        for name in names(&part).map_err(|why| self.trouble(OsStr::new(PART), why))? {
+        for name in new {
             let moved = fs::rename(part.join(&name), self.path.join(&name));
             moved.map_err(|why| self.trouble(&name, why))?;
         }

@@ -3,14 +3,16 @@
 use super::check::OneKey;
 use super::counted;
 use super::order::{Orders, Release};
-use crate::explain;
 use crate::key::KeyLine;
+use crate::{explain, show};
 use calls::tape;
 use calls::text::{self, Paper, Setting};
 use calls::Call;
 use gadulnos::raw::Told;
-use gadulnos::Board;
 use std::io::{self, Write};
+
+/// The columns of the board at the end, which stands behind `# ` in lines of 100.
+const BOARD_WIDTH: usize = 98;
 
 /// The paper as all seats have it, once as a text and once as a tape.
 pub struct Sheet {
@@ -55,7 +57,9 @@ pub fn key(paper: &Paper, answers: &[(Call, Told)], orders: &Orders, one: &OneKe
     text += &releases(orders, one);
     let frames = KeyLine::Frames(one.end.allocated_frames());
     text += &format!("\n# The end, on every seat:\n{frames}\n");
-    text + &board(&one.end)
+    let board = show::board_text(&one.end, BOARD_WIDTH);
+    let comment = |line: &str| format!("# {line}").trim_end().to_string() + "\n";
+    text + &board.lines().map(comment).collect::<String>()
 }
 
 /// How the key is read.
@@ -64,7 +68,7 @@ fn head(paper: &Paper, orders: &Orders, one: &OneKey) -> String {
     let releases = counted(orders.live.len() as u64, "release");
     let why = match one.proved {
         true => "The theorem of the release paper holds of it (docs/RELEASE.md).",
-        false => "It lies beyond the theorem: equal ends were tried on these seats, not proved.",
+        false => "Beyond the theorem: equal ends were tried on these seats, not proved.",
     };
     let mut text = format!(
         "# The one key of every seat. {why}\n\
@@ -81,12 +85,15 @@ fn head(paper: &Paper, orders: &Orders, one: &OneKey) -> String {
 /// The releases, by regions, since each seat has them in another order.
 fn releases(orders: &Orders, one: &OneKey) -> String {
     let met = |call: Call| KeyLine::of(&call, &Told::met(0));
+    let vfrees = orders.live.iter().filter(|live| live.kernel).count();
     let mut text = format!(
-        "\n# The releases, in whatever order: a vfree has the line `{}`, a munmap `{}`.\n\
-         releases {}, each answers 0\n",
+        "\n# The releases, in whatever order.\n\
+         # A vfree has the line `{}`, a munmap `{}`.\n\
+         releases {}: vfree {vfrees}, munmap {}\n",
         met(Call::Vfree { addr: 0 }),
         met(Call::Munmap { addr: 0, size: 0 }),
-        orders.live.len()
+        orders.live.len(),
+        orders.live.len() - vfrees
     );
     for (number, (live, told)) in (1..).zip(orders.live.iter().zip(one.wanted())) {
         let call = live.release(0);
@@ -97,11 +104,6 @@ fn releases(orders: &Orders, one: &OneKey) -> String {
         text += "# A munmap names any size that rounds to its region's: the seat's paper has it.\n";
     }
     text
-}
-
-/// A board as a candidate writes it down.
-fn board(board: &Board) -> String {
-    format!("{board:?}\n")
 }
 
 /// Writes the regions in each seat's order, a line a seat, by the numbers that the key gives them.

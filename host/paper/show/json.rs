@@ -3,7 +3,7 @@
 use super::model::{FrameView, Mapping, Model, Purpose, TableView, WordView};
 use super::step::{Made, Step};
 use super::value::{hex, object, Value};
-use gadulnos::{Entry, KernelRegion, Place, Tally, UserRegion, Walk};
+use gadulnos::{Entry, KernelRegion, Place, Tally, UserRegion, VirtAddr, Walk};
 
 /// A step: the call, what it told, and the board behind it.
 pub fn step(step: &Step, model: &Model, malformed: Option<u64>) -> Value {
@@ -63,12 +63,14 @@ fn board(model: &Model) -> Value {
 }
 
 fn frame(view: &FrameView) -> Value {
-    object([
+    let mut members = vec![
         ("frame", hex(view.frame)),
         ("marked", view.marked.into()),
         ("holds", Value::List(view.purposes.iter().map(purpose).collect())),
         ("words_not_0", view.words.into()),
-    ])
+    ];
+    members.extend(view.more.then(|| ("more", true.into())));
+    Value::Object(members)
 }
 
 fn purpose(purpose: &Purpose) -> Value {
@@ -130,15 +132,25 @@ fn leads_to(word: &WordView) -> Value {
         Place::LargePage => "large_page",
         Place::Outside => "outside",
     };
-    let may =
-        |may: fn(&Mapping) -> bool| lead.mapping.as_ref().map_or(Value::Null, |of| may(of).into());
-    object([
-        ("kind", kind.into()),
-        ("frame", hex(word.entry.frame())),
-        ("addr", hex(lead.link.addr())),
+    let mut members = vec![("kind", kind.into()), ("frame", hex(word.entry.frame()))];
+    members.extend(address(lead.addr(), lead.mappings.first()));
+    let others = lead.told.addrs.iter().enumerate().skip(1);
+    let others =
+        others.map(|(at, addr)| Value::Object(address(*addr, lead.mappings.get(at)).into()));
+    let others: Vec<Value> = others.collect();
+    members.extend((!others.is_empty()).then_some(("others", Value::List(others))));
+    members.extend(lead.told.more.then(|| ("more", true.into())));
+    Value::Object(members)
+}
+
+/// An address, and what user code may do there if it is a page's.
+fn address(addr: VirtAddr, mapping: Option<&Mapping>) -> [(&'static str, Value); 3] {
+    let may = |may: fn(&Mapping) -> bool| mapping.map_or(Value::Null, |of| may(of).into());
+    [
+        ("addr", hex(addr)),
         ("user_reads", may(|mapping| mapping.user_reads)),
         ("user_writes", may(|mapping| mapping.user_writes)),
-    ])
+    ]
 }
 
 /// An entry's flags by their names.

@@ -1,8 +1,8 @@
 //! The texts of the blocks in the picture of the tables.
 
-use super::model::{Model, TableView, WordView};
+use super::model::{Lead, Model, TableView, WordView};
 use calls::PAGE;
-use gadulnos::{Entry, Frame, Link};
+use gadulnos::{Entry, Frame};
 
 /// What is to be said of a frame beside its number.
 pub fn note(model: &Model, frame: Frame) -> &'static str {
@@ -25,8 +25,8 @@ pub fn table(model: &Model, table: &TableView, runs: &[&[WordView]], most: usize
         let row = format!("{index:>indices$}  {frame:<frames$}  {rights}");
         row.trim_end().to_string()
     }));
-    match runs.len().checked_sub(most) {
-        Some(more @ 1..) => text.push(format!("and {more} more")),
+    match runs.iter().skip(most).map(|run| run.len()).sum::<usize>() {
+        more @ 1.. => text.push(format!("and {more} more")),
         _ if rows.is_empty() => text.push("all words 0".to_string()),
         _ => {}
     }
@@ -70,16 +70,16 @@ fn rights(entry: Entry) -> String {
 }
 
 /// A page, or a run of pages, and where it lies.
-pub fn pages(model: &Model, link: &Link, count: usize) -> Vec<String> {
-    let (addr, frame) = (link.addr(), link.entry.frame());
-    let note = note(model, frame);
+pub fn pages(model: &Model, lead: &Lead, count: usize) -> Vec<String> {
+    let (addr, frame) = (lead.addr(), lead.link.entry.frame());
+    let (note, others) = (note(model, frame), others(lead));
     match count as u64 {
-        0 | 1 => vec![format!("{addr} in frame {frame}{note}")],
+        0 | 1 => vec![format!("{addr}{others} in frame {frame}{note}")],
         count => {
             let last = addr.get().wrapping_add((count - 1) * PAGE);
             let last_frame = frame.get().wrapping_add(count - 1);
             vec![
-                format!("{addr} to {last:#x}"),
+                format!("{addr} to {last:#x}{others}"),
                 format!("{count} pages in frames {frame} to {last_frame:#x}{note}"),
             ]
         }
@@ -87,12 +87,24 @@ pub fn pages(model: &Model, link: &Link, count: usize) -> Vec<String> {
 }
 
 /// A large page.
-pub fn large_page(model: &Model, link: &Link) -> Vec<String> {
-    let frame = link.entry.frame();
-    vec![format!("large page {}", link.addr()), format!("from {frame} on{}", note(model, frame))]
+pub fn large_page(model: &Model, lead: &Lead) -> Vec<String> {
+    let frame = lead.link.entry.frame();
+    vec![
+        format!("large page {}{}", lead.addr(), others(lead)),
+        format!("from {frame} on{}", note(model, frame)),
+    ]
+}
+
+/// What is to be said where an entry has further addresses.
+fn others(lead: &Lead) -> &'static str {
+    if lead.has_others() {
+        " and others"
+    } else {
+        ""
+    }
 }
 
 /// A table that is not on the board.
-pub fn outside(link: &Link) -> Vec<String> {
-    vec![format!("table {}", link.entry.frame())]
+pub fn outside(lead: &Lead) -> Vec<String> {
+    vec![format!("table {}", lead.link.entry.frame())]
 }

@@ -1,5 +1,6 @@
 //! A board taken down: the one structure that every form of `paper show` is made from.
 
+use super::address::{Addresses, Told};
 use calls::PAGE;
 use gadulnos::{
     Access, Board, Entry, Frame, KernelRegion, Link, PhysAddr, Place, Table, UserRegion, VirtAddr,
@@ -46,6 +47,8 @@ pub struct FrameView {
     pub marked: bool,
     /// All that it can be reached as; nothing, where it is free or lost.
     pub purposes: Vec<Purpose>,
+    /// Whether it is reached at further addresses.
+    pub more: bool,
     /// How many of its words are not 0.
     pub words: usize,
 }
@@ -124,16 +127,33 @@ pub struct WordView {
 
 /// What a present entry leads to.
 pub struct Lead {
-    /// The entry and the way to it.
+    /// The entry and the first way to it.
     pub link: Link,
-    /// The mapping that it makes, if it names a page.
-    pub mapping: Option<Mapping>,
+    /// The lowest address that leads through it, by each way.
+    pub told: Told,
+    /// The mapping that it makes at each of them, if it names a page.
+    pub mappings: Vec<Mapping>,
+}
+
+impl Lead {
+    /// The first of its addresses.
+    pub fn addr(&self) -> VirtAddr {
+        self.told.addrs.first().copied().unwrap_or_else(|| self.link.addr())
+    }
+
+    /// Whether it has others.
+    pub fn has_others(&self) -> bool {
+        self.told.more || self.told.addrs.len() > 1
+    }
 }
 
 impl Model {
     /// Takes a board down.
     pub fn of(board: &Board) -> Model {
-        let leads: Vec<Lead> = board.links().into_iter().map(|link| lead(board, link)).collect();
+        let links = board.links();
+        let addresses = Addresses::of(board, &links);
+        let lead = |link| lead(board, &addresses, link);
+        let leads: Vec<Lead> = links.into_iter().map(lead).collect();
         Model {
             levels: board.levels().get(),
             first_frame: board.first_frame(),
@@ -142,7 +162,7 @@ impl Model {
             free_frames: board.free_frames(),
             root: board.root(),
             next_addr: board.next_addr(),
-            frames: frames(board, &leads),
+            frames: frames(board, &addresses, &leads),
             kernel_regions: board.kernel_regions(),
             user_regions: board.user_regions(),
             marked_pages: board.marked_pages(),
@@ -157,56 +177,67 @@ impl Model {
     }
 }
 
-/// An entry with the mapping that it makes.
-fn lead(board: &Board, link: Link) -> Lead {
-    let addr = link.addr();
-    let mapping = match link.place {
-        Place::Table | Place::Outside => None,
-        Place::Page | Place::LargePage => Some(Mapping {
-            addr,
-            entry: link.entry,
-            user_reads: board.user_may(addr, Access::Read),
-            user_writes: board.user_may(addr, Access::Write),
-        }),
+/// An entry with the mappings that it makes.
+fn lead(board: &Board, addresses: &Addresses, link: Link) -> Lead {
+    let told = addresses.told(&link);
+    let mapping = |addr: &VirtAddr| Mapping {
+        addr: *addr,
+        entry: link.entry,
+        user_reads: board.user_may(*addr, Access::Read),
+        user_writes: board.user_may(*addr, Access::Write),
     };
-    Lead { link, mapping }
+    let mappings = match link.place {
+        Place::Table | Place::Outside => Vec::new(),
+        Place::Page | Place::LargePage => told.addrs.iter().map(mapping).collect(),
+    };
+    Lead { link, told, mappings }
 }
 
 /// The frames with what each holds.
-fn frames(board: &Board, leads: &[Lead]) -> Vec<FrameView> {
+fn frames(board: &Board, addresses: &Addresses, leads: &[Lead]) -> Vec<FrameView> {
     let mut purposes: BTreeMap<Frame, Vec<Purpose>> = BTreeMap::new();
     purposes.insert(board.root(), vec![Purpose::Root]);
+    let mut more = BTreeSet::new();
     for lead in leads {
-        for (frame, purpose) in purposes_of(board, lead) {
+        for (frame, purpose) in purposes_of(board, addresses, lead) {
             purposes.entry(frame).or_default().push(purpose);
+            more.extend(lead.told.more.then_some(frame));
         }
     }
     let view = |frame| {
         let mut purposes = purposes.remove(&frame).unwrap_or_default();
         purposes.sort_by_key(Purpose::rank);
         let words = board.table(frame).map_or(0, |table| words(&table).count());
-        FrameView { frame, marked: board.is_allocated(frame), purposes, words }
+        let more = more.contains(&frame);
+        FrameView { frame, marked: board.is_allocated(frame), purposes, more, words }
     };
     board.frames().map(view).collect()
 }
 
 /// The frames that an entry leads to, each with what it is reached as.
-fn purposes_of(board: &Board, lead: &Lead) -> Vec<(Frame, Purpose)> {
-    let Link { level, path, entry, place, .. } = &lead.link;
-    match (place, &lead.mapping) {
-        (Place::Table, _) => {
-            let table = Purpose::Table { level: level - 1, path: path.clone() };
-            vec![(entry.frame(), table)]
+fn purposes_of(board: &Board, addresses: &Addresses, lead: &Lead) -> Vec<(Frame, Purpose)> {
+    let Link { level, entry, place, .. } = &lead.link;
+    let table = |addr: &VirtAddr| {
+        let path = addresses.path(*addr, *level);
+        (entry.frame(), Purpose::Table { level: level - 1, path })
+    };
+    let page = |mapping: &Mapping| (entry.frame(), Purpose::Page(*mapping));
+    match place {
+        Place::Table => lead.told.addrs.iter().map(table).collect(),
+        Place::Page => lead.mappings.iter().map(page).collect(),
+        Place::LargePage => {
+            lead.mappings.iter().flat_map(|mapping| frames_of(board, *mapping)).collect()
         }
-        (Place::Page, Some(mapping)) => vec![(entry.frame(), Purpose::Page(*mapping))],
-        (Place::LargePage, Some(mapping)) => {
-            let page = |number: u64| mapping.addr.get().wrapping_add(number * PAGE);
-            let lies = |number| board.translate(VirtAddr::new(page(number))).ok();
-            let frames = (0..LARGE).filter_map(lies).map(PhysAddr::frame);
-            frames.map(|frame| (frame, Purpose::LargePage(*mapping))).collect()
-        }
-        _ => Vec::new(),
+        Place::Outside => Vec::new(),
     }
+}
+
+/// The frames of a large page.
+fn frames_of(board: &Board, mapping: Mapping) -> Vec<(Frame, Purpose)> {
+    let page = |number: u64| mapping.addr.get().wrapping_add(number * PAGE);
+    let lies = |number| board.translate(VirtAddr::new(page(number))).ok();
+    let frames = (0..LARGE).filter_map(lies).map(PhysAddr::frame);
+    frames.map(|frame| (frame, Purpose::LargePage(mapping))).collect()
 }
 
 /// The words of a table that are not 0, by their indices.

@@ -115,8 +115,10 @@ fn frame(view: &FrameView) -> Row {
     for (at, purpose) in view.purposes.iter().take(TOLD).enumerate() {
         holds = holds.words(if at == 0 { "" } else { "; " }).then(serves(purpose));
     }
-    if let Some(more @ 1..) = view.purposes.len().checked_sub(TOLD) {
-        holds = holds.words(format!("; and {more} more"));
+    match view.purposes.len().checked_sub(TOLD) {
+        _ if view.more => holds = holds.words("; and at other addresses"),
+        Some(more @ 1..) => holds = holds.words(format!("; and {more} more")),
+        _ => {}
     }
     if view.words > 0 && !view.is_table() {
         holds = holds.words(match view.words {
@@ -205,11 +207,12 @@ fn leads_to(model: &Model, word: &WordView) -> Cell {
         Some(lead) => lead,
         None => return Cell::of("nothing: not present"),
     };
+    let at = |cell: Cell| if lead.has_others() { cell.words(" and others") } else { cell };
     let names = match lead.link.place {
         Place::Table | Place::Outside => Cell::of("table ").hex(frame, 1),
-        Place::Page => Cell::of("page ").hex(lead.link.addr(), PAGE),
+        Place::Page => at(Cell::of("page ").hex(lead.addr(), PAGE)),
         Place::LargePage => {
-            let page = Cell::of("large page ").hex(lead.link.addr(), 0);
+            let page = at(Cell::of("large page ").hex(lead.addr(), 0));
             return page.words(", frames from ").hex(frame, 0).words(" on");
         }
     };
@@ -218,7 +221,7 @@ fn leads_to(model: &Model, word: &WordView) -> Cell {
         Some(frame) if !frame.marked => ", whose frame is free",
         Some(_) => "",
     });
-    match (lead.link.place, &lead.mapping) {
+    match (lead.link.place, lead.mappings.first()) {
         (Place::Page, Some(mapping)) => names.words(less(mapping)),
         _ => names,
     }

@@ -100,8 +100,8 @@ struct Layout<'a> {
 struct Column {
     /// Where its next block may begin.
     end: usize,
-    /// How many blocks there was no room for.
-    left_out: usize,
+    /// How many tables or pages its blocks stand for.
+    drawn: usize,
 }
 
 impl Tree {
@@ -152,8 +152,8 @@ impl Layout<'_> {
         // The first row stands beside what it leads to.
         let beside = below.first().copied().flatten().and_then(|first| self.blocks.get(first));
         let y = beside.map_or(top, |first| top.max(first.y.saturating_sub(LINE)));
-        let block =
-            self.place(column, Kind::Table, label::table(model, table, &rows, MOST_ROWS), y);
+        let text = label::table(model, table, &rows, MOST_ROWS);
+        let block = self.place(column, Kind::Table, text, y, 1);
         let ends = below.iter().zip(1..).filter_map(|(end, row)| Some((row, (*end)?)));
         self.lines.extend(ends.map(|(row, end)| (block, row, end)));
         Some(block)
@@ -161,47 +161,64 @@ impl Layout<'_> {
 
     /// Draws what a run of entries leads to.
     fn below(&mut self, column: usize, run: &[WordView], top: usize) -> Option<usize> {
-        let (model, link) = (self.model, &run.first()?.lead.as_ref()?.link);
+        let (model, lead) = (self.model, run.first()?.lead.as_ref()?);
+        let link = &lead.link;
         let (kind, text) = match link.place {
             Place::Table => return self.table(link.level - 1, link.entry.frame(), top),
-            Place::LargePage => (Kind::LargePage, label::large_page(model, link)),
-            Place::Outside => (Kind::Outside, label::outside(link)),
+            Place::LargePage => (Kind::LargePage, label::large_page(model, lead)),
+            Place::Outside => (Kind::Outside, label::outside(lead)),
             Place::Page => {
                 let here = model.frame(link.entry.frame()).is_some();
                 let kind = if here { Kind::Page } else { Kind::Outside };
-                (kind, label::pages(model, link, run.len()))
+                (kind, label::pages(model, lead, run.len()))
             }
         };
         let end = self.room(column)?;
-        Some(self.place(column, kind, text, end.max(top)))
+        Some(self.place(column, kind, text, end.max(top), run.len()))
     }
 
     /// Where a column's next block may begin; nothing if the column is full.
-    fn room(&mut self, column: usize) -> Option<usize> {
-        let column = self.columns.get_mut(column)?;
-        let has_room = column.end < FULL;
-        column.left_out += usize::from(!has_room);
-        has_room.then_some(column.end)
+    fn room(&self, column: usize) -> Option<usize> {
+        let end = self.columns.get(column)?.end;
+        (end < FULL).then_some(end)
     }
 
-    /// Puts a block into a column.
-    fn place(&mut self, column: usize, kind: Kind, text: Vec<String>, y: usize) -> usize {
+    /// Puts a block that stands for so many tables or pages into a column.
+    fn place(
+        &mut self,
+        column: usize,
+        kind: Kind,
+        text: Vec<String>,
+        y: usize,
+        count: usize,
+    ) -> usize {
         let block = Block { kind, text, column, x: 0, y, width: 0 };
         if let Some(column) = self.columns.get_mut(column) {
             column.end = y + block.height() + BETWEEN_BLOCKS;
+            column.drawn += count;
         }
         self.blocks.push(block);
         self.blocks.len() - 1
     }
 
-    /// Says below each column how many blocks there was no room for.
+    /// Says below each column how many tables or pages of its level are not drawn, for want of room there or before.
     fn tell_left_out(&mut self) {
-        for at in 0..self.columns.len() {
-            let Column { left_out, end, .. } = self.columns[at];
+        for (at, level) in (0..self.columns.len()).zip((0..=self.model.levels).rev()) {
+            let Column { drawn, end } = self.columns[at];
+            let left_out = self.all(level).saturating_sub(drawn);
             if left_out > 0 {
-                self.place(at, Kind::More, vec![format!("and {left_out} more")], end);
+                self.place(at, Kind::More, vec![format!("and {left_out} more")], end, 0);
             }
         }
+    }
+
+    /// How many tables of a level there are, and on level 0 pages, with what else the entries above it lead to.
+    fn all(&self, level: u64) -> usize {
+        let tables = self.model.tables.iter().filter(|table| table.level == level).count();
+        let above = self.model.tables.iter().filter(|table| table.level == level + 1);
+        let leads =
+            above.flat_map(|table| table.words.iter().filter_map(|word| word.lead.as_ref()));
+        tables + leads.filter(|lead| lead.link.place != Place::Table).count()
     }
 
     /// Gives each column its place.
@@ -232,11 +249,13 @@ impl Layout<'_> {
 fn word_follows(model: &Model, word: &WordView, first: &WordView, behind: u64) -> bool {
     let looks = |word: &WordView| {
         let (lead, frame) = (word.lead.as_ref()?, word.entry.frame());
-        let looks = (model.frame(frame).is_some(), label::note(model, frame));
+        let looks = (model.frame(frame).is_some(), label::note(model, frame), lead.has_others());
         (lead.link.place == Place::Page).then_some(looks)
     };
+    let addr = |word: &WordView| word.lead.as_ref().map(|lead| lead.addr().get());
     looks(first).is_some()
         && looks(first) == looks(word)
         && word.index == first.index + behind
         && word.entry.word() == first.entry.word().wrapping_add(behind * PAGE)
+        && addr(word) == addr(first).map(|addr| addr.wrapping_add(behind * PAGE))
 }

@@ -96,7 +96,7 @@ fn explained(options: &Options) -> Checked {
             }
         }
     }
-    // 10 no paper can lead to, and 19 only one with tables outside the board.
+    // 10 no paper leads to, and 20 needs 256 regions or marked pages.
     let wanted = Refusal::ALL.len() - 4;
     holds(seen.len() >= wanted, &format!("{wanted} refusals, seen {seen:?}"))?;
     Ok(2 * options.amount)

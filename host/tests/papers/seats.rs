@@ -203,7 +203,9 @@ fn key_tells(room: &Room, paper: &Paper, end: &Board) -> Result<(), String> {
     let releases = of_seat.len() - calls - 1;
     let met = ["2 0 0000000000000000", "4 0 0000000000000000"];
     holds(of_seat[calls..calls + releases].iter().all(|line| met.contains(line)), "met releases")?;
-    equal(lines.get(calls).copied(), Some(&*format!("releases {releases}, each answers 0")))?;
+    let vfrees = of_seat[calls..calls + releases].iter().filter(|line| **line == met[0]).count();
+    let line = format!("releases {releases}: vfree {vfrees}, munmap {}", releases - vfrees);
+    equal(lines.get(calls).copied(), Some(&*line))?;
     let frames = format!("frames {}", end.allocated_frames());
     equal(lines.get(calls + 1).copied(), Some(&*frames))?;
     equal(of_seat.last().copied(), Some(&*frames))
@@ -386,6 +388,7 @@ fn wrong() -> Result<(), String> {
     seats(FIVE, &["--seats", "0"]).failed_with(&["--seats"])?;
     seats(FIVE, &["--seats", "1000001"]).failed_with(&["1000000"])?;
     seats(FIVE, &["--seats", "2", "--only", "some"]).failed_with(&["text, tape or key"])?;
+    seats(FIVE, &["--seats", "2", "--out", "-"]).failed_with(&["--out needs a folder"])?;
     seats(FIVE, &["--seats", "2", "--seed", "x"]).failed_with(&["--seed"])?;
     seats(FIVE, &["--seats", "2", "more"]).failed_with(&["`more`"])?;
     Ok(())

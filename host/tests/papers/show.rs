@@ -1,5 +1,7 @@
 //! `paper show`: JSON, picture and page are well-formed and hold what the board holds.
 
+mod examples;
+
 use crate::draw::{pick, some_calls};
 use crate::json::Json;
 use crate::options::Options;
@@ -19,6 +21,9 @@ pub fn check(options: &Options, room: &Room, report: &mut Report) {
     report.tell("show: the picture holds each table and each present entry", svg(options));
     report.tell("show: the page is well-formed and steps to each board", html(options));
     report.tell("show: the text holds each word, region and frame", written(options));
+    report.check("show: addresses as the regions have them", examples::addresses());
+    report.check("show: what lies below a shared table has several addresses", examples::shared());
+    report.check("show: a picture says how much it leaves out", examples::left_out());
     report.check("show: a malformed tape", malformed());
     report.check("show: names are no markup", markup(room));
     report.check("show: wrong command lines", wrong());
@@ -83,14 +88,22 @@ fn links(options: &Options) -> Checked {
             equal_at(inside, board.translate(inside).map(|phys| phys.frame()), Ok(*frame))?;
         }
         told += pages.len() as u64;
-        if !paper.contains("map") || paper.lines().all(|line| !line.contains("_")) {
+        // The bits above the top index are ignored.
+        let low = |addr: VirtAddr| addr.get() % (1 << (12 + 9 * board.levels().get()));
+        if kinds(&paper)?.is_subset(&(1..=6).collect()) {
             for page in live_pages(&board) {
-                let is_told = pages.iter().any(|(addr, _)| *addr == page);
+                let is_told = pages.iter().any(|(addr, _)| low(*addr) == low(page));
                 holds(is_told, &format!("{page} told, in {paper}"))?;
             }
         }
     }
     Ok(told)
+}
+
+/// The kinds of a paper's calls. Those up to 6 leave the pages of live regions mapped.
+fn kinds(text: &str) -> Result<BTreeSet<u8>, String> {
+    let paper = text::parse(text.as_bytes()).map_err(|mistakes| format!("{mistakes:?}"))?;
+    Ok(paper.calls.iter().map(calls::Call::kind).collect())
 }
 
 /// The pages of live regions.
@@ -185,12 +198,38 @@ fn holds_frames(json: &Json, board: &Board) -> Result<(), String> {
         equal_at(frame, json.truth("marked")?, board.is_allocated(frame))?;
         for purpose in json.list("holds")? {
             if purpose.text("kind")? == "page" {
-                told.insert((VirtAddr::new(purpose.number("addr")?), frame));
+                let addr = VirtAddr::new(purpose.number("addr")?);
+                equal_at(addr, board.translate(addr), Ok(frame.start()))?;
+                told.insert((addr, frame));
             }
         }
     }
+    let some_more = frames.iter().any(|frame| frame.get("more").is_ok());
+    holds_pages(&told, board, some_more)
+}
+
+/// That the pages told are the board's: each that can be reached, and where a region has it, as a region has it.
+fn holds_pages(
+    told: &BTreeSet<(VirtAddr, Frame)>,
+    board: &Board,
+    some_more: bool,
+) -> Result<(), String> {
+    let low = |addr: VirtAddr| addr.get() % (1 << (12 + 9 * board.levels().get()));
+    let told_low: BTreeMap<u64, VirtAddr> =
+        told.iter().map(|(addr, _)| (low(*addr), *addr)).collect();
+    equal(told_low.len(), told.len())?;
+    let live: BTreeSet<VirtAddr> = live_pages(board).into_iter().collect();
+    let large = board.links().iter().any(|link| link.place == Place::LargePage);
+    for page in live.iter().filter(|_| !large && !some_more) {
+        let here = board.translate(*page).map_or(false, |phys| board.table(phys.frame()).is_some());
+        let is_told = told_low.get(&low(*page)).map_or(false, |told| live.contains(told));
+        holds(is_told || !here, &format!("{page} told as a region has it"))?;
+    }
     let here = |(_, frame): &(VirtAddr, Frame)| board.table(*frame).is_some();
-    equal(told, pages(board).into_iter().filter(here).collect())
+    for (addr, _) in pages(board).into_iter().filter(here) {
+        holds(some_more || told_low.contains_key(&low(addr)), &format!("{addr} told"))?;
+    }
+    Ok(())
 }
 
 /// A number behind 0x.
