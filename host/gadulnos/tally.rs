@@ -1,6 +1,6 @@
 //! What giving frames back found.
 
-use crate::raw::Found;
+use crate::raw::{Found, TallyNumbers};
 use std::fmt::{self, Display, Formatter};
 
 /// Of how many frames it was found that they were freed, were free already, and are not on this board: one frame for
@@ -31,6 +31,13 @@ impl Tally {
     /// ```
     pub const fn pages(&self) -> u64 {
         self.freed + self.already_free + self.not_here
+    }
+}
+
+/// From the three numbers, in the order of [`Finding`](crate::Finding).
+impl From<TallyNumbers> for Tally {
+    fn from([freed, already_free, not_here]: TallyNumbers) -> Tally {
+        Tally { freed, already_free, not_here }
     }
 }
 

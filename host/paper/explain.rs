@@ -2,6 +2,7 @@
 
 mod refused;
 
+use crate::words::counted;
 use calls::Call;
 use gadulnos::raw::{Finding, Line, Told};
 use gadulnos::{FaultCode, Prot, Refusal, Tally, VirtAddr};
@@ -10,19 +11,13 @@ use gadulnos::{FaultCode, Prot, Refusal, Tally, VirtAddr};
 pub fn told(call: &Call, told: &Told) -> String {
     let Line { number, value } = told.line;
     match Refusal::of(number) {
-        None if number == 0 => met(call, value, &tally(told)),
+        None if number == 0 => met(call, value, &told.tally.into()),
         None => format!("refused, {number}: no call answers this number"),
         Some(refusal) => {
             let reason = refused::reason(call, refusal);
             format!("refused, {number} {}: {reason}", refusal.name())
         }
     }
-}
-
-/// What was found of frames that were given back.
-fn tally(told: &Told) -> Tally {
-    let [freed, already_free, not_here] = told.tally;
-    Tally { freed, already_free, not_here }
 }
 
 /// What a met call's value means, or what it found.
@@ -48,7 +43,7 @@ fn met(call: &Call, value: u64, found: &Tally) -> String {
         Call::DeallocateFrame { .. } => freed(value),
         Call::MarkAllocated { frame } => format!("frame {frame:#x} marked, if it is on this board"),
         Call::Mprotect { prot, .. } => format!("protection is {} now", Prot::from_bits(prot)),
-        Call::Counts => format!("{} marked", frames(value)),
+        Call::Counts => format!("{} marked", counted(value, "frame")),
         Call::IsCow { .. }
         | Call::IsAllocated { .. }
         | Call::IsVmallocAddr { .. }
@@ -83,8 +78,8 @@ fn served(addr: u64, code: u64, found: &Tally) -> String {
 fn given_back(found: &Tally) -> String {
     match found.pages() {
         0 => "no frame freed: no page was mapped".to_string(),
-        pages if pages == found.freed => format!("{} freed", frames(pages)),
-        pages => format!("{}: {found}", frames(pages)),
+        pages if pages == found.freed => format!("{} freed", counted(pages, "frame")),
+        pages => format!("{}: {found}", counted(pages, "frame")),
     }
 }
 
@@ -97,10 +92,6 @@ fn freed(value: u64) -> String {
         None => "no answer that is known",
     };
     words.to_string()
-}
-
-fn frames(count: u64) -> String {
-    format!("{count} frame{}", if count == 1 { "" } else { "s" })
 }
 
 /// The page that an address lies in.

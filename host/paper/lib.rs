@@ -18,6 +18,7 @@ mod source;
 mod system;
 mod translate;
 mod trouble;
+mod words;
 
 pub use console::Console;
 pub use options::{Choice, Options, Verb};

@@ -6,6 +6,7 @@ mod wanted;
 
 use crate::key::KeyLine;
 use crate::options::{usage, Choice, Options, Verb, BOARD, PAPER};
+use crate::words::counted;
 use crate::{explain, source, Console, Source, Status, Trouble};
 use align::{Band, Step};
 use answers::Written;
@@ -152,7 +153,7 @@ impl<'a> Marking<'a> {
         if missing > 0 {
             writeln!(console.output(), "missing, {missing} of the releases: nothing is written")?;
         }
-        counted(wanted, found, console)
+        miscounted(wanted, found, console)
     }
 
     /// Goes through the lines at the end. Those of the sheet that come before one are surplus; one that comes behind it
@@ -320,11 +321,11 @@ fn no_release(
 }
 
 /// The kinds of which not as many releases are written as the key has.
-fn counted(wanted: [usize; 2], found: [usize; 2], console: &mut Console) -> Result<(), Trouble> {
+fn miscounted(wanted: [usize; 2], found: [usize; 2], console: &mut Console) -> Result<(), Trouble> {
     for ((name, _), (wanted, found)) in RELEASES.iter().zip(wanted.iter().zip(found)) {
         if *wanted != found {
-            let plural = if found == 1 { "" } else { "s" };
-            writeln!(console.output(), "{found} {name}{plural} where the key has {wanted}")?;
+            let found = counted(found as u64, name);
+            writeln!(console.output(), "{found} where the key has {wanted}")?;
         }
     }
     Ok(())

@@ -11,6 +11,7 @@ pub use order::Live;
 
 use crate::options::{usage, Choice, Options, Verb, BOARD, PAPER};
 use crate::source::{kinds, offset};
+use crate::words::counted;
 use crate::{Console, Progress, Source, Status, Trouble};
 use calls::Call;
 use check::OneKey;
@@ -248,11 +249,6 @@ fn tell(seats: u64, orders: &Orders, one: &OneKey, console: &mut Console) -> Res
         writeln!(console.output(), "still mapped at the end: {}", counted(left, "page"))?;
     }
     Ok(())
-}
-
-/// So many of something.
-pub fn counted(count: u64, what: &str) -> String {
-    format!("{count} {what}{}", if count == 1 { "" } else { "s" })
 }
 
 /// The name of a seat's files, without the ending.

@@ -2,7 +2,8 @@
 
 use super::wish::{Wish, SLOTS};
 use crate::seats::theorem::{self, Outside};
-use crate::seats::{counted, Live};
+use crate::seats::Live;
+use crate::words::counted;
 use crate::{Console, Progress, Trouble};
 use calls::{Call, Random};
 use gadulnos::raw::Told;

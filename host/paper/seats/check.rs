@@ -76,10 +76,7 @@ impl<'a> OneKey<'a> {
 
 /// The words for a release that tells something else than it should.
 fn answers(told: &Told, wanted: Option<&Told>) -> String {
-    let tally = |told: &Told| {
-        let [freed, already_free, not_here] = told.tally;
-        Tally { freed, already_free, not_here }
-    };
+    let tally = |told: &Told| Tally::from(told.tally);
     match (Refusal::of(told.line.number), wanted) {
         (Some(why), _) => format!("is refused with {why}"),
         (None, Some(wanted)) => {

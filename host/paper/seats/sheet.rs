@@ -1,9 +1,9 @@
 //! What is written for the seats: their papers, the one key, the list of orders.
 
 use super::check::OneKey;
-use super::counted;
 use super::order::{Orders, Release};
 use crate::key::KeyLine;
+use crate::words::counted;
 use crate::{explain, show};
 use calls::tape;
 use calls::text::{self, Paper, Setting};

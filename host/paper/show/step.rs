@@ -1,6 +1,7 @@
 //! The calls of a paper, one by one, with what each told.
 
 use crate::key::KeyLine;
+use crate::words::counted;
 use crate::{explain, Played, Trouble};
 use calls::text::{self, Paper};
 use calls::Call;
@@ -67,7 +68,7 @@ impl Step {
     /// As in `call 2 of 4`.
     pub fn place(&self) -> String {
         match self.number {
-            0 => format!("the fresh board, {} to come", calls_in_words(self.of)),
+            0 => format!("the fresh board, {} to come", counted(self.of as u64, "call")),
             number => format!("call {number} of {}", self.of),
         }
     }
@@ -79,11 +80,6 @@ impl Step {
             Some(made) => format!("{}: {}", self.place(), made.text()),
         }
     }
-}
-
-/// As in `1 call`.
-fn calls_in_words(number: usize) -> String {
-    format!("{number} call{}", if number == 1 { "" } else { "s" })
 }
 
 impl Made {
@@ -109,9 +105,8 @@ impl Made {
 
     /// What a met call that gives frames back found of them.
     pub fn found(&self) -> Option<Tally> {
-        let [freed, already_free, not_here] = self.told.tally;
         let gives =
             matches!(self.call, Call::Vfree { .. } | Call::Munmap { .. } | Call::Fault { .. });
-        (gives && !self.is_refused()).then_some(Tally { freed, already_free, not_here })
+        (gives && !self.is_refused()).then_some(self.told.tally.into())
     }
 }
