@@ -34,17 +34,27 @@ papers() {
     flock "$room/papers.lock" target/host/papers "$@"
 }
 
-# The examples in the comments of crate gadulnos, each compiled and run by rustdoc, where that is installed.
+# The examples in the comments of crates calls and gadulnos, each compiled and run by rustdoc, where that is installed.
 documented() {
-    local told
+    local crate told passed=0 failed=0
     if ! rustdoc --version >/dev/null 2>&1; then
         echo "rustdoc is not installed: the examples in comments are passed over"
         echo "0 passed, 0 failed"
         return
     fi
-    told=$(rustdoc --test --edition 2021 --crate-name gadulnos -L target/host/oracle -L native=target/staticlib \
-        --extern calls=target/host/oracle/libcalls.rlib host/gadulnos/lib.rs 2>&1) || echo "$told"
-    sed -n -E 's/^test result: .* ([0-9]+) passed; ([0-9]+) failed.*/\1 passed, \2 failed/p' <<<"$told"
+    for crate in calls gadulnos; do
+        told=$(rustdoc --test --edition 2021 --crate-name $crate -L target/host/oracle -L native=target/staticlib \
+            --extern calls=target/host/oracle/libcalls.rlib host/$crate/lib.rs 2>&1) || echo "$told"
+        if [[ $told =~ ([0-9]+)\ passed\;\ ([0-9]+)\ failed ]]; then
+            echo "ok examples in the comments of $crate (${BASH_REMATCH[1]})"
+            passed=$((passed + BASH_REMATCH[1]))
+            failed=$((failed + BASH_REMATCH[2]))
+        else
+            echo "FAILED examples in the comments of $crate: no counts"
+            failed=$((failed + 1))
+        fi
+    done
+    echo "$passed passed, $failed failed"
 }
 
 # The example in C prints what stands beside it, and ./paper, which finds all built, document 01's key.

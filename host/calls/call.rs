@@ -50,11 +50,19 @@ pub enum Call {
 }
 
 /// Bit 0 of a map call's flags.
+///
+/// ```
+/// assert!(calls::writable(1) && !calls::writable(2));
+/// ```
 pub fn writable(flags: u8) -> bool {
     flags & 1 != 0
 }
 
 /// Bit 1 of a map call's flags.
+///
+/// ```
+/// assert!(calls::user(2) && !calls::user(1));
+/// ```
 pub fn user(flags: u8) -> bool {
     flags & 2 != 0
 }
@@ -97,6 +105,11 @@ const SHAPES: [Shape; 21] = [
 
 impl Shape {
     /// The shape of a kind, if there is such a kind.
+    ///
+    /// ```
+    /// assert_eq!(calls::Shape::of(6).map(|shape| shape.name), Some("translate"));
+    /// assert!(calls::Shape::of(22).is_none());
+    /// ```
     pub fn of(kind: u8) -> Option<&'static Shape> {
         SHAPES.get(usize::from(kind).checked_sub(1)?)
     }
@@ -104,6 +117,10 @@ impl Shape {
 
 impl Call {
     /// The tape's kind byte.
+    ///
+    /// ```
+    /// assert_eq!(calls::Call::Vmalloc { size: 1 }.kind(), 1);
+    /// ```
     pub fn kind(&self) -> u8 {
         match self {
             Call::Vmalloc { .. } => 1,
@@ -131,11 +148,20 @@ impl Call {
     }
 
     /// Its shape.
+    ///
+    /// ```
+    /// assert_eq!(calls::Call::Vmalloc { size: 1 }.shape().name, "vmalloc");
+    /// ```
     pub fn shape(&self) -> &'static Shape {
         Shape::of(self.kind()).expect("every call has a shape")
     }
 
     /// The fields in tape order, signed ones by their two's-complement bits.
+    ///
+    /// ```
+    /// let call = calls::Call::Munmap { addr: 0x1000, size: 1 };
+    /// assert_eq!(call.fields(), [0x1000, 1]);
+    /// ```
     pub fn fields(&self) -> Vec<u64> {
         let signed = |value: i32| u64::from(value as u32);
         match *self {
@@ -164,6 +190,13 @@ impl Call {
     }
 
     /// The call of a kind with these fields, if it has such: a truth value is 0 or 1.
+    ///
+    /// ```
+    /// use calls::Call;
+    ///
+    /// assert_eq!(Call::from_fields(1, &[5]), Some(Call::Vmalloc { size: 5 }));
+    /// assert_eq!(Call::from_fields(1, &[]), None);
+    /// ```
     pub fn from_fields(kind: u8, fields: &[u64]) -> Option<Call> {
         let truth = |value: u64| (value < 2).then_some(value == 1);
         Some(match (kind, fields) {

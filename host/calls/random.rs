@@ -6,6 +6,10 @@ pub struct Random(u64);
 
 impl Random {
     /// Any number is a seed.
+    ///
+    /// ```
+    /// assert_eq!(calls::Random::new(7).word(), calls::Random::new(7).word());
+    /// ```
     pub fn new(seed: u64) -> Random {
         Random(seed)
     }
@@ -20,6 +24,10 @@ impl Random {
     }
 
     /// A number below `end`, 0 if `end` is 0.
+    ///
+    /// ```
+    /// assert!(calls::Random::new(7).below(10) < 10);
+    /// ```
     pub fn below(&mut self, end: u64) -> u64 {
         ((u128::from(self.word()) * u128::from(end)) >> 64) as u64
     }

@@ -19,6 +19,13 @@ pub struct Tape {
 }
 
 /// Reads a tape of kinds 1 to `kinds`.
+///
+/// ```
+/// use calls::{tape, Call};
+///
+/// let tape = tape::parse(&[2, 0, 0, 0, 0, 0, 0, 0, 0, 7], tape::KINDS);
+/// assert_eq!((tape.calls, tape.broken), (vec![Call::Vfree { addr: 0 }], Some(9)));
+/// ```
 pub fn parse(bytes: &[u8], kinds: u8) -> Tape {
     let mut calls = Vec::new();
     let mut at = 0;
@@ -52,6 +59,13 @@ fn parse_call(bytes: &[u8], kinds: u8) -> Option<(Call, usize)> {
 }
 
 /// The bytes of a tape.
+///
+/// ```
+/// use calls::{tape, Call};
+///
+/// let bytes = tape::serialise(&[Call::Vmalloc { size: 1 }]);
+/// assert_eq!(bytes, [1, 1, 0, 0, 0, 0, 0, 0, 0]);
+/// ```
 pub fn serialise(calls: &[Call]) -> Vec<u8> {
     let mut bytes = Vec::new();
     for call in calls {
@@ -64,6 +78,10 @@ pub fn serialise(calls: &[Call]) -> Vec<u8> {
 }
 
 /// Bytes as pairs of lower-case hexadecimal digits.
+///
+/// ```
+/// assert_eq!(calls::tape::hex(&[1, 255]), "01ff");
+/// ```
 pub fn hex(bytes: &[u8]) -> String {
     bytes.iter().map(|byte| format!("{byte:02x}")).collect()
 }

@@ -91,6 +91,11 @@ pub fn parse_call(line: &str) -> Result<Call, Mistake> {
 }
 
 /// The text of a paper: `parse` gives its board, calls and rest again.
+///
+/// ```
+/// let paper = calls::text::parse(b"VMALLOC 0x1388").unwrap();
+/// assert_eq!(calls::text::print(&paper), "vmalloc 5000\n");
+/// ```
 pub fn print(paper: &Paper) -> String {
     write::paper(paper)
 }

@@ -12,11 +12,21 @@ macro_rules! number {
 
         impl $name {
             /// Any number is one.
+            ///
+            /// ```
+            #[doc = concat!("# use gadulnos::", stringify!($name), ";")]
+            #[doc = concat!("assert_eq!(", stringify!($name), "::new(7).get(), 7);")]
+            /// ```
             pub const fn new(number: u64) -> $name {
                 $name(number)
             }
 
             /// The number.
+            ///
+            /// ```
+            #[doc = concat!("# use gadulnos::", stringify!($name), ";")]
+            #[doc = concat!("assert_eq!(", stringify!($name), "::from(7).get(), 7);")]
+            /// ```
             pub const fn get(self) -> u64 {
                 self.0
             }

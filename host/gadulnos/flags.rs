@@ -20,21 +20,42 @@ macro_rules! bits {
             pub const NAMED: &'static [($name, &'static str)] = &[$(($name::$bit, $word),)*];
 
             /// No bit.
+            ///
+            /// ```
+            #[doc = concat!("# use gadulnos::", stringify!($name), ";")]
+            #[doc = concat!("assert_eq!(", stringify!($name), "::none().bits(), 0);")]
+            /// ```
             pub const fn none() -> $name {
                 $name(0)
             }
 
             /// Any bits.
+            ///
+            /// ```
+            #[doc = concat!("# use gadulnos::", stringify!($name), ";")]
+            #[doc = concat!("assert_eq!(", stringify!($name), "::from_bits(0x44).bits(), 0x44);")]
+            /// ```
             pub const fn from_bits(bits: $repr) -> $name {
                 $name(bits)
             }
 
             /// All its bits.
+            ///
+            /// ```
+            #[doc = concat!("# use gadulnos::", stringify!($name), ";")]
+            #[doc = concat!("assert_eq!(", stringify!($name), "::from_bits(3).bits(), 3);")]
+            /// ```
             pub const fn bits(self) -> $repr {
                 self.0
             }
 
             /// Whether it has every bit of another.
+            ///
+            /// ```
+            #[doc = concat!("# use gadulnos::", stringify!($name), ";")]
+            #[doc = concat!("assert!(", stringify!($name), "::from_bits(3).has(", stringify!($name), "::from_bits(2)));")]
+            #[doc = concat!("assert!(!", stringify!($name), "::from_bits(1).has(", stringify!($name), "::from_bits(2)));")]
+            /// ```
             pub const fn has(self, other: $name) -> bool {
                 self.0 & other.0 == other.0
             }

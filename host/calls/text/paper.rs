@@ -30,6 +30,11 @@ pub struct Setting {
 impl Paper {
     /// The paper of a tape whose calls have kinds 1 to `kinds`. What stands from the first call on that cannot be
     /// read is the rest.
+    ///
+    /// ```
+    /// let paper = calls::Paper::of_tape(&[6, 0], 6);
+    /// assert_eq!((paper.calls.len(), paper.rest), (0, vec![6, 0]));
+    /// ```
     pub fn of_tape(bytes: &[u8], kinds: u8) -> Paper {
         let tape = tape::parse(bytes, kinds);
         let rest = tape.broken.and_then(|at| bytes.get(at..)).unwrap_or_default();
@@ -43,6 +48,12 @@ impl Paper {
     /// assert_eq!(paper.to_tape(calls::tape::KINDS), Err(1));
     /// let tape = paper.to_tape(calls::tape::WIDE_KINDS).unwrap();
     /// assert_eq!(calls::Paper::of_tape(&tape, calls::tape::WIDE_KINDS).calls, paper.calls);
+    /// ```
+    ///
+    /// ```
+    /// let paper = calls::text::parse(b"allocate_frame").unwrap();
+    /// assert_eq!(paper.to_tape(21), Ok(vec![14]));
+    /// assert_eq!(paper.to_tape(6), Err(0));
     /// ```
     pub fn to_tape(&self, kinds: u8) -> Result<Vec<u8>, usize> {
         match self.calls.iter().position(|call| call.kind() > kinds) {

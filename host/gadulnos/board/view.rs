@@ -38,16 +38,42 @@ pub struct Table<'a> {
 
 impl Table<'_> {
     /// The frame that it is.
+    ///
+    /// ```
+    /// # use gadulnos::*;
+    /// # let board = Board::start(PhysAddr::new(0x10_0000), PhysAddr::new(0x11_0000), Levels::Four)?;
+    /// let table = board.table(board.root()).expect("the root is on the board");
+    /// assert_eq!(table.frame(), board.root());
+    /// # Ok::<(), Refusal>(())
+    /// ```
     pub fn frame(&self) -> Frame {
         self.frame
     }
 
     /// The entry at an index; nothing from 512 on.
+    ///
+    /// ```
+    /// # use gadulnos::*;
+    /// # let board = Board::start(PhysAddr::new(0x10_0000), PhysAddr::new(0x11_0000), Levels::Four)?;
+    /// let table = board.table(board.root()).expect("the root is on the board");
+    /// assert_eq!((table.entry(0), table.entry(512)), (Some(Entry::new(0)), None));
+    /// # Ok::<(), Refusal>(())
+    /// ```
     pub fn entry(&self, index: usize) -> Option<Entry> {
         self.words.get(index).copied().map(Entry::new)
     }
 
     /// All entries by their indices.
+    ///
+    /// ```
+    /// # use gadulnos::*;
+    /// # let mut board = Board::start(PhysAddr::new(0x10_0000), PhysAddr::new(0x11_0000), Levels::Four)?;
+    /// board.vmalloc(1)?;
+    /// let table = board.table(board.root()).expect("the root is on the board");
+    /// let present = table.entries().filter(|(_, entry)| entry.is_present());
+    /// assert_eq!(present.map(|(index, _)| index).collect::<Vec<_>>(), [511]);
+    /// # Ok::<(), Refusal>(())
+    /// ```
     pub fn entries(&self) -> impl Iterator<Item = (usize, Entry)> + '_ {
         self.words.iter().copied().map(Entry::new).enumerate()
     }
@@ -91,11 +117,27 @@ pub struct Link {
 
 impl Link {
     /// Its index in its table.
+    ///
+    /// ```
+    /// # use gadulnos::*;
+    /// # let mut board = Board::start(PhysAddr::new(0x10_0000), PhysAddr::new(0x11_0000), Levels::Four)?;
+    /// board.vmalloc(1)?;
+    /// assert_eq!(board.links()[0].index(), 511);
+    /// # Ok::<(), Refusal>(())
+    /// ```
     pub fn index(&self) -> u64 {
         self.path.last().copied().unwrap_or_default()
     }
 
     /// The lowest address that leads through it. What lies above the top index repeats its highest bit.
+    ///
+    /// ```
+    /// # use gadulnos::*;
+    /// # let mut board = Board::start(PhysAddr::new(0x10_0000), PhysAddr::new(0x11_0000), Levels::Four)?;
+    /// let region = board.vmalloc(1)?;
+    /// assert_eq!(board.links()[3].addr(), region);
+    /// # Ok::<(), Refusal>(())
+    /// ```
     pub fn addr(&self) -> VirtAddr {
         let levels = self.level + self.path.len() as u64 - 1;
         let bits = self.path.iter().fold(0, |bits: u64, index| bits << 9 | index);

@@ -20,6 +20,11 @@ impl Finding {
     pub const ALL: [Finding; 3] = [Finding::Freed, Finding::AlreadyFree, Finding::NotHere];
 
     /// What a number stands for.
+    ///
+    /// ```
+    /// # use gadulnos::raw::*;
+    /// assert_eq!((Finding::of(2), Finding::of(3)), (Some(Finding::NotHere), None));
+    /// ```
     pub fn of(number: u64) -> Option<Finding> {
         Finding::ALL.into_iter().find(|finding| *finding as u64 == number)
     }
@@ -52,26 +57,51 @@ pub struct Found {
 
 impl Found {
     /// A met call's.
+    ///
+    /// ```
+    /// # use gadulnos::raw::*;
+    /// assert_eq!(Found::met(2, 0, 1).freed, 2);
+    /// ```
     pub const fn met(freed: u64, already_free: u64, not_here: u64) -> Found {
         Found { number: 0, freed, already_free, not_here }
     }
 
     /// A refused call's.
+    ///
+    /// ```
+    /// # use gadulnos::raw::*;
+    /// assert_eq!(Found::refused(16).number, 16);
+    /// ```
     pub const fn refused(number: u64) -> Found {
         Found { number, freed: 0, already_free: 0, not_here: 0 }
     }
 
     /// The call's line in a key: it has no value.
+    ///
+    /// ```
+    /// # use gadulnos::raw::*;
+    /// assert_eq!(Found::met(2, 0, 1).line(), Line::met(0));
+    /// ```
     pub const fn line(&self) -> Line {
         Line { number: self.number, value: 0 }
     }
 
     /// The three numbers, in the order of `Finding`.
+    ///
+    /// ```
+    /// # use gadulnos::raw::*;
+    /// assert_eq!(Found::met(2, 0, 1).tally(), [2, 0, 1]);
+    /// ```
     pub const fn tally(&self) -> [u64; 3] {
         [self.freed, self.already_free, self.not_here]
     }
 
     /// How many pages were unmapped, the temporary page of a copy aside.
+    ///
+    /// ```
+    /// # use gadulnos::raw::*;
+    /// assert_eq!(Found::met(2, 0, 1).sum(), 3);
+    /// ```
     pub const fn sum(&self) -> u64 {
         self.freed + self.already_free + self.not_here
     }

@@ -103,11 +103,25 @@ impl Frames {
     pub const BYTES: usize = 32;
 
     /// Its bytes.
+    ///
+    /// ```
+    /// # use gadulnos::raw::*;
+    /// # let mut p = Parts::lend(16);
+    /// # p.start(0x10_0000, 0x11_0000);
+    /// let record = Frames::unpack(&p.fields).expect("a record");
+    /// assert_eq!(record.pack(), p.fields);
+    /// ```
     pub fn pack(&self) -> Vec<u8> {
         pack_words([self.start_frame, self.total, self.allocated, self.levels])
     }
 
     /// The record that bytes stand for.
+    ///
+    /// ```
+    /// # use gadulnos::raw::*;
+    /// assert!(Frames::unpack(&[0; Frames::BYTES]).is_some());
+    /// assert!(Frames::unpack(&[]).is_none());
+    /// ```
     pub fn unpack(bytes: &[u8]) -> Option<Frames> {
         let fits = bytes.len() == Frames::BYTES;
         fits.then(|| Frames {
@@ -120,11 +134,21 @@ impl Frames {
 }
 
 /// A bitmap's bytes.
+///
+/// ```
+/// # use gadulnos::raw::*;
+/// assert_eq!(pack_bitmap(&[1; 128])[..9], [1, 0, 0, 0, 0, 0, 0, 0, 1]);
+/// ```
 pub fn pack_bitmap(bitmap: &Bitmap) -> Marks {
     std::array::from_fn(|i| bitmap[i / 8].to_le_bytes()[i % 8])
 }
 
 /// The bitmap that bytes stand for; any do.
+///
+/// ```
+/// # use gadulnos::raw::*;
+/// assert_eq!(unpack_bitmap(&[0xff; BITMAP_BYTES]), [u64::MAX; 128]);
+/// ```
 pub fn unpack_bitmap(bits: &Marks) -> Bitmap {
     std::array::from_fn(|i| word(bits, 8 * i))
 }
@@ -134,12 +158,26 @@ impl Kernel {
     pub const BYTES: usize = 8 + 24 * SLOTS;
 
     /// Its bytes.
+    ///
+    /// ```
+    /// # use gadulnos::raw::*;
+    /// # let mut p = Parts::lend(16);
+    /// # p.start(0x10_0000, 0x11_0000);
+    /// let record = Kernel::unpack(&p.kernel).expect("a record");
+    /// assert_eq!(record.pack(), p.kernel);
+    /// ```
     pub fn pack(&self) -> Vec<u8> {
         let slots = self.slots.iter().flat_map(|s| [s.start, s.size, s.used.into()]);
         pack_words([self.count].into_iter().chain(slots))
     }
 
     /// The record that bytes stand for; `used` is 0 or 1.
+    ///
+    /// ```
+    /// # use gadulnos::raw::*;
+    /// assert!(Kernel::unpack(&[0; Kernel::BYTES]).is_some());
+    /// assert!(Kernel::unpack(&[]).is_none());
+    /// ```
     pub fn unpack(bytes: &[u8]) -> Option<Kernel> {
         let fits = bytes.len() == Kernel::BYTES;
         if !fits || (0..SLOTS).any(|i| word(bytes, 24 + 24 * i) > 1) {
@@ -159,6 +197,14 @@ impl User {
     pub const BYTES: usize = 16 + 24 * SLOTS;
 
     /// Its bytes.
+    ///
+    /// ```
+    /// # use gadulnos::raw::*;
+    /// # let mut p = Parts::lend(16);
+    /// # p.start(0x10_0000, 0x11_0000);
+    /// let record = User::unpack(&p.user).expect("a record");
+    /// assert_eq!(record.pack(), p.user);
+    /// ```
     pub fn pack(&self) -> Vec<u8> {
         let both = |r: &Region| u64::from(r.prot as u32) | u64::from(r.flags as u32) << 32;
         let slots = self.slots.iter().flat_map(|r| [r.start, r.size, both(r)]);
@@ -166,6 +212,12 @@ impl User {
     }
 
     /// The record that bytes stand for.
+    ///
+    /// ```
+    /// # use gadulnos::raw::*;
+    /// assert!(User::unpack(&[0; User::BYTES]).is_some());
+    /// assert!(User::unpack(&[]).is_none());
+    /// ```
     pub fn unpack(bytes: &[u8]) -> Option<User> {
         if bytes.len() != User::BYTES {
             return None;
@@ -185,11 +237,25 @@ impl Marked {
     pub const BYTES: usize = 8 + 8 * SLOTS;
 
     /// Its bytes.
+    ///
+    /// ```
+    /// # use gadulnos::raw::*;
+    /// # let mut p = Parts::lend(16);
+    /// # p.start(0x10_0000, 0x11_0000);
+    /// let record = Marked::unpack(&p.marked).expect("a record");
+    /// assert_eq!(record.pack(), p.marked);
+    /// ```
     pub fn pack(&self) -> Vec<u8> {
         pack_words([self.count].into_iter().chain(self.pages))
     }
 
     /// The record that bytes stand for.
+    ///
+    /// ```
+    /// # use gadulnos::raw::*;
+    /// assert!(Marked::unpack(&[0; Marked::BYTES]).is_some());
+    /// assert!(Marked::unpack(&[]).is_none());
+    /// ```
     pub fn unpack(bytes: &[u8]) -> Option<Marked> {
         let fits = bytes.len() == Marked::BYTES;
         let pages = || std::array::from_fn(|i| word(bytes, 8 + 8 * i));

@@ -11,6 +11,14 @@ where
     M: DerefMut<Target = Marks>,
 {
     /// Makes a call. The bool of a question that nothing can refuse is its value.
+    ///
+    /// ```
+    /// # use gadulnos::raw::*;
+    /// # let mut p = Parts::lend(16);
+    /// # p.start(0x10_0000, 0x11_0000);
+    /// let told = p.play(&calls::Call::Vmalloc { size: 0 });
+    /// assert_eq!(told, Told::refused(1));
+    /// ```
     pub fn play(&mut self, call: &Call) -> Told {
         let line = match *call {
             Call::Vfree { addr } => return self.vfree(addr).into(),

@@ -19,21 +19,41 @@ pub struct Told {
 
 impl Told {
     /// A met call that gives no frame back.
+    ///
+    /// ```
+    /// # use gadulnos::raw::*;
+    /// assert_eq!(Told::met(5).line, Line::met(5));
+    /// ```
     pub const fn met(value: u64) -> Told {
         Told { line: Line::met(value), tally: NONE }
     }
 
     /// A refused call.
+    ///
+    /// ```
+    /// # use gadulnos::raw::*;
+    /// assert_eq!(Told::refused(5).line, Line::refused(5));
+    /// ```
     pub const fn refused(number: u64) -> Told {
         Told { line: Line::refused(number), tally: NONE }
     }
 
     /// A met call that found so many frames so.
+    ///
+    /// ```
+    /// # use gadulnos::raw::*;
+    /// assert_eq!(Told::found([1, 0, 0]).line, Line::met(0));
+    /// ```
     pub const fn found(tally: TallyNumbers) -> Told {
         Told { line: Line::met(0), tally }
     }
 
     /// How many pages were unmapped.
+    ///
+    /// ```
+    /// # use gadulnos::raw::*;
+    /// assert_eq!(Told::found([1, 2, 3]).sum(), 6);
+    /// ```
     pub fn sum(&self) -> u64 {
         self.tally.iter().sum()
     }

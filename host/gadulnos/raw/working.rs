@@ -31,6 +31,11 @@ impl Verdict {
         [Verdict::Absent, Verdict::Outside, Verdict::Followed, Verdict::LargePage, Verdict::Last];
 
     /// The verdict that a number stands for.
+    ///
+    /// ```
+    /// # use gadulnos::raw::*;
+    /// assert_eq!((Verdict::of(4), Verdict::of(5)), (Some(Verdict::Last), None));
+    /// ```
     pub fn of(number: u64) -> Option<Verdict> {
         Verdict::ALL.into_iter().find(|verdict| *verdict as u64 == number)
     }
@@ -95,6 +100,12 @@ pub struct Shown {
 impl Shown {
     /// The working that an answer and the numbers beside it stand for; nothing for numbers that stand for
     /// none.
+    ///
+    /// ```
+    /// # use gadulnos::raw::*;
+    /// let none = Shown::unpack(Line::refused(10), &[0; SHOWN_NUMBERS]);
+    /// assert_eq!(none.map(|shown| shown.rows.len()), Some(0));
+    /// ```
     pub fn unpack(answer: Line, numbers: &[u64; SHOWN_NUMBERS]) -> Option<Shown> {
         let count = usize::try_from(numbers[0]).ok()?;
         let rows = numbers[1..].get(..count.checked_mul(ROW_NUMBERS)?)?;
