@@ -6,9 +6,22 @@ mod pick;
 
 use crate::state::{State, SLOTS};
 pub use calls::Random;
-use calls::{Call, LAST, PAGE};
+use calls::{Call, Shape, LAST, PAGE};
 pub use perturb::Perturbed;
 use pick::Picker;
+
+/// A call of a kind with any fields.
+pub fn any_call(random: &mut Random, kind: u8) -> Call {
+    let fields = Shape::of(kind).map_or(&[][..], |shape| shape.fields);
+    let values: Vec<u64> = fields
+        .iter()
+        .map(|&(name, width)| match name {
+            "given" | "gigabyte" | "write" => random.below(2),
+            _ => random.word() >> (64 - 8 * width) >> random.below(8 * width as u64),
+        })
+        .collect();
+    Call::from_fields(kind, &values).expect("fields of the right widths make a call")
+}
 
 /// Which calls a tape holds.
 #[derive(Clone, Copy, Debug, PartialEq, Eq)]

@@ -22,7 +22,7 @@ mod process;
 #[path = "../shared/report.rs"]
 mod report;
 
-use calls::{tape, Call, Shape};
+use calls::{tape, Call};
 use gadulnos::raw::{Line, Parts, LEVELS};
 use model::Model;
 use options::Options;
@@ -34,7 +34,7 @@ use std::path::Path;
 use std::process::{Command, Stdio};
 use std::thread;
 use trial::domain::{self, Verdict};
-use trial::generate::{Generator, Profile, Random};
+use trial::generate::{any_call, Generator, Profile, Random};
 use trial::minimise;
 
 const PROGRAM: &str = "target/bin/key";
@@ -173,19 +173,6 @@ fn malformed(options: &Options) -> Checked {
     Ok(3 * ends.len() as u64)
 }
 
-/// A call of a kind with any fields.
-fn any_call(random: &mut Random, kind: u8) -> Call {
-    let fields = Shape::of(kind).map_or(&[][..], |shape| shape.fields);
-    let values: Vec<u64> = fields
-        .iter()
-        .map(|&(name, width)| match name {
-            "given" => random.below(2),
-            _ => random.word() >> (64 - 8 * width) >> random.below(8 * width as u64),
-        })
-        .collect();
-    Call::from_fields(kind, &values).expect("fields of the right widths make a call")
-}
-
 /// Random calls that lie in the domain, drawn on the Rust's board, with the Rust's answers.
 fn inside(options: &Options) -> Checked {
     let mut cases = 0;
@@ -225,20 +212,7 @@ fn draw_inside(random: &mut Random, generator: &mut Generator) -> Result<Vec<Cal
 /// Random calls, most of them drawn to what stands, whether they lie in the domain or not.
 fn draw_any(random: &mut Random, count: u64) -> Result<Vec<Call>, String> {
     let mut generator = Generator::new(random.word(), Profile::Everything);
-    let mut port = fresh()?;
-    let mut calls = Vec::new();
-    while (calls.len() as u64) < count {
-        let kind = 1 + random.below(KINDS.into()) as u8;
-        let call = match random.chance(1, 5) {
-            true => any_call(random, kind),
-            false => generator.next(&port::state(&port)?),
-        };
-        if call.kind() <= KINDS {
-            port::play(&mut port, &call);
-            calls.push(call);
-        }
-    }
-    Ok(calls)
+    port::draw(random, &mut generator, &mut fresh()?, count, KINDS)
 }
 
 fn any_calls(options: &Options) -> Checked {

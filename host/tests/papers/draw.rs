@@ -2,8 +2,7 @@
 
 use crate::guard::Against;
 use crate::port;
-use calls::{tape, Call, Random, Shape};
-use gadulnos::raw::Parts;
+use calls::{tape, Call, Random};
 use gadulnos::{Board, Levels, PhysAddr};
 use trial::generate::{Generator, Profile};
 
@@ -13,38 +12,12 @@ pub fn fresh() -> Result<Board, String> {
     Board::start(from, to, Levels::Four).map_err(|why| why.to_string())
 }
 
-/// A call of a kind with any fields.
-pub fn any_call(random: &mut Random, kind: u8) -> Call {
-    let fields = Shape::of(kind).map_or(&[][..], |shape| shape.fields);
-    let values: Vec<u64> = fields
-        .iter()
-        .map(|&(name, width)| match name {
-            "given" | "gigabyte" | "write" => random.below(2),
-            _ => random.word() >> (64 - 8 * width) >> random.below(8 * width as u64),
-        })
-        .collect();
-    Call::from_fields(kind, &values).expect("fields of the right widths make a call")
-}
-
 /// Calls of kinds 1 to `kinds`, most of them drawn to what stands on document 01's board.
 pub fn some_calls(random: &mut Random, count: u64, kinds: u8) -> Result<Vec<Call>, String> {
     let profile = random.one_of(&[Profile::Release, Profile::Faults, Profile::Everything]);
     let mut generator = Generator::new(random.word(), profile);
-    let parts: Parts = fresh()?.into_parts();
-    let mut board = port::guarded(&parts, Against::Behind);
-    let mut calls = Vec::new();
-    while (calls.len() as u64) < count {
-        let kind = 1 + random.below(kinds.into()) as u8;
-        let call = match random.chance(1, 5) {
-            true => any_call(random, kind),
-            false => generator.next(&port::state(&board)?),
-        };
-        if call.kind() <= kinds {
-            port::play(&mut board, &call);
-            calls.push(call);
-        }
-    }
-    Ok(calls)
+    let mut board = port::guarded(&fresh()?.into_parts(), Against::Behind);
+    port::draw(random, &mut generator, &mut board, count, kinds)
 }
 
 /// A tape of such calls; one in three is malformed at its end or in its midst.

@@ -1,12 +1,13 @@
 //! `paper assemble` and `paper disassemble`: tapes and texts, both ways, and mistakes.
 
-use crate::draw::{any_bytes, any_call, some_tape};
+use crate::draw::{any_bytes, some_tape};
 use crate::options::Options;
 use crate::report::{equal, equal_at, holds, Checked, Report};
 use crate::run::{tool, Room};
 use calls::tape::{KINDS, WIDE_KINDS};
 use calls::text::{self, Paper};
 use calls::{tape, Call, Random};
+use trial::generate::any_call;
 
 pub fn check(options: &Options, room: &Room, report: &mut Report) {
     report.check("text: document 01's example", example());

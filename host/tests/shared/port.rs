@@ -5,7 +5,7 @@
 use crate::guard::{self, Against, Guarded, GuardedArray};
 use calls::Call;
 use gadulnos::raw::{Frames, Kernel, Line, Marked, Parts, Told, User, BITMAP_BYTES, SHOWN_NUMBERS};
-use trial::generate::Random;
+use trial::generate::{any_call, Generator, Random};
 use trial::state::{Region, Slot, State, SLOTS};
 
 pub type Port = Parts<Guarded<u64>, Guarded<u8>, GuardedArray<u8, BITMAP_BYTES>>;
@@ -83,6 +83,29 @@ pub fn packed(state: &State) -> Parts {
 pub fn play(port: &mut Port, call: &Call) -> Told {
     guard::calling(call);
     port.play(call)
+}
+
+/// Makes so many calls of kinds 1 to `kinds`, most of them drawn to what stands: the calls.
+pub fn draw(
+    random: &mut Random,
+    generator: &mut Generator,
+    port: &mut Port,
+    count: u64,
+    kinds: u8,
+) -> Result<Vec<Call>, String> {
+    let mut calls = Vec::new();
+    while (calls.len() as u64) < count {
+        let kind = 1 + random.below(kinds.into()) as u8;
+        let call = match random.chance(1, 5) {
+            true => any_call(random, kind),
+            false => generator.next(&state(port)?),
+        };
+        if call.kind() <= kinds {
+            play(port, &call);
+            calls.push(call);
+        }
+    }
+    Ok(calls)
 }
 
 /// The three counts: free, allocated, total.
