@@ -1,33 +1,35 @@
 // Virtual and physical addresses and frame numbers: three number types that do not mix, and the answers that hand one back.
+#![tactic(auto)]
+
 ghost use Rattle.std.specs.Prelude.{◌≡◌, ◌*◌, ◌/◌, ◌%◌, ◌^◌};
 ghost use Rattle.allocator.specs.Round.{align_down};
 ghost use Rattle.address.specs.Address.{aligned, virt_up, phys_up, zone_of, virt_line, phys_line, frame_line};
 
 use answer::{Line, Outcome};
 
-#[derive(Drop)]
+#[derive(Clone, Copy)]
 pub struct VirtAddr(pub u64);
 
-#[derive(Drop)]
+#[derive(Clone, Copy)]
 pub struct PhysAddr(pub u64);
 
 // The frame with this number: its memory starts at 4096 times the number.
-#[derive(Drop)]
+#[derive(Clone, Copy)]
 pub struct Frame(pub u64);
 
-#[derive(Drop)]
+#[derive(Clone, Copy)]
 pub enum VirtAnswer {
     AtVirt(VirtAddr),
     NoVirt(u64),
 }
 
-#[derive(Drop)]
+#[derive(Clone, Copy)]
 pub enum PhysAnswer {
     AtPhys(PhysAddr),
     NoPhys(u64),
 }
 
-#[derive(Drop)]
+#[derive(Clone, Copy)]
 pub enum FrameAnswer {
     AtFrame(Frame),
     NoFrame(u64),
@@ -79,7 +81,7 @@ pub fn frame_line(a: FrameAnswer) -> Line
 }
 
 // The zones of physical memory: below 16 MiB, below 896 MiB, and above.
-#[derive(Drop)]
+#[derive(Clone, Copy)]
 pub enum MemoryZone {
     Dma,
     Normal,

@@ -1,4 +1,6 @@
 // Rounding, as allocator.rs has it: one function for every size and every alignment.
+#![tactic(auto)]
+
 ghost use Rattle.std.specs.Prelude.{◌≡◌, ◌-◌};
 ghost use Rattle.allocator.specs.Round.{align_down, align_up, rounded};
 

@@ -1,4 +1,6 @@
 // Answers: a call is met, or refused with one of document 01's numbers.
+#![tactic(auto)]
+
 ghost use Rattle.std.specs.Prelude.{◌≡◌};
 ghost use Rattle.answer.specs.Numbers.{answer_line, count_line, flag_line};
 
@@ -43,21 +45,21 @@ pub const OUTSIDE: u64 = 19;
 pub const LIST_FULL: u64 = 20;
 
 // A call that hands back nothing.
-#[derive(Drop)]
+#[derive(Clone, Copy)]
 pub enum Answer {
     Met,
     Refused(u64),
 }
 
 // A call or a step that comes to a number (a count, a size, a frame, an address; 0 where it hands back nothing), or the number of its refusal.
-#[derive(Drop)]
+#[derive(Clone, Copy)]
 pub enum Outcome {
     Value(u64),
     Stop(u64),
 }
 
 // A call that hands back yes or no.
-#[derive(Drop)]
+#[derive(Clone, Copy)]
 pub enum FlagAnswer {
     Flag(bool),
     NoFlag(u64),
@@ -65,7 +67,7 @@ pub enum FlagAnswer {
 
 // What the key prints of a call: its number, 0 if met, and its value, 0 if none.
 #[repr(C)]
-#[derive(Drop)]
+#[derive(Clone, Copy)]
 pub struct Line {
     pub number: u64,
     pub value: u64,

@@ -1,5 +1,7 @@
 // A set of the numbers below 8192 in 128 words, 64 to a word: bit i % 64 of word i / 64 is 1 where i is marked. The words stay packed bytes: `word` and `put_word` read
 // and write one of them, and nothing else touches the bytes.
+#![tactic(auto)]
+
 ghost use Rattle.std.specs.Prelude.{◌≡◌, true, ℕ, ◌+◌, ◌*◌, ◌<◌, ◌≤◌, length, get_or, set, replicate};
 ghost use Rattle.std.specs.Int.Count.{ones as ones_of};
 ghost use Rattle.bits.specs.Bit.{bit};

@@ -1,4 +1,6 @@
 // The board: all that is lent to a run of calls, and its start. Its lists are lent as packed bytes.
+#![tactic(auto)]
+
 ghost use Rattle.std.specs.Prelude.{◌≡◌, true, eqb, length, ◌≤◌};
 ghost use Rattle.bits.specs.Bit.{both};
 ghost use Rattle.vm_list.specs.Packed.{vm_size};
@@ -12,13 +14,13 @@ use answer::Answer;
 use frame::{FrameAllocator, Marks};
 
 // A board's records, beside its words, its bitmap and its lists.
-#[derive(Drop)]
+#[derive(Clone, Copy)]
 pub struct Records {
     pub frames: FrameAllocator,
     pub root: Frame,
 }
 
-#[derive(Drop)]
+#[derive(Clone, Copy)]
 pub struct Started {
     pub answer: Answer,
     pub records: Records,

@@ -1,4 +1,6 @@
 // The copy of a copy-on-write page, of page_fault.rs, on a record that was tested; `raw_frame` and `map_frame` serve demand paging too, and `raw_frame` the second path.
+#![tactic(auto)]
+
 ghost use Rattle.std.specs.Prelude.{◌≡◌, true, List, ℕ, ◌+◌, ◌*◌, ◌%◌, ◌<◌, ◌≤◌, length, take, drop};
 ghost use Rattle.std.proofs.lemmas.List.Edits.{sets};
 ghost use Rattle.answer.specs.Outcomes.{and_then};
@@ -21,7 +23,7 @@ use paging::Entered;
 pub const TEMP_MAP_ADDR: u64 = 0xFFFF_FFFF_FFFF_0000;
 
 // What a copy comes to, beside what the old frame was found to be and the record that is left.
-#[derive(Drop)]
+#[derive(Clone, Copy)]
 pub struct Copied {
     pub walked: Outcome,
     pub found: Tally,

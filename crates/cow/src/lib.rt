@@ -1,4 +1,6 @@
 // The pages marked copy-on-write, of page_fault.rs, as packed bytes, and the three calls on them.
+#![tactic(auto)]
+
 pub mod list;
 
 ghost use Rattle.std.specs.Prelude.{◌≡◌};

@@ -1,4 +1,6 @@
 // Page-table entries: 64-bit words of a masked address joined with flag bits.
+#![tactic(auto)]
+
 pub mod page_handler;
 pub mod paging;
 
@@ -10,7 +12,7 @@ use address::VirtAddr;
 use paging::PageTableEntry;
 
 // A table's entry by index.
-#[derive(Drop)]
+#[derive(Clone, Copy)]
 pub enum EntryAnswer {
     AtEntry(PageTableEntry),
     NoEntry(u64),

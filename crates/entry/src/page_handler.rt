@@ -6,7 +6,7 @@ ghost use Rattle.entry.specs.Flags.{no_flags, bits_of, flags_of, flag_entry_of};
 
 use crate::power_if;
 
-#[derive(Drop)]
+#[derive(Clone, Copy)]
 pub struct PageFlags {
     pub present: bool,
     pub writable: bool,
@@ -72,7 +72,7 @@ impl PageFlags {
     }
 }
 
-#[derive(Drop)]
+#[derive(Clone, Copy)]
 pub struct PageTableEntry {
     pub entry: u64,
 }

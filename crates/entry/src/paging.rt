@@ -6,7 +6,7 @@ ghost use Rattle.entry.specs.Entry.{addr_of, entry_of, huge_entry_of, with_writa
 use crate::power_if;
 use address::PhysAddr;
 
-#[derive(Drop)]
+#[derive(Clone, Copy)]
 pub struct PageTableEntry(pub u64);
 
 impl PageTableEntry {

@@ -1,4 +1,6 @@
 // A page fault's error code: bits 0 to 4; those above are ignored.
+#![tactic(auto)]
+
 ghost use Rattle.std.specs.Prelude.{◌≡◌};
 ghost use Rattle.error_code.specs.ErrorCode.{is_present, is_write, is_user, is_reserved, is_fetch, denied as denied_by};
 

@@ -1,4 +1,6 @@
 // Page faults: the first path, of page_fault.rs.
+#![tactic(auto)]
+
 pub mod inner;
 
 ghost use Rattle.std.specs.Prelude.{◌≡◌};
@@ -11,7 +13,7 @@ use answer::Answer;
 use frame::{FrameAllocator, Marks, Tally, tallies};
 
 // The answer of the first path, beside what a copy's old frame was found to be and the frame record that is left.
-#[derive(Drop)]
+#[derive(Clone, Copy)]
 pub struct Faulted {
     pub answer: Answer,
     pub found: Tally,

@@ -1,5 +1,7 @@
 // The frame allocator of frame.rs: a small record beside the bitmap words lent to it. Each call tests the record first and answers 10 if it is broken.
 // Callers make the calls by `lent`, on a record that they lend, or by `held`, on one that they hand over and get back.
+#![tactic(auto)]
+
 pub mod held;
 pub mod inner;
 pub mod lent;
@@ -38,7 +40,7 @@ pub const MOST_LEVELS: u64 = 5;
 pub const ABOVE_LAST: u64 = LEVELS - 1;
 
 // The `total` frames from number `start` on, `allocated` of them marked, of a board with so many levels of page tables.
-#[derive(Drop)]
+#[derive(Clone, Copy)]
 pub struct FrameAllocator {
     pub start: u64,
     pub total: u64,
@@ -47,46 +49,46 @@ pub struct FrameAllocator {
 }
 
 // An answer beside the record that the call leaves.
-#[derive(Drop)]
+#[derive(Clone, Copy)]
 pub struct Changed {
     pub answer: Answer,
     pub frames: FrameAllocator,
 }
 
-#[derive(Drop)]
+#[derive(Clone, Copy)]
 pub struct Allocated {
     pub answer: FrameAnswer,
     pub frames: FrameAllocator,
 }
 
 // What a frame that is given back was found to be.
-#[derive(Drop)]
+#[derive(Clone, Copy)]
 pub enum Found {
     Freed,
     AlreadyFree,
     NotHere,
 }
 
-#[derive(Drop)]
+#[derive(Clone, Copy)]
 pub enum FoundAnswer {
     Was(Found),
     NoFound(u64),
 }
 
-#[derive(Drop)]
+#[derive(Clone, Copy)]
 pub struct Given {
     pub found: Found,
     pub frames: FrameAllocator,
 }
 
-#[derive(Drop)]
+#[derive(Clone, Copy)]
 pub struct Deallocated {
     pub answer: FoundAnswer,
     pub frames: FrameAllocator,
 }
 
 // How many frames that were given back were found to be each of the three.
-#[derive(Drop)]
+#[derive(Clone, Copy)]
 pub struct Tally {
     pub freed: u64,
     pub already_free: u64,
@@ -94,7 +96,7 @@ pub struct Tally {
 }
 
 // The record after frames were given back, beside their tally.
-#[derive(Drop)]
+#[derive(Clone, Copy)]
 pub struct GivenBack {
     pub found: Tally,
     pub frames: FrameAllocator,
@@ -102,7 +104,7 @@ pub struct GivenBack {
 
 // What a call that frees prints: its number, 0 if met, and its tally.
 #[repr(C)]
-#[derive(Drop)]
+#[derive(Clone, Copy)]
 pub struct TallyLine {
     pub number: u64,
     pub freed: u64,

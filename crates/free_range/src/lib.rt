@@ -1,4 +1,6 @@
 // The search for a free range of mmap.rs on the packed list, with how many regions it compares.
+#![tactic(auto)]
+
 ghost use Rattle.std.specs.Prelude.{◌≡◌, true, ◌+◌, ◌≤◌, ◌<◌};
 ghost use Rattle.allocator.specs.Round.{last_page};
 ghost use Rattle.slots.specs.Slots.{listed};
@@ -13,21 +15,21 @@ use answer::Outcome;
 pub const USER_MMAP_END: u64 = 0x0000_7FFF_FFFF_F000;
 
 // What overlaps a range first: nothing, or a region up to its end.
-#[derive(Drop)]
+#[derive(Clone, Copy)]
 pub enum InTheWay {
     Nothing,
     Until(u64),
 }
 
 // A scan: what is in the way, and how many regions the definition's scan compares until it comes to it.
-#[derive(Drop)]
+#[derive(Clone, Copy)]
 pub struct Scanned {
     pub way: InTheWay,
     pub compared: usize,
 }
 
 // A search: where it ends, and how many regions all its scans compare.
-#[derive(Drop)]
+#[derive(Clone, Copy)]
 pub struct Searched {
     pub outcome: Outcome,
     pub compared: usize,

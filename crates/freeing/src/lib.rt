@@ -1,4 +1,6 @@
 // Runs of pages unmapped and their frames freed, on a record that was tested: page by page, span by span, or block by block, as their length asks for.
+#![tactic(auto)]
+
 mod blocks;
 
 ghost use Rattle.std.specs.Prelude.{◌≡◌, ◌+◌, ◌*◌, ◌^◌, ◌≤◌, ◌<◌};

@@ -1,5 +1,7 @@
 // Runs of pages unmapped and their frames freed, on a record that was tested: page by page, or span by span. A span is what is found at once: the leaves of one table, or
 // the pages below an entry that is absent or leads outside.
+#![tactic(auto)]
+
 ghost use Rattle.std.specs.Prelude.{◌≡◌, true, ◌+◌, ◌-◌, ◌*◌, ◌^◌, ◌≤◌, ◌<◌};
 ghost use Rattle.bitmap.specs.Bitmap.{marks_in};
 ghost use Rattle.frame.specs.Frames.{inside};
@@ -16,7 +18,7 @@ use frame::{FrameAllocator, GivenBack, Marks, Tally, tallies};
 use spans::Span;
 
 // How many pages were gone through, and what their frames were found to be.
-#[derive(Drop)]
+#[derive(Clone, Copy)]
 pub struct Freed {
     pub done: u64,
     pub found: Tally,

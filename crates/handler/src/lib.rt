@@ -1,4 +1,6 @@
 // The second path, of page_handler.rs: a page that was not present is mapped over whatever stands at its entry.
+#![tactic(auto)]
+
 ghost use Rattle.std.specs.Prelude.{◌≡◌, true, List, ℕ, ◌<◌, ◌≤◌};
 ghost use Rattle.bitmap.specs.Bitmap.{marks_in};
 ghost use Rattle.frame.specs.Frames.{inside};

@@ -1,4 +1,6 @@
 // The mapper of paging.rs, on frames lent as a slice of words. The root is a frame number; flushes are left out.
+#![tactic(auto)]
+
 pub mod inner;
 
 ghost use Rattle.std.specs.Prelude.{◌≡◌};

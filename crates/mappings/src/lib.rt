@@ -1,4 +1,6 @@
 // The list of mmap.rs where it stands, as packed bytes: its slots, its count and next_addr are read and written here, and nothing else touches the bytes.
+#![tactic(auto)]
+
 pub mod list;
 
 ghost use Rattle.std.specs.Prelude.{◌≡◌, true, ◌<◌, get_or, set};
@@ -14,7 +16,7 @@ pub const MAX_REGIONS: usize = 256;
 // The bytes of a list.
 pub const MMAP_SIZE: usize = 6160;
 
-#[derive(Drop)]
+#[derive(Clone, Copy)]
 pub struct MappedRegion {
     pub start: u64,
     pub size: u64,

@@ -1,4 +1,6 @@
 // mmap of mmap.rs on the user's memory mappings, in document 01's order of checks.
+#![tactic(auto)]
+
 pub mod inner;
 
 ghost use Rattle.std.specs.Prelude.{◌≡◌};
@@ -15,14 +17,14 @@ use frame::{FrameAllocator, Marks};
 pub const LAST_PAGE: u64 = 0xFFFF_FFFF_FFFF_F000;
 
 // The address that a caller gives, or none.
-#[derive(Drop)]
+#[derive(Clone, Copy)]
 pub enum OptAddr {
     NoAddr,
     SomeAddr(u64),
 }
 
 // An answer beside the frame record that the call leaves.
-#[derive(Drop)]
+#[derive(Clone, Copy)]
 pub struct Mmapped {
     pub answer: VirtAnswer,
     pub frames: FrameAllocator,

@@ -1,4 +1,6 @@
 // mprotect on the user's memory mappings (document 02, slip 1), in munmap's order of checks.
+#![tactic(auto)]
+
 ghost use Rattle.std.specs.Prelude.{◌≡◌, true, length};
 ghost use Rattle.bits.specs.Bit.{both};
 ghost use Rattle.paging.specs.Calls.{lent_walk};

@@ -1,4 +1,6 @@
 // munmap of mmap.rs on the user's memory mappings, in document 01's order of checks.
+#![tactic(auto)]
+
 ghost use Rattle.std.specs.Prelude.{◌≡◌, true, ◌-◌};
 ghost use Rattle.answer.specs.Outcomes.{as_answer};
 ghost use Rattle.frame.specs.Found.{none_found};
@@ -14,7 +16,7 @@ use answer::{Answer, Outcome};
 use frame::{FrameAllocator, Marks, Tally, tallies};
 
 // An answer beside the frame record that the call leaves, with what the frames of its pages were found to be.
-#[derive(Drop)]
+#[derive(Clone, Copy)]
 pub struct Munmapped {
     pub answer: Answer,
     pub found: Tally,

@@ -1,4 +1,6 @@
 // State as packed bytes: numbers of 64 bits, little-endian. docs/LAYOUT.md has each part's layout.
+#![tactic(auto)]
+
 ghost use Rattle.std.specs.Prelude.{◌≡◌, ◌+◌, ◌*◌, ◌%◌, ◌^◌, ◌≤◌, ◌<◌, length, drop};
 ghost use Rattle.std.proofs.lemmas.List.Edits.{sets};
 ghost use Rattle.std.proofs.Common.{of_z, to_z};

@@ -1,4 +1,6 @@
 // Runs of pages on a record that was tested, shared by vmalloc, mmap and the faults: fresh frames mapped one page after the other, and pages unmapped.
+#![tactic(auto)]
+
 ghost use Rattle.std.specs.Prelude.{◌≡◌, List, ℕ, ◌+◌, ◌*◌, ◌^◌, ◌<◌, ◌≤◌};
 ghost use Rattle.paging.specs.Walk.{WordsLent};
 ghost use Rattle.paging.specs.Map.{out, RoomToTake};
@@ -15,7 +17,7 @@ use frame::{FrameAllocator, GivenBack, Marks, tallies};
 use paging::Entered;
 
 // How far a run of pages came: `done` of them are mapped.
-#[derive(Drop)]
+#[derive(Clone, Copy)]
 pub struct PagesRun {
     pub walked: Outcome,
     pub done: u64,

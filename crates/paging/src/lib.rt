@@ -1,5 +1,7 @@
 // Page tables: the types that walks give, above the definitions of walks, mappings and the mapper's calls in specs/. The code is in `walk`, `working`, `tables` and
 // `mapper`.
+#![tactic(auto)]
+
 ghost use Rattle.std.specs.Prelude.{◌≡◌};
 ghost use Rattle.paging.specs.Calls.{size_of};
 
@@ -8,14 +10,14 @@ use answer::Outcome;
 use frame::FrameAllocator;
 
 // Where a step that may take a frame comes, beside the frame record that it leaves.
-#[derive(Drop)]
+#[derive(Clone, Copy)]
 pub struct Entered {
     pub walked: Outcome,
     pub frames: FrameAllocator,
 }
 
 // What a translation ends at: the last level's entry, a large page's, or none.
-#[derive(Drop)]
+#[derive(Clone, Copy)]
 pub enum Leaf {
     Page(u64),
     Large(u64),
@@ -23,7 +25,7 @@ pub enum Leaf {
 }
 
 // What a translation makes of an entry that it reads.
-#[derive(Drop)]
+#[derive(Clone, Copy)]
 pub enum Verdict {
     Absent,
     Outside,
@@ -33,7 +35,7 @@ pub enum Verdict {
 }
 
 // An entry that a translation reads: its level, counted from the bottom, the table's frame and the index in it, the word, and the verdict.
-#[derive(Drop)]
+#[derive(Clone, Copy)]
 pub struct Row {
     pub level: u64,
     pub frame: Frame,
@@ -42,7 +44,7 @@ pub struct Row {
     pub verdict: Verdict,
 }
 
-#[derive(Drop)]
+#[derive(Clone, Copy)]
 pub enum HugePageSize {
     Size2MB,
     Size1GB,

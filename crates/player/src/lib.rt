@@ -1,4 +1,6 @@
 // A call of a tape played on a board, with the line that the key prints of it.
+#![tactic(auto)]
+
 ghost use Rattle.std.specs.Prelude.{◌≡◌, true, List, ℕ};
 ghost use Rattle.vm_list.specs.Packed.{vm_fit};
 ghost use Rattle.mappings.specs.Packed.{mmap_fit};
@@ -14,7 +16,7 @@ use frame::Marks;
 use tape::{Call, FaultCall, MmapCall, MunmapCall};
 
 // What a call prints, and the records that it leaves.
-#[derive(Drop)]
+#[derive(Clone, Copy)]
 pub struct Played {
     pub kind: u64,
     pub line: Line,

@@ -1,4 +1,6 @@
 // WRITABLE made to follow a choice on runs of pages, on words that were tested: page by page, or table by table.
+#![tactic(auto)]
+
 mod table;
 
 ghost use Rattle.std.specs.Prelude.{◌≡◌, ◌+◌, ◌*◌, ◌^◌, ◌≤◌, ◌<◌};

@@ -1,4 +1,6 @@
 // The list of vmalloc.rs: 256 region records and a count.
+#![tactic(auto)]
+
 pub mod lent;
 
 ghost use Rattle.std.specs.Prelude.{◌≡◌};
@@ -14,7 +16,7 @@ pub const MAX_VM_REGIONS: usize = 256;
 // Lists of so many regions at most go through a small array: 1.5 KB to fill instead of 6.
 pub const FEW_REGIONS: usize = 64;
 
-#[derive(Drop)]
+#[derive(Clone, Copy)]
 pub struct VMRegion {
     pub start: u64,
     pub size: u64,
@@ -22,14 +24,14 @@ pub struct VMRegion {
 }
 
 // What a step on slots that are held by value leaves: the slots, and how many regions stand.
-#[derive(Drop)]
+#[derive(Clone, Copy)]
 pub struct Stepped {
     pub regions: [VMRegion; 256],
     pub count: usize,
 }
 
 // The same of the small array.
-#[derive(Drop)]
+#[derive(Clone, Copy)]
 pub struct SteppedFew {
     pub regions: [VMRegion; FEW_REGIONS],
     pub count: usize,

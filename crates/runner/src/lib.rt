@@ -1,5 +1,7 @@
 // The key program's loop: a call tape from standard input, played on a fresh board, and its key on standard output. Where a read or a write fails,
 // a message goes to standard error and the last line is left out.
+#![tactic(auto)]
+
 ghost use Rattle.std.specs.Prelude.{◌≡◌, true, ◌≤◌};
 ghost use Rattle.board.specs.Packed.{board_of, lists_fit};
 ghost use Rattle.turn.specs.Run.{goes, run_of};

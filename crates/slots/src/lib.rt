@@ -1,1 +1,2 @@
 // Lists of records lent as slots with a count: no code, only the definitions and laws that the lists above cite.
+#![tactic(auto)]

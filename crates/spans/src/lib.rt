@@ -1,4 +1,6 @@
 // What a look at a page finds of the pages from it on: leaves of one table, or pages below an entry that is absent or leads outside.
+#![tactic(auto)]
+
 ghost use Rattle.std.specs.Prelude.{◌≡◌, ◌⊎◌, ℕ, suc, ◌+◌, ◌-◌, ◌*◌, ◌^◌, ◌≤◌, ◌<◌, min, get_or};
 ghost use Rattle.entry.specs.Entry.{index as index_of};
 ghost use Rattle.paging.specs.Walk.{WordsLent};
@@ -10,7 +12,7 @@ use answer::Outcome;
 use entry::paging::PageTableEntry;
 
 // What there is at a page: so many leaves of its last table, or so many pages that are not mapped.
-#[derive(Drop)]
+#[derive(Clone, Copy)]
 pub enum Span {
     Leaves(u64, u64),
     Gap(u64),

@@ -5,7 +5,7 @@ ghost use Rattle.streams.specs.Streams.{kept_text, last_text, Begins};
 use libc::{STDERR_FILENO, STDOUT_FILENO};
 
 // The end of what is put and not written yet, and whether all that had to be written was.
-#[derive(Drop)]
+#[derive(Clone, Copy)]
 pub struct Flushed {
     pub put: usize,
     pub written: bool,

@@ -1,4 +1,6 @@
 // The tables along a path, made where there are none, on a record that was tested.
+#![tactic(auto)]
+
 ghost use Rattle.std.specs.Prelude.{◌≡◌, suc, ◌+◌, ◌<◌, ◌≤◌, length, take};
 ghost use Rattle.entry.specs.Entry.{indices as indices_of};
 ghost use Rattle.paging.specs.Map.{out, clear, create, enter as entered, make, RoomToTake};

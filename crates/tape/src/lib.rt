@@ -1,9 +1,11 @@
 // The key program's tape: calls read from bytes, and the lines that are printed of them.
+#![tactic(auto)]
+
 pub mod read;
 pub mod text;
 
 // A call of the tape: 'one kind byte, then a body, little-endian'.
-#[derive(Drop)]
+#[derive(Clone, Copy)]
 pub enum Call {
     Vmalloc(u64),
     Vfree(u64),
@@ -14,7 +16,7 @@ pub enum Call {
 }
 
 // `given`: whether an address is given at all.
-#[derive(Drop)]
+#[derive(Clone, Copy)]
 pub struct MmapCall {
     pub given: bool,
     pub addr: u64,
@@ -23,20 +25,20 @@ pub struct MmapCall {
     pub flags: i32,
 }
 
-#[derive(Drop)]
+#[derive(Clone, Copy)]
 pub struct MunmapCall {
     pub addr: u64,
     pub size: u64,
 }
 
-#[derive(Drop)]
+#[derive(Clone, Copy)]
 pub struct FaultCall {
     pub addr: u64,
     pub code: u64,
 }
 
 // What stands next on a tape: a call, its end, or bytes that are no call.
-#[derive(Drop)]
+#[derive(Clone, Copy)]
 pub enum Next {
     Read(Call),
     Finished,

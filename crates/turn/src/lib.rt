@@ -1,4 +1,6 @@
 // One step of a run of the key program: the next call of the tape, played on the board, and its line put.
+#![tactic(auto)]
+
 ghost use Rattle.std.specs.Prelude.{◌≡◌, true, ◌+◌, ◌≤◌};
 ghost use Rattle.board.specs.Packed.{lists_fit};
 ghost use Rattle.turn.specs.Run.{step, run_of};
@@ -16,7 +18,7 @@ pub type UserBytes = [u8; mappings::MMAP_SIZE];
 pub type MarkedBytes = [u8; cow::list::MARKED_SIZE];
 
 // How far a run is: under way, at its end, or stopped without one: a read or a write failed, or the tape is longer than a run counts.
-#[derive(Drop)]
+#[derive(Clone, Copy)]
 pub enum Stage {
     Going,
     Ended,
@@ -26,7 +28,7 @@ pub enum Stage {
 }
 
 // Where a run stands: its input, the end of what is put, its records, and its stage.
-#[derive(Drop)]
+#[derive(Clone, Copy)]
 pub struct State {
     pub input: Input,
     pub put: usize,

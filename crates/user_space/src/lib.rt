@@ -1,4 +1,6 @@
 // What the calls on the user's memory mappings are lent: words and frames with the root, and the list as packed bytes; and the flags that they read of `prot` and `flags`.
+#![tactic(auto)]
+
 ghost use Rattle.std.specs.Prelude.{◌≡◌};
 ghost use Rattle.bits.specs.Bit.{both};
 ghost use Rattle.mappings.specs.Packed.{mmap_fit};

@@ -1,4 +1,6 @@
 // The list of vmalloc.rs where it stands, as packed bytes: its tests, its searches, and the steps that change it.
+#![tactic(auto)]
+
 ghost use Rattle.std.specs.Prelude.{◌≡◌, true, ◌-◌, ◌≤◌, ◌<◌, max, eqb, length, get_or, take, drop, set, replicate};
 ghost use Rattle.bits.specs.Bit.{both};
 ghost use Rattle.packed.specs.Words.{unpack};

@@ -1,4 +1,6 @@
 // The kernel's virtual memory allocator of vmalloc.rs. Its list is lent as packed bytes.
+#![tactic(auto)]
+
 pub mod inner;
 
 ghost use Rattle.std.specs.Prelude.{◌≡◌};
@@ -11,14 +13,14 @@ use answer::{Answer, Outcome};
 use frame::{FrameAllocator, Marks, Tally, tallies};
 
 // What a vmalloc answers, and the frame record that it leaves.
-#[derive(Drop)]
+#[derive(Clone, Copy)]
 pub struct Vmalloced {
     pub answer: VirtAnswer,
     pub frames: FrameAllocator,
 }
 
 // The same of a vfree, with what the frames of its pages were found to be.
-#[derive(Drop)]
+#[derive(Clone, Copy)]
 pub struct Vfreed {
     pub answer: Answer,
     pub found: Tally,

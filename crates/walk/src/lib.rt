@@ -1,4 +1,6 @@
 // Walks down the page tables, which only read: on frames lent as a slice of words, from a root that is a frame number.
+#![tactic(auto)]
+
 ghost use Rattle.std.specs.Prelude.{◌≡◌, true, suc, ◌-◌, ◌%◌, ◌^◌, ◌<◌, ◌≤◌, take};
 ghost use Rattle.entry.specs.Entry.{indices as indices_of};
 ghost use Rattle.paging.specs.Walk.{place, entry_at, reach, leaf, address, may_walk, WordsLent};

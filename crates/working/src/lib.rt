@@ -1,4 +1,6 @@
 // The working of a translation: the entries that it reads, each with its verdict, and the result that the last of them gives.
+#![tactic(auto)]
+
 ghost use Rattle.std.specs.Prelude.{◌≡◌, true, ◌+◌, ◌*◌, ◌^◌, ◌<◌, ◌≤◌, []};
 ghost use Rattle.std.proofs.lemmas.List.Edits.{sets};
 ghost use Rattle.address.specs.Address.{as_phys};

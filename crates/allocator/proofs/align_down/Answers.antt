@@ -1,0 +1,7 @@
+use Rattle.allocator.specs.Round.{align_down}
+use Rattle.allocator.proofs.align_down.Goals as goal
+
+pub returns : goal.returns
+unfolding align_down
+returns c =
+    simp c.low_bits.ensures

@@ -1,0 +1,10 @@
+use Rattle.bits.proofs.Counts.{run_below, run_end}
+use Rattle.bitmap.proofs.marked_run.Goals as goal
+
+pub returns-clause-below : goal.returns-clause-below
+returns-clause-below c =
+    run_below 64 c.args.w c.ranges.w.fits
+
+pub returns-clause-next : goal.returns-clause-next
+returns-clause-next c =
+    run_end 64 c.args.w c.ranges.w.fits

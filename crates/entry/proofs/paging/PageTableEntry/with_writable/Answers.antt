@@ -1,0 +1,6 @@
+use Rattle.entry.proofs.Writable.{with_writable_sum}
+use Rattle.entry.proofs.paging.PageTableEntry.with_writable.Goals as goal
+
+pub returns : goal.returns
+returns c =
+    with_writable_sum c.args.self.0 c.well_formed.0.1.1.0.1 c.power_if-chosen.result c.args.writable c.power_if-chosen.ensures.value
