@@ -1,0 +1,13 @@
+use Rattle.std.proofs.Common.{refl}
+use Rattle.frame.specs.Frames.{with_mark}
+use Rattle.frame.proofs.inner.mark_slot.Goals as goal
+
+pub returns-clause-value : goal.returns-clause-value
+unfolding with_mark
+returns-clause-value c =
+    refl
+
+pub returns-clause-bitmap_after : goal.returns-clause-bitmap_after
+unfolding with_mark
+returns-clause-bitmap_after c =
+    c.mark.ensures
