@@ -13,7 +13,8 @@ import sys
 
 WORD = r"[^\s:(){}\[\],.;λ→×=|«»⌜⌝\"`]+"
 # Names that need more than a spelling, and laws that would fall together with what they tell of.
-GIVEN = {"hasRoom": "HasRoom", "free_part": "free_part_lem", "runs_to": "runs_to_lem", "align-up": "align_up_lem"}
+GIVEN = {"hasRoom": "HasRoom", "align-up": "align_up_lem"}
+LAWS = {"free_part": "freePart", "runs_to": "runsTo"}
 
 
 def files(pattern):
@@ -36,8 +37,8 @@ def defined():
         text = read(path)
         for m in re.finditer(rf"^(?:abbrev |unfoldable )?(?:pub )?({WORD}) :", text, re.M):
             names.add(m[1])
-        for m in re.finditer(rf"^  (?:pub )?({WORD}) :", text, re.M):
-            names.add(m[1])
+        for m in re.finditer(rf"^  (?:pub )?({WORD}) :|^\s+pub ({WORD}) :", text, re.M):
+            names.add(m[1] or m[2])
         for m in re.finditer(rf"^(?:pub )?(?:record|data) ({WORD})", text, re.M):
             names.add(m[1])
     return names
@@ -90,7 +91,7 @@ def table():
             continue
         if not re.match(r"[A-Za-z]", n):
             continue
-        s = spelled(n)
+        s = n + "_lem" if LAWS.get(n) in own else spelled(n)
         if s != n:
             turned[n] = s
     # A law that would have its function's name gets `_lem`.

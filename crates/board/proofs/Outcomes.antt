@@ -48,8 +48,8 @@ module _ (from to n : ℕ) where
     inside-first = inside_yes (unmarked from to n).fa.start (frame_count from to) (unmarked from to n).fa.start (omega arith) (omega arith)
 
     -- marking the first is taking it
-    pub mark-first : mark_frame (unmarked from to n) (unmarked from to n).fa.start ≡ with_mark (unmarked from to n) 0
-    mark-first =
+    pub mark_first : mark_frame (unmarked from to n) (unmarked from to n).fa.start ≡ with_mark (unmarked from to n) 0
+    mark_first =
         let none : (s : ℕ) → s - s ≡ 0 = λ s. omega arith in
         mark_free (unmarked from to n) _ (reads_free (unmarked from to n) _ inside-first (none_marked _)) ∙ ap (with_mark (unmarked from to n)) (none (unmarked from to n).fa.start)
 
@@ -64,27 +64,27 @@ module _ (len from to levels : ℕ) where
   may_other o = rw o
 
   module _ (o : is_levels levels ≡ true) where
-    pub may-crossed : to < from → may_start len from to levels ≡ Refused broken_record
+    pub may_crossed : to < from → may_start len from to levels ≡ Refused broken_record
     unfolding may_start
-    may-crossed h = rw (o, lt-leb from to h)
+    may_crossed h = rw (o, lt-leb from to h)
 
-    pub may-high : from ≤ to → 2 ^ 52 < to → may_start len from to levels ≡ Refused broken_record
+    pub may_high : from ≤ to → 2 ^ 52 < to → may_start len from to levels ≡ Refused broken_record
     unfolding may_start
-    may-high h k = rw (o, le-leb from to h, lt-leb to (2 ^ 52) k)
+    may_high h k = rw (o, le-leb from to h, lt-leb to (2 ^ 52) k)
 
     module _ (h : from ≤ to) (k : to ≤ 2 ^ 52) where
-      pub may-short : len < frame_count from to * 512 → may_start len from to levels ≡ Refused broken_record
+      pub may_short : len < frame_count from to * 512 → may_start len from to levels ≡ Refused broken_record
       unfolding may_start
-      may-short l = rw (o, le-leb from to h, le-leb to (2 ^ 52) k, lt-leb (frame_count from to * 512) len l)
+      may_short l = rw (o, le-leb from to h, le-leb to (2 ^ 52) k, lt-leb (frame_count from to * 512) len l)
 
       module _ (l : frame_count from to * 512 ≤ len) where
         pub may_none : frame_count from to ≡ 0 → may_start len from to levels ≡ Refused no_free_frame
         unfolding may_start
         may_none e = rw (o, le-leb from to h, le-leb to (2 ^ 52) k, le-leb (frame_count from to * 512) len l, eq-eqb (frame_count from to) 0 e)
 
-        pub may-met : (frame_count from to ≡ 0 → ⊥) → may_start len from to levels ≡ Met
+        pub may_met : (frame_count from to ≡ 0 → ⊥) → may_start len from to levels ≡ Met
         unfolding may_start
-        may-met e = rw (o, le-leb from to h, le-leb to (2 ^ 52) k, le-leb (frame_count from to * 512) len l, ne_eqb (frame_count from to) 0 e)
+        may_met e = rw (o, le-leb from to h, le-leb to (2 ^ 52) k, le-leb (frame_count from to * 512) len l, ne_eqb (frame_count from to) 0 e)
 
   may_cases : (P : Answer → Type 0) → (is_levels levels ≡ false → P (Refused broken_record)) → (is_levels levels ≡ true → to < from → P (Refused broken_record))
       → (is_levels levels ≡ true → from ≤ to → 2 ^ 52 < to → P (Refused broken_record))
@@ -96,11 +96,11 @@ module _ (len from to levels : ℕ) where
     where
       by : (x : Bool) → is_levels levels ≡ x → Dec (from ≤ to) → Dec (to ≤ 2 ^ 52) → Dec (frame_count from to * 512 ≤ len) → Dec (frame_count from to ≤ 0) → P (may_start len from to levels)
       by false o h k l e = rw (may_other o) (other o)
-      by true o (no h) k l e = let i : to < from = omega arith in rw (may-crossed o i) (crossed o i)
-      by true o (yes h) (no k) l e = let i : 2 ^ 52 < to = omega arith in rw (may-high o h i) (high o h i)
-      by true o (yes h) (yes k) (no l) e = let i : len < frame_count from to * 512 = omega arith in rw (may-short o h k i) (short o h k i)
+      by true o (no h) k l e = let i : to < from = omega arith in rw (may_crossed o i) (crossed o i)
+      by true o (yes h) (no k) l e = let i : 2 ^ 52 < to = omega arith in rw (may_high o h i) (high o h i)
+      by true o (yes h) (yes k) (no l) e = let i : len < frame_count from to * 512 = omega arith in rw (may_short o h k i) (short o h k i)
       by true o (yes h) (yes k) (yes l) (yes e) = let i : frame_count from to ≡ 0 = omega arith in rw (may_none o h k l i) (none o h k l i)
-      by true o (yes h) (yes k) (yes l) (no e) = rw (may-met o h k l (λ i. e (omega arith))) (met o h k l (omega arith))
+      by true o (yes h) (yes k) (yes l) (no e) = rw (may_met o h k l (λ i. e (omega arith))) (met o h k l (omega arith))
 
   -- what a met start is known by
   pub met_tests : may_start len from to levels ≡ Met → (from ≤ to) × (to ≤ 2 ^ 52) × (frame_count from to * 512 ≤ len) × (0 < frame_count from to)

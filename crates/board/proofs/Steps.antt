@@ -23,7 +23,7 @@ use Rattle.cow.specs.Marked.{no_pages}
 use Rattle.cow.specs.Packed.{marked_in, marked_out, marked_fit}
 use Rattle.board.specs.Board.{Board, BoardDid, with_frame_levels, start, may_start}
 use Rattle.board.specs.Packed.{BoardBytes, board_in, board_out, BoardStands, lists_long, packed_by, start_on}
-use Rattle.board.proofs.Outcomes.{unmarked, mark-first, met_tests, start_refused, start_met}
+use Rattle.board.proofs.Outcomes.{unmarked, mark_first, met_tests, start_refused, start_met}
 
 -- ---- the start on packed bytes, by the tests
 
@@ -37,12 +37,12 @@ module _ (p : BoardBytes) (from to levels : ℕ) where
     unfolding start_on
     in_long e = rw (long, e)
 
-    pub in-refused : (n : ℕ) → may_start (length p.mem.words) from to levels ≡ Refused n → start_on p from to levels ≡ record { answer = Refused n; board = p }
-    in-refused n h = in_long (start_refused (board_in p) from to levels n h)
+    pub in_refused : (n : ℕ) → may_start (length p.mem.words) from to levels ≡ Refused n → start_on p from to levels ≡ record { answer = Refused n; board = p }
+    in_refused n h = in_long (start_refused (board_in p) from to levels n h)
 
-    pub in-met : may_start (length p.mem.words) from to levels ≡ Met
+    pub in_met : may_start (length p.mem.words) from to levels ≡ Met
         → start_on p from to levels ≡ record { answer = Met; board = board_out (start (board_in p) from to levels).board }
-    in-met h = let e = start_met (board_in p) from to levels h in in_long e ∙ ap (λ (d : BoardDid). record { answer = Met; board = board_out d.board }) (sym e)
+    in_met h = let e = start_met (board_in p) from to levels h in in_long e ∙ ap (λ (d : BoardDid). record { answer = Met; board = board_out d.board }) (sym e)
 
 -- ---- the steps of a start that is known to be met
 
@@ -52,21 +52,21 @@ module _ (b : Board) (from to levels : ℕ) (met : may_start (length b.mem.words
     fresh-is : frames bm (with_levels i.frames levels) ≡ unmarked from to levels
     fresh-is = (λ j. frames (q j) (with_levels (e j).frames levels)) ∙ ap (λ (d : FramesDid Answer). with_frame_levels d.frames levels) (init_met b.mem.frames from to (met_tests _ from to levels met).0 (met_tests _ from to levels met).1)
 
-    pub fresh-held : RoomToCount (with_levels i.frames levels) 1
-    fresh-held =
+    pub fresh_held : RoomToCount (with_levels i.frames levels) 1
+    fresh_held =
         subst (λ (fr : Frames). RoomToCount fr.fa 1) (sym fresh-is) (record { few = omega arith; low = omega (arith, met_tests _ from to levels met); room = omega arith })
 
     -- .. and after the other steps
-    pub begun-told : {fa : FrameAllocator} {bm' ws k u m : List ℕ} → fa ≡ (mark_frame (frames bm (with_levels i.frames levels)) i.frames.start).fa
+    pub begun_told : {fa : FrameAllocator} {bm' ws k u m : List ℕ} → fa ≡ (mark_frame (frames bm (with_levels i.frames levels)) i.frames.start).fa
         → bm' ≡ (mark_frame (frames bm (with_levels i.frames levels)) i.frames.start).bits → ws ≡ clear b.mem.words 0 512
         → (k ≡ vm_out one_region) × ((vm_in k ≡ one_region) × (vm_fit k ≡ true)) → (u ≡ mmap_out empty_slots user_start) × MmapStands u empty_slots user_start
         → (m ≡ marked_out no_pages) × ((marked_in m ≡ no_pages) × (marked_fit m ≡ true))
         → let p : BoardBytes = record { mem = memory ws (frames bm' fa); root = i.frames.start; kernel = k; user = u; marked = m } in
         (p ≡ board_out (start b from to levels).board) × BoardStands p (start b from to levels).board
-    begun-told {fa = fa} {bm' = bm'} {ws = ws} x y z k u m =
+    begun_told {fa = fa} {bm' = bm'} {ws = ws} x y z k u m =
         let left = sym (ap (λ (d : BoardDid). d.board) (start_met b from to levels met)) in
         let taken : frames bm' fa ≡ with_mark (unmarked from to levels) 0
-        = (λ j. frames (y j) (x j)) ∙ ap (λ (f : Frames). mark_frame f f.fa.start) fresh-is ∙ mark-first from to levels (met_tests _ from to levels met).3 in
+        = (λ j. frames (y j) (x j)) ∙ ap (λ (f : Frames). mark_frame f f.fa.start) fresh-is ∙ mark_first from to levels (met_tests _ from to levels met).3 in
         let none : (s t : ℕ) → t ≡ s → (s - t) * 512 ≡ 0 = λ s t h. omega arith in
         let first = sym (none (fresh from to).fa.start _ (span_with (unmarked from to levels) 0).start) in
         let words = z ∙ ap (λ (n : ℕ). clear b.mem.words n 512) first in

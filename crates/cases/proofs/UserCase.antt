@@ -18,7 +18,7 @@ use Rattle.paging.specs.Map.{Memory, start_frame, total_of, Out}
 use Rattle.paging.specs.Calls.{whole, lent_walk, map_page}
 use Rattle.paging.specs.Levels.{above_last}
 use Rattle.paging.specs.User.{user_may}
-use Rattle.paging.proofs.Walk.{no_value, present_yes, entry_in, reach_end, reach-on}
+use Rattle.paging.proofs.Walk.{no_value, present_yes, entry_in, reach_end, reach_on}
 use Rattle.paging.proofs.Map.{KeptSpan, map_entry_kept}
 use Rattle.paging.proofs.Calls.{whole_lent, walk_by_lent, map_is}
 use Rattle.paging.proofs.User.{user_none, may_is}
@@ -53,7 +53,7 @@ module _ {m : Memory} {root k : ℕ} (o : Ordered m root (suc (suc k))) (bare : 
       by true e =
           let w = get_or m.words (place (start_frame m) root i) 0 in
           let there : reach_in m root (i ∷ []) ≡ Value (frame_of w) =
-          reach-on m.words (start_frame m) (total_of m) root refl w (entry_in _ _ _ root i (root_inside o) small ∙ present_yes w e)
+          reach_on m.words (start_frame m) (total_of m) root refl w (entry_in _ _ _ root i (root_inside o) small ∙ present_yes w e)
           ∙ reach_end m.words (start_frame m) (total_of m) (frame_of w) refl in
           absurd (Memᴰ.not-nil (bare.tables (i ∷ []) (frame_of w) (omega arith) (omega arith) there).1)
 

@@ -111,11 +111,11 @@ module _ (up : ℕ) (m : Memory) (root v f : ℕ) (w u : Bool) where
 
   -- after `map_frame`: the room that is left, and a lent frame stays lent
   module _ {x : Outcome} {m' : Memory} (e : out x m' ≡ map_frame up m root v f w u) where
-    pub mapped-roomy : (n : ℕ) → RoomToTake m (n + up) → RoomToTake m' n
-    mapped-roomy n r = subst (λ (y : Memory). RoomToTake y n) (sym (ap (λ (o : Out). o.mem) e)) (map_frame_roomy n r)
+    pub mapped_roomy : (n : ℕ) → RoomToTake m (n + up) → RoomToTake m' n
+    mapped_roomy n r = subst (λ (y : Memory). RoomToTake y n) (sym (ap (λ (o : Out). o.mem) e)) (map_frame_roomy n r)
 
-    pub mapped-lent : inside (start_frame m) (total_of m) f ≡ true → inside (start_frame m') (total_of m') f ≡ true
-    mapped-lent h =
+    pub mapped_lent : inside (start_frame m) (total_of m) f ≡ true → inside (start_frame m') (total_of m') f ≡ true
+    mapped_lent h =
         let k = map_frame_kept in
         subst (λ (y : Memory). inside (start_frame y) (total_of y) f ≡ true) (sym (ap (λ (o : Out). o.mem) e)) (rw (k.start, k.total) h)
 
@@ -128,11 +128,11 @@ module _ (up : ℕ) (m : Memory) (root v f : ℕ) (w u : Bool) where
         (λ j. out (y j) (memory (p.1.0 j) (frames (p.1.1 j) (p.0 j).frames)))
         ∙ ap (λ (n : ℕ). out (only_error (map_at up up u m root v n).walked) (map_at up up u m root v n).mem) word
 
-    pub map-frame-met : r.answer ≡ Met → out (Value 0) (memory ws (frames bm r.frames)) ≡ map_frame up m root v f w u
-    map-frame-met h = came (error_met (map_at up up u m root v e).walked (map_entry_at u m root _ _ e) (sym h ∙ ap (λ (c : Changed). c.answer) p.0))
+    pub map_frame_met : r.answer ≡ Met → out (Value 0) (memory ws (frames bm r.frames)) ≡ map_frame up m root v f w u
+    map_frame_met h = came (error_met (map_at up up u m root v e).walked (map_entry_at u m root _ _ e) (sym h ∙ ap (λ (c : Changed). c.answer) p.0))
 
-    pub map-frame-refused : (n : ℕ) → r.answer ≡ Refused n → out (Stop page_table_error) (memory ws (frames bm r.frames)) ≡ map_frame up m root v f w u
-    map-frame-refused n h = came (error_refused (map_at up up u m root v e).walked n (sym h ∙ ap (λ (c : Changed). c.answer) p.0))
+    pub map_frame_refused : (n : ℕ) → r.answer ≡ Refused n → out (Stop page_table_error) (memory ws (frames bm r.frames)) ≡ map_frame up m root v f w u
+    map_frame_refused n h = came (error_refused (map_at up up u m root v e).walked n (sym h ∙ ap (λ (c : Changed). c.answer) p.0))
 
 -- ---- the copy
 
@@ -257,11 +257,11 @@ module _ (up : ℕ) (m : Memory) (root v f : ℕ) (user : Bool) where
   on o = and_then o.walked (λ _. none_found) (λ _. remap_found up o.mem root v f user)
 
   module _ {w : Outcome} {m' : Memory} (e : out w m' ≡ copy_page up m root v f) {t : Tally} where
-    pub copy-to-none : {n : ℕ} → w ≡ Stop n → t ≡ none_found → t ≡ copy_to_found up m root v f user
-    copy-to-none h q = q ∙ ap on (sym (stepped e h))
+    pub copy_to_none : {n : ℕ} → w ≡ Stop n → t ≡ none_found → t ≡ copy_to_found up m root v f user
+    copy_to_none h q = q ∙ ap on (sym (stepped e h))
 
-    pub copy-to-found : {x : ℕ} → w ≡ Value x → t ≡ remap_found up m' root v f user → t ≡ copy_to_found up m root v f user
-    copy-to-found h q = q ∙ ap on (sym (stepped e h))
+    pub copy_to_found_lem : {x : ℕ} → w ≡ Value x → t ≡ remap_found up m' root v f user → t ≡ copy_to_found up m root v f user
+    copy_to_found_lem h q = q ∙ ap on (sym (stepped e h))
 
 module _ (up : ℕ) (m : Memory) (root v : ℕ) (user : Bool) (m' : Memory) where
   pub cow_found_none : (n : ℕ) → raw_frame m ≡ out (Stop n) m' → copy_found up m root v user ≡ none_found

@@ -18,7 +18,7 @@ use Rattle.packed.proofs.RoundTrip.{Bytes}
 use Rattle.slots.specs.Slots.{Slots, listed}
 use Rattle.slots.specs.Shifts.{put_in, taken_out}
 use Rattle.slots.specs.Sorted.{rising_from, has_key, insert, remove, place_of}
-use Rattle.slots.proofs.Sorted.{place-le, place-under, key-at, insert-there, insert-new, remove-none, remove-there}
+use Rattle.slots.proofs.Sorted.{place_le, place_under, key_at, insert_there, insert_new, remove_none, remove_there}
 use Rattle.slots.proofs.Stored.{stored_again}
 use Rattle.cow.specs.Marked.{page_of, page_key, sound_marked, store_pages, MarkedDid, marked_did, mark_cow, unmark_cow, is_cow}
 use Rattle.cow.specs.Packed.{marked_size, marked_in, marked_out, marked_fit, marked_kept, on_marked, MarkedReads}
@@ -47,9 +47,9 @@ module _ (bs : List ℕ) where
     unfolding sound_marked
     too_many h = rw (fit, ← e, lt-leb n 256 h)
 
-    pub few-enough : n ≤ 256 → sound ≡ rising_from page_key 0 (take n (marked_in bs).slots)
+    pub few_enough : n ≤ 256 → sound ≡ rising_from page_key 0 (take n (marked_in bs).slots)
     unfolding sound_marked
-    few-enough h = rw (fit, ← e, le-leb n 256 h)
+    few_enough h = rw (fit, ← e, le-leb n 256 h)
 
   -- what a list that was tested has, by the count that code read
   pub tested : sound ≡ true → {n : ℕ} → n ≡ (marked_in bs).count
@@ -64,8 +64,8 @@ module _ (bs : List ℕ) where
 insert_same : (v : ℕ) (l : List ℕ) → rising_from page_key 0 l ≡ true → has_key page_key v l ≡ true → insert page_key v l ≡ l
 insert_same v l rise e =
     let k = place_of page_key v l in
-    let at : get_or l k 0 ≡ v = eqb-true (get_or l k 0) v (sym (key-at page_key v 0 0 l rise (place-under page_key v l e)) ∙ e) in
-    insert-there page_key v 0 l rise e ∙ ap (set l k) (sym at) ∙ set-get_or l k 0
+    let at : get_or l k 0 ≡ v = eqb-true (get_or l k 0) v (sym (key_at page_key v 0 0 l rise (place_under page_key v l e)) ∙ e) in
+    insert_there page_key v 0 l rise e ∙ ap (set l k) (sym at) ∙ set-get_or l k 0
 
 module _ (s : Slots ℕ) (a : ℕ) where
   mark_broken : sound_marked s ≡ false → mark_cow s a ≡ marked_did (Refused broken_record) s
@@ -93,7 +93,7 @@ module _ (s : Slots ℕ) (a : ℕ) where
       mark-new : length (listed s) < 256
           → mark_cow s a ≡ marked_did Met (store_pages (put_in (place_of page_key (page_of a) (listed s)) (page_of a) (listed s)) s)
       unfolding mark_cow
-      mark-new k = rw (h, e, lt-leb 256 (length (listed s)) k, insert-new page_key (page_of a) (listed s) e)
+      mark-new k = rw (h, e, lt-leb 256 (length (listed s)) k, insert_new page_key (page_of a) (listed s) e)
 
     unmark-is : unmark_cow s a ≡ marked_did Met (store_pages (remove page_key (page_of a) (listed s)) s)
     unfolding unmark_cow
@@ -136,28 +136,28 @@ module _ (bs : List ℕ) (a : ℕ) where
   unmark s = unmark_cow s a
 
   module _ (h : both (marked_fit bs) (sound_marked (marked_in bs)) ≡ false) where
-    pub mark-told-broken : Bytes bs → Told mark bs (Refused broken_record) bs
-    mark-told-broken b = told_broken mark bs h b (mark_broken (marked_in bs) a)
+    pub mark_told_broken : Bytes bs → Told mark bs (Refused broken_record) bs
+    mark_told_broken b = told_broken mark bs h b (mark_broken (marked_in bs) a)
 
-    pub unmark-told-broken : Bytes bs → Told unmark bs (Refused broken_record) bs
-    unmark-told-broken b = told_broken unmark bs h b (unmark_broken (marked_in bs) a)
+    pub unmark_told_broken : Bytes bs → Told unmark bs (Refused broken_record) bs
+    unmark_told_broken b = told_broken unmark bs h b (unmark_broken (marked_in bs) a)
 
-    pub cow-told-broken : NoFlag broken_record ≡ unless (marked_fit bs) (NoFlag broken_record) (is_cow (marked_in bs) a)
-    cow-told-broken = by (marked_fit bs) refl
+    pub cow_told_broken : NoFlag broken_record ≡ unless (marked_fit bs) (NoFlag broken_record) (is_cow (marked_in bs) a)
+    cow_told_broken = by (marked_fit bs) refl
       where
         by : (x : Bool) → marked_fit bs ≡ x → NoFlag broken_record ≡ unless x (NoFlag broken_record) (is_cow (marked_in bs) a)
         by true fit = sym (cow_broken (marked_in bs) a (rw fit at h))
         by false fit = refl
 
   module _ (h : both (marked_fit bs) (sound_marked (marked_in bs)) ≡ true) {v : ℕ} (page : v ≡ page_of a) where
-    pub unmark-told : (left : List ℕ) → Bytes left → (marked_in left ≡ store_pages (remove page_key v (listed (marked_in bs))) (marked_in bs)) × (marked_fit left ≡ true)
+    pub unmark_told : (left : List ℕ) → Bytes left → (marked_in left ≡ store_pages (remove page_key v (listed (marked_in bs))) (marked_in bs)) × (marked_fit left ≡ true)
         → Told unmark bs Met left
-    unmark-told left b (e, f) =
+    unmark_told left b (e, f) =
         let p = both_true (marked_fit bs) (sound_marked (marked_in bs)) h in
         told unmark bs p.0 (unmark-is (marked_in bs) a p.1) left f b (rw (← page) e)
 
-    pub cow-told : {r : Bool} → r ≡ has_key page_key v (listed (marked_in bs)) → Flag r ≡ unless (marked_fit bs) (NoFlag broken_record) (is_cow (marked_in bs) a)
-    cow-told q =
+    pub cow_told : {r : Bool} → r ≡ has_key page_key v (listed (marked_in bs)) → Flag r ≡ unless (marked_fit bs) (NoFlag broken_record) (is_cow (marked_in bs) a)
+    cow_told q =
         let p = both_true (marked_fit bs) (sound_marked (marked_in bs)) h in
         rw (p.0, cow-is (marked_in bs) a p.1, ← page) (ap Flag q)
 
@@ -178,24 +178,24 @@ module _ (bs : List ℕ) (h : both (marked_fit bs) (sound_marked (marked_in bs))
   place = at ∙ ap (λ (m : ℕ). place_of page_key v (take m s.slots)) e
 
   pub place_within : k ≤ n
-  place_within = omega (arith, place-le page_key v (take n s.slots), length-take n s.slots)
+  place_within = omega (arith, place_le page_key v (take n s.slots), length-take n s.slots)
 
   module _ {t : Bool} (stands : t ≡ has_key page_key v (take n s.slots)) where
     has : {b : Bool} → t ≡ b → has_key page_key v (listed s) ≡ b
     has q = ap (λ (m : ℕ). has_key page_key v (take m s.slots)) (sym e) ∙ sym stands ∙ q
 
-    pub stands-listed : t ≡ has_key page_key v (listed s)
-    stands-listed = sym (has refl)
+    pub stands_listed : t ≡ has_key page_key v (listed s)
+    stands_listed = sym (has refl)
 
     -- the list without the page: as it is where the page is not listed
     pub out_none : t ≡ false → s ≡ store_pages (remove page_key v (listed s)) s
-    out_none q = sym (rw (remove-none page_key v (listed s) (has q)) (stored_again 0 s.slots s.count room))
+    out_none q = sym (rw (remove_none page_key v (listed s) (has q)) (stored_again 0 s.slots s.count room))
 
-    pub out-there : t ≡ true → {z : Slots ℕ} → z ≡ store_pages (taken_out k (listed s)) s → z ≡ store_pages (remove page_key v (listed s)) s
-    out-there q z = z ∙ ap (λ (l : List ℕ). store_pages l s) (ap (λ (j : ℕ). taken_out j (listed s)) place ∙ sym (remove-there page_key v 0 (listed s) (sound_rise s good) (has q)))
+    pub out_there : t ≡ true → {z : Slots ℕ} → z ≡ store_pages (taken_out k (listed s)) s → z ≡ store_pages (remove page_key v (listed s)) s
+    out_there q z = z ∙ ap (λ (l : List ℕ). store_pages l s) (ap (λ (j : ℕ). taken_out j (listed s)) place ∙ sym (remove_there page_key v 0 (listed s) (sound_rise s good) (has q)))
 
     pub place_below : t ≡ true → k < n
-    place_below q = omega (arith, place-under page_key v (take n s.slots) (sym stands ∙ q), length-take n s.slots)
+    place_below q = omega (arith, place_under page_key v (take n s.slots) (sym stands ∙ q), length-take n s.slots)
 
     -- the page marked: as it is where it is listed
     module _ (a : ℕ) (page : v ≡ page_of a) where
@@ -211,13 +211,13 @@ module _ (bs : List ℕ) (h : both (marked_fit bs) (sound_marked (marked_in bs))
       few : length (listed s) ≡ n
       few = omega (arith, length-take s.count s.slots, room)
 
-      pub mark-told-there : t ≡ true → Bytes bs → Told call bs Met bs
-      mark-told-there q b = told call bs fit (mark_there s a good room (key q)) bs fit b refl
+      pub mark_told_there : t ≡ true → Bytes bs → Told call bs Met bs
+      mark_told_there q b = told call bs fit (mark_there s a good room (key q)) bs fit b refl
 
-      pub mark-told-full : t ≡ false → 256 ≤ n → Bytes bs → Told call bs (Refused list_full) bs
-      mark-told-full q m b = told call bs fit (mark-full s a good (key q) (omega (arith, few))) bs fit b refl
+      pub mark_told_full : t ≡ false → 256 ≤ n → Bytes bs → Told call bs (Refused list_full) bs
+      mark_told_full q m b = told call bs fit (mark-full s a good (key q) (omega (arith, few))) bs fit b refl
 
-      pub mark-told-new : t ≡ false → n < 256 → (left : List ℕ) → Bytes left → (marked_in left ≡ store_pages (put_in k v (listed s)) s) × (marked_fit left ≡ true) → Told call bs Met left
-      mark-told-new q m left b (z, f) =
+      pub mark_told_new : t ≡ false → n < 256 → (left : List ℕ) → Bytes left → (marked_in left ≡ store_pages (put_in k v (listed s)) s) × (marked_fit left ≡ true) → Told call bs Met left
+      mark_told_new q m left b (z, f) =
           told call bs fit (mark-new s a good (key q) (omega (arith, few))) left f b
           (z ∙ (λ j. store_pages (put_in (place j) v (listed s)) s) ∙ ap (λ (w : ℕ). store_pages (put_in (place_of page_key w (listed s)) w (listed s)) s) page)

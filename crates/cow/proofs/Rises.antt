@@ -8,7 +8,7 @@ use lib.ListN.{get_or}
 use lib.Seq.{slice}
 use Rattle.slots.specs.Sorted.{rising_from}
 use Rattle.slots.proofs.Slices.{next, none}
-use Rattle.slots.proofs.Sorted.{rise-stop, rise-on, rise-end}
+use Rattle.slots.proofs.Sorted.{rise_stop, rise_on, rise_end}
 use Rattle.cow.specs.Marked.{page_key}
 use Rattle.cow.specs.Packed.{marked_in}
 use Rattle.cow.proofs.RoundTrip.{slots_long}
@@ -18,13 +18,13 @@ module _ (bs : List ℕ) (n : ℕ) (few : n ≤ 256) (i u : ℕ) where
   l = (marked_in bs).slots
 
   pub page_stops : i < n → get_or l i 0 ≤ u → rising_from page_key (suc u) (slice i n l) ≡ false
-  page_stops in_List low = rise-stop page_key (next 0 l n (omega (arith, slots_long bs, few)) i in_List) u low
+  page_stops in_List low = rise_stop page_key (next 0 l n (omega (arith, slots_long bs, few)) i in_List) u low
 
   pub page_rises : (j : ℕ) → i + 1 ≡ j → i < n → u < get_or l i 0 → rising_from page_key (suc u) (slice i n l) ≡ rising_from page_key (suc (get_or l i 0)) (slice j n l)
-  page_rises j e in_List high = rise-on page_key (next 0 l n (omega (arith, slots_long bs, few)) i in_List) u high ∙ ap (λ (k : ℕ). rising_from page_key (suc (get_or l i 0)) (slice k n l)) e
+  page_rises j e in_List high = rise_on page_key (next 0 l n (omega (arith, slots_long bs, few)) i in_List) u high ∙ ap (λ (k : ℕ). rising_from page_key (suc (get_or l i 0)) (slice k n l)) e
 
   pub no_page_left : n ≤ i → rising_from page_key (suc u) (slice i n l) ≡ true
-  no_page_left out = rise-end page_key (suc u) (none 0 l n (omega (arith, slots_long bs, few)) i out)
+  no_page_left out = rise_end page_key (suc u) (none 0 l n (omega (arith, slots_long bs, few)) i out)
 
 -- four of them, from i on
 module _ (bs : List ℕ) (n : ℕ) (few : n ≤ 256) (i u : ℕ) (in_List : i + 3 < n) where

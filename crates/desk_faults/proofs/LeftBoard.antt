@@ -67,12 +67,12 @@ module _ (words fields bits : List ℕ) (root : ℕ) (kernel user marked : List 
     tested true fit = rw fit (started (may_start (length words) from to levels) refl)
     tested false fit = rw fit refl
 
-    pub start-did : {ws fs ks us ms : List ℕ} (bs : List ℕ) {rt : ℕ} {x : Started} {r : Line} → fields_fit fields ≡ true
+    pub start_did : {ws fs ks us ms : List ℕ} (bs : List ℕ) {rt : ℕ} {x : Started} {r : Line} → fields_fit fields ≡ true
         → started_bytes x ws bs ks us ms ≡ start_on given from to levels → r ≡ answer_line x.answer
         → (fs ≡ written_if_met x.answer fields (fields_out x.records.frames)) × (rt ≡ written_if_met x.answer root x.records.root.0)
         → parts_left r (board_parts ws fs bs rt ks us ms) ≡ packed_start lent from to levels
     unfolding packed_start start_on
-    start-did {ws = ws} {ks = ks} {us = us} {ms = ms} bs fit e r (fs, rt) =
+    start_did {ws = ws} {ks = ks} {us = us} {ms = ms} bs fit e r (fs, rt) =
         (λ j. parts_left (r j) (board_parts ws (fs j) bs (rt j) ks us ms)) ∙ ap wrote e ∙ tested (both (eqb (length kernel) vm_size) (both (mmap_fit user) (marked_fit marked))) fit
 
   -- 10 and 11

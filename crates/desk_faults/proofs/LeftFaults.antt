@@ -42,7 +42,7 @@ use Rattle.handler.specs.Handler.{overwrite, put_over, map_over, handle_fault_se
 use Rattle.layout.specs.Parts.{fields_in, fields_out, fields_fit}
 use Rattle.layout.specs.Left.{parts_left, broken_line, IsRefusal, Unchanged, no_leftovers, fault_leftovers, second_leftovers}
 use Rattle.layout.specs.Memory.{ListParts, list_parts, plain_line, memory_parts}
-use Rattle.layout.proofs.Left.{broken_left, unchanged_left, fields_same, memory_unchanged, list-met}
+use Rattle.layout.proofs.Left.{broken_left, unchanged_left, fields_same, memory_unchanged, list_met}
 use Rattle.layout.proofs.Numbers.{Listed, make_listed}
 use Rattle.desk_faults.specs.Faults.{left_marked, packed_mark_cow, packed_unmark_cow, packed_is_cow, fault_fit, fault_packed, on_fault, packed_fault, packed_fault_found, packed_fault_second}
 
@@ -84,7 +84,7 @@ module _ (call : Faulting → FaultDid) (words fields bits marked : List ℕ) wh
       → kept x (lent_memory ws bs g) ms ≡ on_pages call (lent_memory words bits f) marked
       → r ≡ answer_line x → fs ≡ fields_out g → parts_left r (list_parts ws fs bs ms) ≡ on_fault call faultLent
   unfolding on_fault on_pages
-  fault_met = list-met answer_line words fields bits marked (λ (m : Memory). on_pages call m marked) (marked_fit marked) (Refused broken_record) _ refl refl
+  fault_met = list_met answer_line words fields bits marked (λ (m : Memory). on_pages call m marked) (marked_fit marked) (Refused broken_record) _ refl refl
 
   fault_unchanged : (leftovers : List ℕ) → Bytes fields → Bytes marked
       → ((s : Faulting) → IsRefusal leftovers (plain_line (call s).answer).number → (call s).state ≡ s)

@@ -50,7 +50,7 @@ use Rattle.mprotect.proofs.Cases.{mprotect_cases}
 use Rattle.layout.specs.Parts.{fields_in, fields_out, fields_fit}
 use Rattle.layout.specs.Left.{PartsLeft, parts_left, broken_line, unless_fit, IsRefusal, Unchanged, no_leftovers, region_leftovers}
 use Rattle.layout.specs.Memory.{ListParts, list_parts, plain_line}
-use Rattle.layout.proofs.Left.{broken_left, met_left, unchanged_left, fields_same, list-met}
+use Rattle.layout.proofs.Left.{broken_left, met_left, unchanged_left, fields_same, list_met}
 use Rattle.layout.proofs.Numbers.{pages_listed}
 use Rattle.desk_regions.specs.Regions.{address_line, kernel_fit, kernel_of_parts, kernel_packed, on_kernel, user_fit, user_of_parts, user_packed, on_user}
 use Rattle.desk_regions.specs.Regions.{packed_vmalloc, packed_vfree, packed_vfree_found, packed_mmap, packed_munmap, packed_munmap_found, packed_find_free, search_leftovers, ProtectParts, protect_parts, protect_packed, packed_mprotect}
@@ -78,7 +78,7 @@ module _ {A : Type 0} (form : Outcome → A) (line : A → Line) (call : Kernel 
       → r ≡ line x → fs ≡ fields_out g → parts_left r (list_parts ws fs bs ls) ≡ on_kernel kernelSaid call kernelLent
   unfolding on_kernel on_vm_list
   kernel_met e =
-      list-met line words fields bits list (λ (m : Memory). on_vm_list form call m list) (vm_fit list) (form (Stop broken_record))
+      list_met line words fields bits list (λ (m : Memory). on_vm_list form call m list) (vm_fit list) (form (Stop broken_record))
       (kept_kernel form (call (kernel_of_parts kernelLent))) e refl
 
   kernel_unchanged : (leftovers : List ℕ) → Bytes fields → Bytes list
@@ -109,7 +109,7 @@ module _ {A : Type 0} (form : Outcome → A) (line : A → Line) (call : User �
       → r ≡ line x → fs ≡ fields_out g → parts_left r (list_parts ws fs bs ls) ≡ on_user userSaid call userLent
   unfolding on_user on_mmap_list
   user_met e =
-      list-met line words fields bits list (λ (m : Memory). on_mmap_list form call m list) (mmap_fit list) (form (Stop broken_record))
+      list_met line words fields bits list (λ (m : Memory). on_mmap_list form call m list) (mmap_fit list) (form (Stop broken_record))
       (kept_user form (call (user_of_parts userLent))) e refl
 
   user_unchanged : (leftovers : List ℕ) → Bytes fields → Bytes list
@@ -138,10 +138,10 @@ module _ (words fields bits list : List ℕ) (root addr : ℕ) {t : Tally} where
     unfolding packed_munmap_found
     munmap_none h e = rw h e
 
-    pub munmap-found : {f : FrameAllocator} → fields_fit fields ≡ true → f ≡ fields_in fields → t ≡ munmap_found_on (lent_memory words bits f) list root addr size
+    pub munmap_found_lem : {f : FrameAllocator} → fields_fit fields ≡ true → f ≡ fields_in fields → t ≡ munmap_found_on (lent_memory words bits f) list root addr size
         → t ≡ packed_munmap_found (list_parts words fields bits list) root addr size
     unfolding packed_munmap_found munmap_found_on
-    munmap-found h f e = rw h (e ∙ (λ j. munmap_found_on (lent_memory words bits (f j)) list root addr size))
+    munmap_found_lem h f e = rw h (e ∙ (λ j. munmap_found_on (lent_memory words bits (f j)) list root addr size))
 
 -- ---- refusals of vmalloc: 10, 1, 3 and 15; 11 and 13 have leftovers
 

@@ -78,18 +78,18 @@ module _ (up : ℕ) (m : Memory) (root v code : ℕ) where
   demand_invalid h = rw h
 
   module _ (h : valid v ≡ true) where
-    pub demand-fetch : both (is_fetch code) (in_heap v) ≡ true → demand_page up m root v code ≡ out (Stop instruction_fetch) m
+    pub demand_fetch : both (is_fetch code) (in_heap v) ≡ true → demand_page up m root v code ≡ out (Stop instruction_fetch) m
     unfolding demand_page
-    demand-fetch k = rw (h, k)
+    demand_fetch k = rw (h, k)
 
     module _ (k : both (is_fetch code) (in_heap v) ≡ false) (m' : Memory) where
-      pub demand-none : (n : ℕ) → raw_frame m ≡ out (Stop n) m' → demand_page up m root v code ≡ out (Stop n) m'
+      pub demand_none : (n : ℕ) → raw_frame m ≡ out (Stop n) m' → demand_page up m root v code ≡ out (Stop n) m'
       unfolding demand_page
-      demand-none n e = rw (h, k, e)
+      demand_none n e = rw (h, k, e)
 
-      pub demand-map : (f : ℕ) → raw_frame m ≡ out (Value f) m' → {w u : Bool} → w ≡ is_write code → u ≡ is_user code → demand_page up m root v code ≡ map_frame up m' root v f w u
+      pub demand_map : (f : ℕ) → raw_frame m ≡ out (Value f) m' → {w u : Bool} → w ≡ is_write code → u ≡ is_user code → demand_page up m root v code ≡ map_frame up m' root v f w u
       unfolding demand_page
-      demand-map f e a b = rw (h, k, e, a, b)
+      demand_map f e a b = rw (h, k, e, a, b)
 
 -- ---- access that was denied
 
@@ -98,16 +98,16 @@ module _ (up : ℕ) (s : Faulting) (root v code : ℕ) where
   protected_read h e = rw (h, e)
 
   module _ (h : is_write code ≡ true) where
-    pub protected-plain : has_key page_key v (listed s.marked) ≡ false → protected up s root v code ≡ fault_did (Stop write_to_read_only) s
-    protected-plain k = rw (h, k)
+    pub protected_plain : has_key page_key v (listed s.marked) ≡ false → protected up s root v code ≡ fault_did (Stop write_to_read_only) s
+    protected_plain k = rw (h, k)
 
     module _ (k : has_key page_key v (listed s.marked) ≡ true) {u : Bool} (e : u ≡ is_user code) (m' : Memory) where
-      pub protected-stop : (n : ℕ) → copy_on_write up s.mem root v u ≡ out (Stop n) m' → protected up s root v code ≡ fault_did (Stop n) (faulting m' s.marked)
-      protected-stop n c = rw (h, k, ← e, c)
+      pub protected_stop : (n : ℕ) → copy_on_write up s.mem root v u ≡ out (Stop n) m' → protected up s root v code ≡ fault_did (Stop n) (faulting m' s.marked)
+      protected_stop n c = rw (h, k, ← e, c)
 
-      pub protected-met : (x : ℕ) → copy_on_write up s.mem root v u ≡ out (Value x) m'
+      pub protected_met : (x : ℕ) → copy_on_write up s.mem root v u ≡ out (Value x) m'
           → protected up s root v code ≡ fault_did (Value x) (faulting m' (store_pages (remove page_key v (listed s.marked)) s.marked))
-      protected-met x c = rw (h, k, ← e, c)
+      protected_met x c = rw (h, k, ← e, c)
 
 -- ---- the first path
 
@@ -116,12 +116,12 @@ module _ (up : ℕ) (s : Faulting) (root v code : ℕ) where
   handled_reserved h = rw h
 
   module _ (h : is_reserved code ≡ false) where
-    pub handled-present : is_present code ≡ true → protected up s root v code ≡ handled up s root v code
-    handled-present k = rw (h, k)
+    pub handled_present : is_present code ≡ true → protected up s root v code ≡ handled up s root v code
+    handled_present k = rw (h, k)
 
-    pub handled-absent : is_present code ≡ false → {w : Outcome} {m' : Memory} → out w m' ≡ demand_page up s.mem root v code
+    pub handled_absent : is_present code ≡ false → {w : Outcome} {m' : Memory} → out w m' ≡ demand_page up s.mem root v code
         → handled up s root v code ≡ fault_did w (faulting m' s.marked)
-    handled-absent k e = rw (h, k, ← e)
+    handled_absent k e = rw (h, k, ← e)
 
 module _ (up : ℕ) (m : Memory) (bs : List ℕ) (root a code : ℕ) where
   abbrev s : Faulting
@@ -132,13 +132,13 @@ module _ (up : ℕ) (m : Memory) (bs : List ℕ) (root a code : ℕ) where
   fault_broken h = rw h
 
   module _ (h : whole m root ≡ true) where
-    pub fault-unsorted : both (marked_fit bs) (sound_marked (marked_in bs)) ≡ false → marked_fit bs ≡ true → handle_fault up s root a code ≡ fault_did (Stop broken_record) s
+    pub fault_unsorted : both (marked_fit bs) (sound_marked (marked_in bs)) ≡ false → marked_fit bs ≡ true → handle_fault up s root a code ≡ fault_did (Stop broken_record) s
     unfolding handle_fault
-    fault-unsorted k fit = let z : sound_marked (marked_in bs) ≡ false = rw fit at k in rw (h, z)
+    fault_unsorted k fit = let z : sound_marked (marked_in bs) ≡ false = rw fit at k in rw (h, z)
 
-    pub fault-is : both (marked_fit bs) (sound_marked (marked_in bs)) ≡ true → {v : ℕ} → v ≡ page_of a → handled up s root v code ≡ handle_fault up s root a code
+    pub fault_is : both (marked_fit bs) (sound_marked (marked_in bs)) ≡ true → {v : ℕ} → v ≡ page_of a → handled up s root v code ≡ handle_fault up s root a code
     unfolding handle_fault
-    fault-is k e = rw (h, (both_true (marked_fit bs) (sound_marked (marked_in bs)) k).1, e)
+    fault_is k e = rw (h, (both_true (marked_fit bs) (sound_marked (marked_in bs)) k).1, e)
 
 -- ---- what it found
 
@@ -147,18 +147,18 @@ module _ (up : ℕ) (s : Faulting) (root v code : ℕ) where
   no_write_none h = rw h
 
   module _ (h : is_write code ≡ true) where
-    pub plain-none : has_key page_key v (listed s.marked) ≡ false → protected_found up s root v code ≡ none_found
-    plain-none k = rw (h, k)
+    pub plain_none : has_key page_key v (listed s.marked) ≡ false → protected_found up s root v code ≡ none_found
+    plain_none k = rw (h, k)
 
-    pub copy-finds : has_key page_key v (listed s.marked) ≡ true → {u : Bool} → u ≡ is_user code → copy_found up s.mem root v u ≡ protected_found up s root v code
-    copy-finds k e = rw (h, k, ← e)
+    pub copy_finds : has_key page_key v (listed s.marked) ≡ true → {u : Bool} → u ≡ is_user code → copy_found up s.mem root v u ≡ protected_found up s root v code
+    copy_finds k e = rw (h, k, ← e)
 
   pub reserved_none : is_reserved code ≡ true → handled_found up s root v code ≡ none_found
   reserved_none h = rw h
 
   module _ (h : is_reserved code ≡ false) where
-    pub present-finds : is_present code ≡ true → protected_found up s root v code ≡ handled_found up s root v code
-    present-finds k = rw (h, k)
+    pub present_finds : is_present code ≡ true → protected_found up s root v code ≡ handled_found up s root v code
+    present_finds k = rw (h, k)
 
     pub absent_none : is_present code ≡ false → handled_found up s root v code ≡ none_found
     absent_none k = rw (h, k)
@@ -169,11 +169,11 @@ module _ (up : ℕ) (m : Memory) (bs : List ℕ) (root a code : ℕ) where
   broken_none h = rw h
 
   module _ (h : whole m root ≡ true) where
-    pub unsorted-none : both (marked_fit bs) (sound_marked (marked_in bs)) ≡ false → marked_fit bs ≡ true → fault_found up (faulting m (marked_in bs)) root a code ≡ none_found
+    pub unsorted_none : both (marked_fit bs) (sound_marked (marked_in bs)) ≡ false → marked_fit bs ≡ true → fault_found up (faulting m (marked_in bs)) root a code ≡ none_found
     unfolding fault_found
-    unsorted-none k fit = let z : sound_marked (marked_in bs) ≡ false = rw fit at k in rw (h, z)
+    unsorted_none k fit = let z : sound_marked (marked_in bs) ≡ false = rw fit at k in rw (h, z)
 
-    pub fault-finds : both (marked_fit bs) (sound_marked (marked_in bs)) ≡ true → {v : ℕ} → v ≡ page_of a
+    pub fault_finds_lem : both (marked_fit bs) (sound_marked (marked_in bs)) ≡ true → {v : ℕ} → v ≡ page_of a
         → handled_found up (faulting m (marked_in bs)) root v code ≡ fault_found up (faulting m (marked_in bs)) root a code
     unfolding fault_found
-    fault-finds k e = rw (h, (both_true (marked_fit bs) (sound_marked (marked_in bs)) k).1, e)
+    fault_finds_lem k e = rw (h, (both_true (marked_fit bs) (sound_marked (marked_in bs)) k).1, e)

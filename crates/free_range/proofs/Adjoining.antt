@@ -16,8 +16,8 @@ use Rattle.mappings.specs.Regions.{user_start, mapped_region, well_placed_mappin
 use Rattle.free_range.specs.Search.{in_the_way}
 use Rattle.free_range.specs.Compared.{compared_in, compared, adjoining, Reached}
 use Rattle.mappings.proofs.Rising.{Rising, rising_none}
-use Rattle.free_range.proofs.Scans.{way_end, way-here, way_on, compared_all, compared_last, compared_on}
-use Rattle.free_range.proofs.Compared.{compared-here, compared-past}
+use Rattle.free_range.proofs.Scans.{way_end, way_here, way_on, compared_all, compared_last, compared_on}
+use Rattle.free_range.proofs.Compared.{compared_here, compared_past}
 
 -- the first of them
 abbrev page : ℕ → MappedRegion
@@ -41,7 +41,7 @@ row_way : (k a i b : ℕ) → i < k → b ≡ a + i * 4096 → (in_the_way b 409
 row_way zero a i b h e = absurd (omega arith)
 row_way (suc k) a zero b h e =
     let end : Until (a + 4096) ≡ Until (b + 4096) = ap Until (omega arith) in
-    (way-here b 4096 refl (omega arith) (omega arith) ∙ end, compared_last b 4096 refl (omega arith) (omega arith))
+    (way_here b 4096 refl (omega arith) (omega arith) ∙ end, compared_last b 4096 refl (omega arith) (omega arith))
 row_way (suc k) a (suc i) b h e =
     let more = row_way k (a + 4096) i b (omega arith) (omega arith) in
     (way_on b 4096 refl (omega arith) ∙ more.0, compared_on b 4096 refl (omega arith) ∙ ap suc more.1)
@@ -55,12 +55,12 @@ row_free (suc k) a b e = way_on b 4096 refl (omega arith) ∙ row_free k (a + 40
 row_sum : (k d i b : ℕ) → k ≤ 256 → i + d ≡ k → b ≡ user_start + i * 4096 → 2 * compared (adjoining k user_start) b 4096 + i * (i + 1) ≡ k * (k + 3)
 row_sum k zero i b few e z =
     let free = row_free k user_start b (omega arith) in
-    let here = compared-here (adjoining k user_start) 4096 b (omega arith) free in
+    let here = compared_here (adjoining k user_start) 4096 b (omega arith) free in
     let same : i ≡ k = omega arith in
     rw same (omega (arith, here, compared_all b 4096 (adjoining k user_start) free, row_long k user_start))
 row_sum k (suc d) i b few e z =
     let way = row_way k user_start i b (omega arith) z in
-    let past = compared-past (adjoining k user_start) 4096 b (omega arith) (b + 4096) way.0 in
+    let past = compared_past (adjoining k user_start) 4096 b (omega arith) (b + 4096) way.0 in
     let more = row_sum k d (suc i) (b + 4096) few (omega arith) (omega arith) in
     omega (arith, past, way.1, more)
 

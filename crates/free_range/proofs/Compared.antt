@@ -37,17 +37,17 @@ module _ (l : List MappedRegion) (n a : ℕ) where
   compared_none h = rw (le-ltb _ _ h)
 
   module _ (h : a + n < user_end) where
-    pub compared-least : compared_in a n l ≤ compared l a n
+    pub compared_least : compared_in a n l ≤ compared l a n
     unfolding compared_from
-    compared-least = rw (lt-ltb _ _ h) (omega arith)
+    compared_least = rw (lt-ltb _ _ h) (omega arith)
 
-    pub compared-here : in_the_way a n l ≡ Nothing → compared l a n ≡ compared_in a n l
+    pub compared_here : in_the_way a n l ≡ Nothing → compared l a n ≡ compared_in a n l
     unfolding compared_from
-    compared-here e = let z : compared_in a n l + 0 ≡ compared_in a n l = omega arith in rw (lt-ltb _ _ h, e) z
+    compared_here e = let z : compared_in a n l + 0 ≡ compared_in a n l = omega arith in rw (lt-ltb _ _ h, e) z
 
-    pub compared-past : (e : ℕ) → in_the_way a n l ≡ Until e → compared l a n ≡ compared_in a n l + compared l e n
+    pub compared_past : (e : ℕ) → in_the_way a n l ≡ Until e → compared l a n ≡ compared_in a n l + compared l e n
     unfolding compared_from
-    compared-past e w =
+    compared_past e w =
         let fewer = ahead_less a n e l w in
         let few = ahead_few a l in
         rw (lt-ltb _ _ h, w) (ap (λ (x : ℕ). compared_in a n l + x) (compared_scans l n (length l) (suc (length l)) e (omega arith) (omega arith)))

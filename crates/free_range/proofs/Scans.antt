@@ -37,13 +37,13 @@ module _ (a n : ℕ) {l : List MappedRegion} where
 
   module _ {r : MappedRegion} {q : List MappedRegion} (e : l ≡ r ∷ q) where
     -- from a region that starts past them on, nothing is
-    pub way-beyond : Rising (suc r.start) q → a + n ≤ r.start → in_the_way a n l ≡ Nothing
+    pub way_beyond : Rising (suc r.start) q → a + n ≤ r.start → in_the_way a n l ≡ Nothing
     unfolding in_the_way
-    way-beyond f h = rw (e, not_past a n r h) (none_past a n (suc r.start) q f (omega arith))
+    way_beyond f h = rw (e, not_past a n r h) (none_past a n (suc r.start) q f (omega arith))
 
-    pub way-here : r.start < a + n → a < r.start + r.size → in_the_way a n l ≡ Until (r.start + r.size)
+    pub way_here : r.start < a + n → a < r.start + r.size → in_the_way a n l ≡ Until (r.start + r.size)
     unfolding in_the_way
-    way-here h k = rw (e, lt-ltb _ _ k, lt-ltb _ _ h)
+    way_here h k = rw (e, lt-ltb _ _ k, lt-ltb _ _ h)
 
     pub way_on : r.start + r.size ≤ a → in_the_way a n l ≡ in_the_way a n q
     unfolding in_the_way

@@ -97,9 +97,9 @@ module _ (l : List MappedRegion) (n a : ℕ) where
   find_none h = rw (le-ltb _ _ h)
 
   module _ (h : a + n < user_end) where
-    pub find-here : in_the_way a n l ≡ Nothing → find_free l a n ≡ Value a
+    pub find_here : in_the_way a n l ≡ Nothing → find_free l a n ≡ Value a
     unfolding search_from
-    find-here e = rw (lt-ltb _ _ h, e)
+    find_here e = rw (lt-ltb _ _ h, e)
 
     pub find_past : (e : ℕ) → in_the_way a n l ≡ Until e → find_free l a n ≡ find_free l e n
     unfolding search_from

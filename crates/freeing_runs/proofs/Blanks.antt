@@ -91,15 +91,15 @@ module _ (m : Memory) (t i n : ℕ) {bm : List ℕ} (b : Blank m.words bm) (ins 
   blank_pass h = sym (leaves_none t n i m ins (λ x _ l. b.absent (t - start_frame m) h x (omega arith)))
 
   module _ {m' : Memory} (e : m' ≡ free_leaves m t i n) where
-    pub blank-left : Blank m'.words bm
-    blank-left = rw e (blank_fewer (leaves_less t n i m).words b)
+    pub blank_left : Blank m'.words bm
+    blank_left = rw e (blank_fewer (leaves_less t n i m).words b)
 
     -- one that was gone through whole can be marked
-    pub blank-more : n ≡ 512 → marked bm (t - start_frame m) ≡ 0 → Blank m'.words (mark bm (t - start_frame m))
-    blank-more w free = record {
+    pub blank_more : n ≡ 512 → marked bm (t - start_frame m) ≡ 0 → Blank m'.words (mark bm (t - start_frame m))
+    blank_more w free = record {
       absent = λ j h x l. go j h x l (ℕ_discrete j (t - start_frame m));
     }
       where
         go : (j : ℕ) → marked (mark bm (t - start_frame m)) j ≡ 1 → (x : ℕ) → x < 512 → Dec (j ≡ t - start_frame m) → flag 0 (get_or m'.words (j * 512 + x) 0) ≡ false
         go j h x l (yes q) = rw (e, q) (leaves_gone t n i m ins x (omega arith) (omega arith))
-        go j h x l (no d) = blank-left.absent j (sym (mark_other bm (t - start_frame m) free j d) ∙ h) x l
+        go j h x l (no d) = blank_left.absent j (sym (mark_other bm (t - start_frame m) free j d) ∙ h) x l

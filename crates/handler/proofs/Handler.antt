@@ -74,15 +74,15 @@ module _ (up : ℕ) (m : Memory) (root v code : ℕ) where
   second_reserved h = rw h
 
   module _ (h : is_reserved code ≡ false) where
-    pub second-present : is_present code ≡ true → {n : ℕ} → n ≡ refused code → handled_second up m root v code ≡ out (Stop n) m
-    second-present k e = rw (h, k, e)
+    pub second_present : is_present code ≡ true → {n : ℕ} → n ≡ refused code → handled_second up m root v code ≡ out (Stop n) m
+    second_present k e = rw (h, k, e)
 
     -- after `map_page` and `as_answer`
-    pub second-absent : is_present code ≡ false → {w u : Bool} → w ≡ is_write code → u ≡ is_user code → {x : Outcome} {m' : Memory} → out x m' ≡ map_new up m root v w u
+    pub second_absent : is_present code ≡ false → {w u : Bool} → w ≡ is_write code → u ≡ is_user code → {x : Outcome} {m' : Memory} → out x m' ≡ map_new up m root v w u
         → {a : Answer} → a ≡ as_answer x
         → (record { answer = a; frames = m'.frames.fa } ≡ as_changed (handled_second up m root v code))
         × ((m'.words ≡ (handled_second up m root v code).mem.words) × (m'.frames.bits ≡ (handled_second up m root v code).mem.frames.bits))
-    second-absent k p q {x = x} {m' = m'} e r =
+    second_absent k p q {x = x} {m' = m'} e r =
         let d : handled_second up m root v code ≡ out x m' = rw (h, k, ← p, ← q) (sym e) in
         let t = told d in
         ((λ j. record { answer = r j; frames = m'.frames.fa }) ∙ t.0, t.1)

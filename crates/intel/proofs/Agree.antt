@@ -15,7 +15,7 @@ use Rattle.answer.specs.declared.Outcome.TheVariants.{Value, Stop}
 use Rattle.paging.specs.declared.Leaf.{Leaf}
 use Rattle.paging.specs.Walk.{place, entry_at, reach, judge, leaf, address}
 use Rattle.paging.specs.Calls.{translate}
-use Rattle.paging.proofs.Walk.{no_value, present_yes, present_no, entry_out, entry_in, reach_end, reach-stop, reach-on, leaf-stop, leaf-on}
+use Rattle.paging.proofs.Walk.{no_value, present_yes, present_no, entry_out, entry_in, reach_end, reach_stop, reach_on, leaf_stop, leaf_on}
 use Rattle.intel.specs.Sdm.{Paging, fourLevel, fiveLevel, bits, PhysicalMemory, Translation, physical, notPresent, reserved, large, choose, p, ps, table_of, page_at, through_pte, through_pde, through_pdpte, through_pml4e, through_pml5e, through_cr3, linear}
 use Rattle.intel.specs.Agreement.{paging_levels, Holds, NoHuge, as_translation, Agrees, SamePages, SameAbsent, ThreeOutcomes, OffBoard}
 use Rattle.intel.proofs.Steps.{not_outside, judge_plain, entry_outcomes, leaf_plain, plain_here, plain_below, outcomes}
@@ -40,13 +40,13 @@ module _ (mem : PhysicalMemory) (ws : List ℕ) (start total v : ℕ) (holds : H
       by_flag : inside start total t ≡ true → (x : Bool) → flag 0 w ≡ x → choose x (on w) notPresent ≡ as_translation (address v (leaf ws start total t (i ∷ is)))
       by_flag h true k =
           let e : entry_at ws start total t i ≡ Value w = entry_in ws start total t i h small ∙ present_yes w k in
-          let l : leaf ws start total t (i ∷ is) ≡ judge is w (leaf ws start total (frame_of w) is) = leaf-on ws start total t refl w e in
+          let l : leaf ws start total t (i ∷ is) ≡ judge is w (leaf ws start total (frame_of w) is) = leaf_on ws start total t refl w e in
           behind w e (λ z. stays (ap (address v) l ∙ z)) ∙ ap (λ (x : Leaf). as_translation (address v x)) (sym l)
-      by_flag h false k = rw (leaf-stop ws start total t {is = is} refl not_mapped (entry_in ws start total t i h small ∙ present_no w k))
+      by_flag h false k = rw (leaf_stop ws start total t {is = is} refl not_mapped (entry_in ws start total t i h small ∙ present_no w k))
 
       by-table : (x : Bool) → inside start total t ≡ x → through (mem (t * 2 ^ 12 + i * 2 ^ 3)) ≡ as_translation (address v (leaf ws start total t (i ∷ is)))
       by-table true h = ap through (holds.word t i h small) ∙ law w ∙ by_flag h (flag 0 w) refl
-      by-table false h = absurd (stays (ap (address v) (leaf-stop ws start total t refl outside (entry_out ws start total t i h))))
+      by-table false h = absurd (stays (ap (address v) (leaf_stop ws start total t refl outside (entry_out ws start total t i h))))
 
   -- a page table, whose entries map pages
   page_table : (t : ℕ) → Same (through_pte v (mem (t * 2 ^ 12 + bits 20 12 v * 2 ^ 3))) (address v (leaf ws start total t (indices 1 v)))
@@ -112,10 +112,10 @@ module _ (ws : List ℕ) (start total v : ℕ) where
   off_entry : (t i : ℕ) (is : List ℕ) → (inside start total t ≡ true → (w : ℕ) → entry_at ws start total t i ≡ Value w → Leaves t (i ∷ is)) → Leaves t (i ∷ is)
   off_entry t i is there =
       entry_outcomes ws start total t i (λ (w : Outcome). entry_at ws start total t i ≡ w → Leaves t (i ∷ is))
-      (λ h e. (λ _. (0, t, omega arith, reach_end ws start total t refl, h), λ _. ap (address v) (leaf-stop ws start total t refl outside e)))
+      (λ h e. (λ _. (0, t, omega arith, reach_end ws start total t refl, h), λ _. ap (address v) (leaf_stop ws start total t refl outside e)))
       (λ h e. (
-        λ z. absurd (not_outside (sym (ap (address v) (leaf-stop ws start total t refl not_mapped e)) ∙ z)),
-        λ o. let q = off_past t i is h o in absurd (no_value (sym q.3 ∙ reach-stop ws start total t refl not_mapped e)),
+        λ z. absurd (not_outside (sym (ap (address v) (leaf_stop ws start total t refl not_mapped e)) ∙ z)),
+        λ o. let q = off_past t i is h o in absurd (no_value (sym q.3 ∙ reach_stop ws start total t refl not_mapped e)),
       ))
       (λ h. there h (get_or ws (place start t i) 0))
       refl
@@ -123,15 +123,15 @@ module _ (ws : List ℕ) (start total v : ℕ) where
   off : (i : ℕ) (is : List ℕ) (t : ℕ) → NoHuge ws start total (length is) t → Leaves t (i ∷ is)
   off i [] t _ =
       off_entry t i [] (λ h w e. (
-        λ z. absurd (no_value (sym (ap (address v) (leaf-on ws start total t refl w e)) ∙ z)),
+        λ z. absurd (no_value (sym (ap (address v) (leaf_on ws start total t refl w e)) ∙ z)),
         λ o. let q = off_past t i [] h o in absurd (omega (arith, q.2)),
       ))
   off i (j ∷ js) t n =
       off_entry t i (j ∷ js) (λ h w e.
       let same : address v (leaf ws start total t (i ∷ j ∷ js)) ≡ _ = ap (address v) (leaf_plain ws start total t i j js w e (plain_here ws start total i w n e)) in
       let next : Leaves (frame_of w) (j ∷ js) = off j js (frame_of w) (plain_below ws start total i w n e) in (
-        λ z. let q = next.0 (sym same ∙ z) in (suc q.0, q.1, omega (arith, q.2), reach-on ws start total t refl w e ∙ q.3, q.4),
-        λ o. let q = off_past t i (j ∷ js) h o in same ∙ next.1 (q.0, q.1, q.2, sym (reach-on ws start total t refl w e) ∙ q.3, q.4),
+        λ z. let q = next.0 (sym same ∙ z) in (suc q.0, q.1, omega (arith, q.2), reach_on ws start total t refl w e ∙ q.3, q.4),
+        λ o. let q = off_past t i (j ∷ js) h o in same ∙ next.1 (q.0, q.1, q.2, sym (reach_on ws start total t refl w e) ∙ q.3, q.4),
       ))
 
 -- ---- the proofs

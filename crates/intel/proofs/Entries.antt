@@ -14,7 +14,7 @@ use Rattle.frame.specs.Frames.{inside, is_levels}
 use Rattle.answer.specs.declared.Outcome.TheVariants.{Value, Stop}
 use Rattle.paging.specs.Walk.{place, entry_at, judge, leaf, address, may_walk}
 use Rattle.paging.specs.Calls.{lent_walk, translate}
-use Rattle.paging.proofs.Walk.{no_value, present_yes, present_no, entry_out, entry_in, leaf-stop, leaf-on}
+use Rattle.paging.proofs.Walk.{no_value, present_yes, present_no, entry_out, entry_in, leaf_stop, leaf_on}
 use Rattle.paging.proofs.Calls.{walk_by_lent, translate_is}
 use Rattle.intel.specs.Sdm.{Paging, fourLevel, fiveLevel, bits, PhysicalMemory, choose, p, ps, table_of, reading, read_pte, read_pde, read_pdpte, read_pml4e, read_pml5e, read_cr3, entries_read}
 use Rattle.intel.specs.Agreement.{paging_levels, Holds, NoHuge, ReadsOff}
@@ -80,16 +80,16 @@ module _ (mem : PhysicalMemory) (ws : List ℕ) (start total v : ℕ) (holds : H
       by_flag : inside start total t ≡ true → (x : Bool) → flag 0 w ≡ x → Leaves t (i ∷ is) (a ∷ choose x (behind w) [])
       by_flag h true k =
           let e : entry_at ws start total t i ≡ Value w = entry_in ws start total t i h small ∙ present_yes w k in
-          let l : address v (leaf ws start total t (i ∷ is)) ≡ address v (judge is w (leaf ws start total (frame_of w) is)) = ap (address v) (leaf-on ws start total t refl w e) in
+          let l : address v (leaf ws start total t (i ∷ is)) ≡ address v (judge is w (leaf ws start total (frame_of w) is)) = ap (address v) (leaf_on ws start total t refl w e) in
           (λ z. off_behind ((next w e).0 (sym l ∙ z)), λ o. l ∙ (next w e).1 (off_past a _ (ap (inside start total) frame ∙ h) o))
       by_flag h false k =
-          let l = ap (address v) (leaf-stop ws start total t {is = is} refl not_mapped (entry_in ws start total t i h small ∙ present_no w k)) in
+          let l = ap (address v) (leaf_stop ws start total t {is = is} refl not_mapped (entry_in ws start total t i h small ∙ present_no w k)) in
           (λ z. absurd (not_outside (sym l ∙ z)), λ o. absurd (off_none (off_past a [] (ap (inside start total) frame ∙ h) o)))
 
       by-table : (x : Bool) → inside start total t ≡ x → Leaves t (i ∷ is) (a ∷ choose (p (mem a)) (behind (mem a)) [])
       by-table true h = rw (holds.word t i h small) (by_flag h (flag 0 w) refl)
       by-table false h =
-          (λ _. (a, Memᴰ.head refl, ap (inside start total) frame ∙ h), λ _. ap (address v) (leaf-stop ws start total t refl outside (entry_out ws start total t i h)))
+          (λ _. (a, Memᴰ.head refl, ap (inside start total) frame ∙ h), λ _. ap (address v) (leaf_stop ws start total t refl outside (entry_out ws start total t i h)))
 
   -- a page table: nothing is read behind its entries
   page_table : (t : ℕ) → Leaves t (indices 1 v) (read_pte (at t (bits 20 12 v)))

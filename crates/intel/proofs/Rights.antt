@@ -17,7 +17,7 @@ use Rattle.paging.specs.Walk.{place, entry_at, leaf, address, may_walk}
 use Rattle.paging.specs.Calls.{translate}
 use Rattle.paging.specs.Working.{rows_below}
 use Rattle.paging.specs.User.{user_entry, user_rows, user_may}
-use Rattle.paging.proofs.Walk.{no_value, present_yes, entry_out, entry_in, leaf-stop}
+use Rattle.paging.proofs.Walk.{no_value, present_yes, entry_out, entry_in, leaf_stop}
 use Rattle.paging.proofs.User.{user_absent, user_none, user_last, user_on, may_is, user_rule}
 use Rattle.intel.specs.Sdm.{Paging, fourLevel, fiveLevel, bits, PhysicalMemory, Translation, physical, notPresent, reserved, large, notCanonical, choose, p, ps, table_of}
 use Rattle.intel.specs.Sdm.{through_pte, through_pde, through_pdpte, through_pml4e, through_pml5e, through_cr3, linear}
@@ -78,7 +78,7 @@ module _ (access : Access) (mem : PhysicalMemory) (ws : List ℕ) (start total v
     where
       by : (x : Bool) → inside start total t ≡ x → inside start total t ≡ true
       by true h = h
-      by false h = absurd (stays (ap (address v) (leaf-stop ws start total t {is = is} refl outside (entry_out ws start total t i h))))
+      by false h = absurd (stays (ap (address v) (leaf_stop ws start total t {is = is} refl outside (entry_out ws start total t i h))))
 
   -- the word at entry i of table t
   abbrev word : ℕ → ℕ → ℕ

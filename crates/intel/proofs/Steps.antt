@@ -18,7 +18,7 @@ use Rattle.answer.specs.declared.Outcome.TheVariants.{Value, Stop}
 use Rattle.paging.specs.declared.Leaf.{Leaf}
 use Rattle.paging.specs.declared.Leaf.TheVariants.{Large, NoLeaf}
 use Rattle.paging.specs.Walk.{place, present, entry_at, judge, leaf, address}
-use Rattle.paging.proofs.Walk.{reach_end, reach-on, leaf-on}
+use Rattle.paging.proofs.Walk.{reach_end, reach_on, leaf_on}
 use Rattle.intel.specs.Agreement.{NoHuge}
 
 -- 14 is not 19
@@ -50,12 +50,12 @@ module _ (ws : List ℕ) (start total : ℕ) where
   plain_here {up} {t} i e h k = h.plain [] t i e (omega arith) (reach_end ws start total t refl) k
 
   pub plain_below : {up t : ℕ} (i e : ℕ) → NoHuge ws start total (suc up) t → entry_at ws start total t i ≡ Value e → NoHuge ws start total up (frame_of e)
-  plain_below {up} {t} i e h k = record { plain = λ is s j x l r. h.plain (i ∷ is) s j x (omega arith) (reach-on ws start total t refl e k ∙ r) }
+  plain_below {up} {t} i e h k = record { plain = λ is s j x l r. h.plain (i ∷ is) s j x (omega arith) (reach_on ws start total t refl e k ∙ r) }
 
   -- past an entry that is a table's
   pub leaf_plain : (t i j : ℕ) (is : List ℕ) (e : ℕ) → entry_at ws start total t i ≡ Value e → flag 7 e ≡ false
       → leaf ws start total t (i ∷ j ∷ is) ≡ leaf ws start total (frame_of e) (j ∷ is)
-  leaf_plain t i j is e h k = leaf-on ws start total t refl e h ∙ judge_plain j is e _ k
+  leaf_plain t i j is e h k = leaf_on ws start total t refl e h ∙ judge_plain j is e _ k
 
   -- every outcome of a walk
   pub outcomes : (v t : ℕ) (is : List ℕ) → Ending (address v (leaf ws start total t is))

@@ -111,10 +111,10 @@ module _ {A : Type 0} (line : A → Line) where
         let f = fields_same fields fit b in
         rw fit (λ j. parts_left (e j) (list_parts words (f j) bits list))
 
-    pub list-met : (ok : Bool) (refusal : A) (did : Kept A) → line refusal ≡ broken_line → call given ≡ unless ok (kept refusal given list) did
+    pub list_met : (ok : Bool) (refusal : A) (did : Kept A) → line refusal ≡ broken_line → call given ≡ unless ok (kept refusal given list) did
         → {ws fs ls : List ℕ} (bs : List ℕ) {f g : FrameAllocator} {x : A} {r : Line}
         → fields_fit fields ≡ true → Bytes fields → f ≡ fields_in fields → kept x (lent_memory ws bs g) ls ≡ call (lent_memory words bits f)
         → r ≡ line x → fs ≡ fields_out g
         → parts_left r (list_parts ws fs bs ls) ≡ unless_fit (both (fields_fit fields) ok) (list_parts words fields bits list) (keptLeft did)
-    list-met ok refusal did e c {ws = ws} {ls = ls} bs fit t f k r fs =
+    list_met ok refusal did e c {ws = ws} {ls = ls} bs fit t f k r fs =
         (λ j. parts_left (r j) (list_parts ws (fs j) bs ls)) ∙ ap keptLeft (k ∙ (λ j. call (lent_memory words bits (f j))) ∙ c) ∙ list-tested ok refusal did fit t e

@@ -22,7 +22,7 @@ use Rattle.paging.specs.Walk.{place}
 use Rattle.paging.specs.Map.{Memory, start_frame, total_of, Out, out, make, Left, put_entry, take_leaf, with_words, RoomToTake}
 use Rattle.paging.specs.Calls.{as_changed, whole, size_of, tables_above, map_at, map_page, map_huge}
 use Rattle.paging.proofs.Map.{roomy_less, map_entry_stop, map_entry_put, put_full, put_free, take_leaf_none, take_leaf_there}
-use Rattle.paging.proofs.Calls.{told, told_left, map_is, huge-is}
+use Rattle.paging.proofs.Calls.{told, told_left, map_is, huge_is}
 use Rattle.walk.proofs.Laws.{shifted}
 use Rattle.tables.proofs.Laws.{stepped, made_roomy}
 
@@ -85,4 +85,4 @@ module _ (up : ℕ) (m : Memory) (root v p : ℕ) (w u : Bool) (h : whole m root
 
   pub huge_told : (s : HugePageSize) → aligned v (size_of s) ≡ true → aligned p (size_of s) ≡ true → (k : ℕ) → k ≡ tables_above up s → (e : ℕ) → e ≡ huge_entry_of p w u
       → Told r ws bm (map_at up k u m root v e) → Told r ws bm (map_huge up m root v p s w u)
-  huge_told s a b k f e g t = passed_on t ((λ j. map_at up (f j) u m root v (g j)) ∙ sym (huge-is up m root v p w u s h a b))
+  huge_told s a b k f e g t = passed_on t ((λ j. map_at up (f j) u m root v (g j)) ∙ sym (huge_is up m root v p w u s h a b))

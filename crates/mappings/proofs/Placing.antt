@@ -11,8 +11,8 @@ use lib.Seq.{get_or-take, set_split}
 use Rattle.slots.specs.Slots.{Slots, slotted, listed, store}
 use Rattle.slots.specs.Shifts.{put_in}
 use Rattle.slots.specs.Sorted.{place_of}
-use Rattle.slots.proofs.Sorted.{place-le, place-under, insert-new, insert-there, place-behind, place-until}
-use Rattle.slots.proofs.Stored.{stored-over}
+use Rattle.slots.proofs.Sorted.{place_le, place_under, insert_new, insert_there, place_behind, place_until}
+use Rattle.slots.proofs.Stored.{stored_over}
 use Rattle.mappings.specs.declared.MappedRegion.{MappedRegion}
 use Rattle.mappings.specs.Regions.{mapped_region, no_mapped_region, start_key, starts, insert, with_prot}
 use Rattle.mappings.specs.Packed.{mmap_in, sound_list}
@@ -22,10 +22,10 @@ use Rattle.mappings.proofs.Sound.{sound_few, sound_rising, listed_long}
 
 module _ (bs : List ℕ) (sound : sound_list bs ≡ true) (a k : ℕ) (e : k ≡ place_of start_key a (listed (mmap_in bs))) where
   pub place_within : k ≤ (mmap_in bs).count
-  place_within = omega (arith, place-le start_key a (listed (mmap_in bs)), listed_long bs sound)
+  place_within = omega (arith, place_le start_key a (listed (mmap_in bs)), listed_long bs sound)
 
   pub place_below : starts a (listed (mmap_in bs)) ≡ true → k < (mmap_in bs).count
-  place_below h = omega (arith, place-under start_key a (listed (mmap_in bs)) h, listed_long bs sound)
+  place_below h = omega (arith, place_under start_key a (listed (mmap_in bs)) h, listed_long bs sound)
 
   -- where none starts at a there is room for one more
   pub place_room : starts a (listed (mmap_in bs)) ≡ false → (length (listed (mmap_in bs)) < 256) ⊎ (starts a (listed (mmap_in bs)) ≡ true) → (mmap_in bs).count < 256
@@ -37,10 +37,10 @@ module _ (bs : List ℕ) (sound : sound_list bs ≡ true) (a m : ℕ) (h : m < (
   there = ap (λ (x : MappedRegion). x.start) (get_or-take (mmap_in bs).count (mmap_in bs).slots m no_mapped_region h ∙ sym e)
 
   pub place_after : r.start < a → m < place_of start_key a (listed (mmap_in bs))
-  place_after k = place-behind start_key a no_mapped_region 0 m (listed (mmap_in bs)) (sound_rising bs sound).0 (omega (arith, listed_long bs sound)) (omega (arith, there))
+  place_after k = place_behind start_key a no_mapped_region 0 m (listed (mmap_in bs)) (sound_rising bs sound).0 (omega (arith, listed_long bs sound)) (omega (arith, there))
 
   pub place_before : a ≤ r.start → place_of start_key a (listed (mmap_in bs)) ≤ m
-  place_before k = place-until start_key a no_mapped_region m (listed (mmap_in bs)) (omega (arith, listed_long bs sound)) (omega (arith, there))
+  place_before k = place_until start_key a no_mapped_region m (listed (mmap_in bs)) (omega (arith, listed_long bs sound)) (omega (arith, there))
 
 module _ (bs : List ℕ) (sound : sound_list bs ≡ true) (r : MappedRegion) (k : ℕ) (e : k ≡ place_of start_key r.start (listed (mmap_in bs))) where
   abbrev l : List MappedRegion
@@ -50,16 +50,16 @@ module _ (bs : List ℕ) (sound : sound_list bs ≡ true) (r : MappedRegion) (k 
   placed_set : k < (mmap_in bs).count → {t : Slots MappedRegion} → t ≡ slotted (set (mmap_in bs).slots k r) (mmap_in bs).count → t ≡ store no_mapped_region (set l k r) (mmap_in bs)
   placed_set below z =
       let few = sound_few bs sound in
-      z ∙ stored-over no_mapped_region (mmap_in bs).slots (mmap_in bs).count k below (omega (arith, slots_long bs)) r
+      z ∙ stored_over no_mapped_region (mmap_in bs).slots (mmap_in bs).count k below (omega (arith, slots_long bs)) r
       ∙ ap (λ (x : List MappedRegion). store no_mapped_region x (mmap_in bs)) (sym (set_split l k r (omega (arith, listed_long bs sound))))
 
   pub placed_over : starts r.start l ≡ true → {t : Slots MappedRegion} → t ≡ slotted (set (mmap_in bs).slots k r) (mmap_in bs).count → t ≡ store no_mapped_region (insert r l) (mmap_in bs)
   placed_over h z =
       placed_set (place_below bs sound r.start k e h) z
-      ∙ ap (λ (x : List MappedRegion). store no_mapped_region x (mmap_in bs)) (sym (insert-there start_key r 0 l (sound_rising bs sound).0 h ∙ ap (λ (i : ℕ). set l i r) (sym e)))
+      ∙ ap (λ (x : List MappedRegion). store no_mapped_region x (mmap_in bs)) (sym (insert_there start_key r 0 l (sound_rising bs sound).0 h ∙ ap (λ (i : ℕ). set l i r) (sym e)))
 
   pub placed_new : starts r.start l ≡ false → {t : Slots MappedRegion} → t ≡ store no_mapped_region (put_in k r l) (mmap_in bs) → t ≡ store no_mapped_region (insert r l) (mmap_in bs)
-  placed_new h z = z ∙ ap (λ (x : List MappedRegion). store no_mapped_region x (mmap_in bs)) (ap (λ (i : ℕ). put_in i r l) e ∙ sym (insert-new start_key r l h))
+  placed_new h z = z ∙ ap (λ (x : List MappedRegion). store no_mapped_region x (mmap_in bs)) (ap (λ (i : ℕ). put_in i r l) e ∙ sym (insert_new start_key r l h))
 
 -- the slot r at a's place with another prot, p; f is the flags that it has
 module _ (bs : List ℕ) (sound : sound_list bs ≡ true) (a k : ℕ) (e : k ≡ place_of start_key a (listed (mmap_in bs))) (h : starts a (listed (mmap_in bs)) ≡ true) where

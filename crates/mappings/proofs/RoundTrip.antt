@@ -15,7 +15,7 @@ use Rattle.packed.specs.Records.{records, packed}
 use Rattle.packed.proofs.Records.{length_packed}
 use Rattle.packed.proofs.Words.{length_bytes, number_four, number_eight, pack_unpack}
 use Rattle.packed.proofs.Stores.{further, triple, length_triple}
-use Rattle.packed.proofs.RoundTrip.{Bytes, next_word, number_kept, behind_two, first_kept, second_kept, slots-back, slots_kept, bytes_behind}
+use Rattle.packed.proofs.RoundTrip.{Bytes, next_word, number_kept, behind_two, first_kept, second_kept, slots_back, slots_kept, bytes_behind}
 use Rattle.slots.specs.Slots.{Slots}
 use Rattle.mappings.specs.declared.MappedRegion.{MappedRegion}
 use Rattle.mappings.specs.Regions.{no_mapped_region}
@@ -54,7 +54,7 @@ mmap_back bs fit b =
     let one = bytes 8 (number 8 bs) in
     let two = bytes 8 (next_in bs) in
     ap (λ (l : List ℕ). (one ++ two) ++ l)
-    (slots-back mapped_in mapped_out Held mapped_back (λ k l h. (omega (arith, length-drop 24 l, h.0), bytes_behind 24 l h.1)) 256 (drop 16 bs)
+    (slots_back mapped_in mapped_out Held mapped_back (λ k l h. (omega (arith, length-drop 24 l, h.0), bytes_behind 24 l h.1)) 256 (drop 16 bs)
     (omega (arith, length-drop 16 bs), bytes_behind 16 bs b))
     ∙ append_assoc one two (pack (unpack 768 (drop 16 bs)))
     ∙ ap (λ (l : List ℕ). one ++ (two ++ pack (unpack 768 l))) (further 8 8 16 bs refl)

@@ -60,17 +60,17 @@ module _ {l : List MappedRegion} (from : ℕ) where
   sorted_end e = rw e
 
   module _ {r : MappedRegion} {q : List MappedRegion} (e : l ≡ r ∷ q) where
-    pub sorted-low : r.start < from → sorted from l ≡ false
+    pub sorted_low : r.start < from → sorted from l ≡ false
     unfolding rising_by every
-    sorted-low h = rw (e, lt-leb _ _ h)
+    sorted_low h = rw (e, lt-leb _ _ h)
 
-    pub sorted-bad : well_placed_mapping r ≡ false → sorted from l ≡ false
+    pub sorted_bad : well_placed_mapping r ≡ false → sorted from l ≡ false
     unfolding rising_by every
-    sorted-bad h = rw (e, h) (both_false (both (leb from r.start) (rising_from (suc r.start) q)))
+    sorted_bad h = rw (e, h) (both_false (both (leb from r.start) (rising_from (suc r.start) q)))
 
-    pub sorted-on : from ≤ r.start → well_placed_mapping r ≡ true → sorted from l ≡ sorted (r.start + 1) q
+    pub sorted_on : from ≤ r.start → well_placed_mapping r ≡ true → sorted from l ≡ sorted (r.start + 1) q
     unfolding rising_by every
-    sorted-on h k = rw (e, le-leb _ _ h, k, add-one r.start)
+    sorted_on h k = rw (e, le-leb _ _ h, k, add-one r.start)
 
 -- ---- what a sound list says
 

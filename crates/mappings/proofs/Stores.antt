@@ -127,8 +127,8 @@ module _ (bs : List ℕ) (fit : mmap_fit bs ≡ true) (b : Bytes bs) where
     count_in n h z =
         stands (slotted old.slots n) (next_in bs) h small (slots_long bs) slot_fits (z ∙ packed_again 0 (bytes 8 n) ∙ out_count old (next_in bs) n)
 
-    pub next-in : (x : ℕ) → x < 2 ^ 64 → zs ≡ sets bs 8 (bytes 8 x) → MmapStands zs old x
-    next-in x h z = stands old x (number_small bs b) h (slots_long bs) slot_fits (z ∙ packed_again 8 (bytes 8 x) ∙ out_next old (next_in bs) x)
+    pub next_in_lem : (x : ℕ) → x < 2 ^ 64 → zs ≡ sets bs 8 (bytes 8 x) → MmapStands zs old x
+    next_in_lem x h z = stands old x (number_small bs b) h (slots_long bs) slot_fits (z ∙ packed_again 8 (bytes 8 x) ∙ out_next old (next_in bs) x)
 
 -- ---- zero slots
 

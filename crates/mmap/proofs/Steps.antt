@@ -54,18 +54,18 @@ module _ (a n : ℕ) where
   fixed_here h k = rw (eq-eqb _ _ h, le-leb _ _ k)
 
   module _ (l : List MappedRegion) (next : ℕ) where
-    pub hint-odd : (a % 4096 ≡ 0 → ⊥) → hinted_at l next a n ≡ find_free l next n
-    hint-odd h = rw (ne_eqb _ _ h)
+    pub hint_odd : (a % 4096 ≡ 0 → ⊥) → hinted_at l next a n ≡ find_free l next n
+    hint_odd h = rw (ne_eqb _ _ h)
 
     module _ (h : a % 4096 ≡ 0) where
-      pub hint-high : last_page < a + n → hinted_at l next a n ≡ Stop too_large
-      hint-high k = rw (eq-eqb _ _ h, lt-leb _ _ k)
+      pub hint_high : last_page < a + n → hinted_at l next a n ≡ Stop too_large
+      hint_high k = rw (eq-eqb _ _ h, lt-leb _ _ k)
 
-      pub hint-free : a + n ≤ last_page → in_the_way a n l ≡ Nothing → hinted_at l next a n ≡ Value a
-      hint-free k e = rw (eq-eqb _ _ h, le-leb _ _ k, e)
+      pub hint_free : a + n ≤ last_page → in_the_way a n l ≡ Nothing → hinted_at l next a n ≡ Value a
+      hint_free k e = rw (eq-eqb _ _ h, le-leb _ _ k, e)
 
-      pub hint-taken : a + n ≤ last_page → (z : ℕ) → in_the_way a n l ≡ Until z → hinted_at l next a n ≡ find_free l next n
-      hint-taken k z e = rw (eq-eqb _ _ h, le-leb _ _ k, e)
+      pub hint_taken : a + n ≤ last_page → (z : ℕ) → in_the_way a n l ≡ Until z → hinted_at l next a n ≡ find_free l next n
+      hint_taken k z e = rw (eq-eqb _ _ h, le-leb _ _ k, e)
 
 module _ (s : User) (n : ℕ) (flags : ℤ) where
   pub chosen_any : chosen s NoAddr n flags ≡ find_free (listed s.regions) s.next n
@@ -145,11 +145,11 @@ module _ (up : ℕ) (s : User) (root : ℕ) (hint : OptAddr) (n : ℕ) (prot fla
   placed_stop e h = rw h
 
   module _ (a : ℕ) (h : chosen s hint n flags ≡ Value a) where
-    pub placed-full : full s a ≡ true → chosen_region up s root hint n prot flags ≡ user_did (Stop list_full) s
-    placed-full k = rw (h, k)
+    pub placed_full : full s a ≡ true → chosen_region up s root hint n prot flags ≡ user_did (Stop list_full) s
+    placed_full k = rw (h, k)
 
-    pub placed-room : full s a ≡ false → chosen_region up s root hint n prot flags ≡ map_region up s root a n prot flags
-    placed-room k = rw (h, k)
+    pub placed_room : full s a ≡ false → chosen_region up s root hint n prot flags ≡ map_region up s root a n prot flags
+    placed_room k = rw (h, k)
 
 -- ---- the call
 
@@ -159,18 +159,18 @@ module _ (up : ℕ) (s : User) (root : ℕ) (hint : OptAddr) (size : ℕ) (prot 
   mmap_broken h = rw h
 
   module _ (h : sound_user s root ≡ true) where
-    pub mmap-empty : size ≡ 0 → mmap up s root hint size prot flags ≡ user_did (Stop size_zero) s
+    pub mmap_empty : size ≡ 0 → mmap up s root hint size prot flags ≡ user_did (Stop size_zero) s
     unfolding mmap
-    mmap-empty z = rw (h, eq-eqb _ _ z)
+    mmap_empty z = rw (h, eq-eqb _ _ z)
 
     module _ (k : size ≡ 0 → ⊥) where
-      pub mmap-large : (e : ℕ) → rounded size ≡ Stop e → mmap up s root hint size prot flags ≡ user_did (Stop e) s
+      pub mmap_large : (e : ℕ) → rounded size ≡ Stop e → mmap up s root hint size prot flags ≡ user_did (Stop e) s
       unfolding mmap
-      mmap-large e r = rw (h, ne_eqb _ _ k, r)
+      mmap_large e r = rw (h, ne_eqb _ _ k, r)
 
-      pub mmap-sized : (n : ℕ) → rounded size ≡ Value n → mmap up s root hint size prot flags ≡ chosen_region up s root hint n prot flags
+      pub mmap_sized : (n : ℕ) → rounded size ≡ Value n → mmap up s root hint size prot flags ≡ chosen_region up s root hint n prot flags
       unfolding mmap
-      mmap-sized n r = rw (h, ne_eqb _ _ k, r)
+      mmap_sized n r = rw (h, ne_eqb _ _ k, r)
 
 -- what a rounded size is
 pub rounded_whole : (size n : ℕ) → rounded size ≡ Value n → (n % 4096 ≡ 0) × (n ≤ last_page)

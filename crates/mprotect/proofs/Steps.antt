@@ -28,8 +28,8 @@ use Rattle.mprotect.specs.Packed.{ProtectKept, protect_kept, kept_protected, mpr
 
 module _ (levels : ℕ) (ws : List ℕ) (start total root : ℕ) (s : Slots MappedRegion) where
   module _ (a n : ℕ) (prot : ℤ) where
-    pub region-none : holds a n (listed s) ≡ false → protect_region levels ws start total root s a n prot ≡ protect_did (Stop region_not_found) ws s
-    region-none h = rw h
+    pub region_none : holds a n (listed s) ≡ false → protect_region levels ws start total root s a n prot ≡ protect_did (Stop region_not_found) ws s
+    region_none h = rw h
 
     pub region_met : holds a n (listed s) ≡ true
         → protect_region levels ws start total root s a n prot
@@ -40,29 +40,29 @@ module _ (levels : ℕ) (ws : List ℕ) (start total root : ℕ) (s : Slots Mapp
     abbrev good : Bool
     good = both (lent_walk levels (length ws) start total root) (sound_mappings s next)
 
-    pub mprotect-broken : good ≡ false → mprotect levels ws start total root s next a size prot ≡ protect_did (Stop broken_record) ws s
+    pub mprotect_broken : good ≡ false → mprotect levels ws start total root s next a size prot ≡ protect_did (Stop broken_record) ws s
     unfolding mprotect
-    mprotect-broken h = rw h
+    mprotect_broken h = rw h
 
     module _ (h : good ≡ true) where
-      pub mprotect-empty : size ≡ 0 → mprotect levels ws start total root s next a size prot ≡ protect_did (Stop size_zero) ws s
+      pub mprotect_empty : size ≡ 0 → mprotect levels ws start total root s next a size prot ≡ protect_did (Stop size_zero) ws s
       unfolding mprotect
-      mprotect-empty z = rw (h, eq-eqb _ _ z)
+      mprotect_empty z = rw (h, eq-eqb _ _ z)
 
       module _ (k : size ≡ 0 → ⊥) where
-        pub mprotect-odd : (a % 4096 ≡ 0 → ⊥) → mprotect levels ws start total root s next a size prot ≡ protect_did (Stop unaligned) ws s
+        pub mprotect_odd : (a % 4096 ≡ 0 → ⊥) → mprotect levels ws start total root s next a size prot ≡ protect_did (Stop unaligned) ws s
         unfolding mprotect
-        mprotect-odd o = rw (h, ne_eqb _ _ k, ne_eqb _ _ o)
+        mprotect_odd o = rw (h, ne_eqb _ _ k, ne_eqb _ _ o)
 
         module _ (o : a % 4096 ≡ 0) where
-          pub mprotect-large : (e : ℕ) → rounded size ≡ Stop e → mprotect levels ws start total root s next a size prot ≡ protect_did (Stop e) ws s
+          pub mprotect_large : (e : ℕ) → rounded size ≡ Stop e → mprotect levels ws start total root s next a size prot ≡ protect_did (Stop e) ws s
           unfolding mprotect
-          mprotect-large e r = rw (h, ne_eqb _ _ k, eq-eqb _ _ o, r)
+          mprotect_large e r = rw (h, ne_eqb _ _ k, eq-eqb _ _ o, r)
 
-          pub mprotect-sized : (n : ℕ) → rounded size ≡ Value n
+          pub mprotect_sized : (n : ℕ) → rounded size ≡ Value n
               → mprotect levels ws start total root s next a size prot ≡ protect_region levels ws start total root s a n prot
           unfolding mprotect
-          mprotect-sized n r = rw (h, ne_eqb _ _ k, eq-eqb _ _ o, r)
+          mprotect_sized n r = rw (h, ne_eqb _ _ k, eq-eqb _ _ o, r)
 
 -- ---- the packed list
 
@@ -92,5 +92,5 @@ module _ (levels : ℕ) (ws : List ℕ) (start total root : ℕ) (list : List �
   on_broken b e = by (mmap_fit list) refl
     where
       by : (x : Bool) → mmap_fit list ≡ x → protect_kept (as_answer (Stop broken_record)) ws list ≡ mprotect_on levels ws start total root list a size prot
-      by true f = on_list f (leaves_alone b f (mprotect-broken levels ws start total root (mmap_in list) (next_in list) a size prot (rw f at e)))
+      by true f = on_list f (leaves_alone b f (mprotect_broken levels ws start total root (mmap_in list) (next_in list) a size prot (rw f at e)))
       by false f = rw f

@@ -46,23 +46,23 @@ module _ (up : ℕ) (s : User) (root a size : ℕ) where
   munmap_broken h = rw h
 
   module _ (h : sound_user s root ≡ true) where
-    pub munmap-empty : size ≡ 0 → munmap up s root a size ≡ user_did (Stop size_zero) s
+    pub munmap_empty : size ≡ 0 → munmap up s root a size ≡ user_did (Stop size_zero) s
     unfolding munmap
-    munmap-empty z = rw (h, eq-eqb _ _ z)
+    munmap_empty z = rw (h, eq-eqb _ _ z)
 
     module _ (k : size ≡ 0 → ⊥) where
-      pub munmap-odd : (a % 4096 ≡ 0 → ⊥) → munmap up s root a size ≡ user_did (Stop unaligned) s
+      pub munmap_odd : (a % 4096 ≡ 0 → ⊥) → munmap up s root a size ≡ user_did (Stop unaligned) s
       unfolding munmap
-      munmap-odd o = rw (h, ne_eqb _ _ k, ne_eqb _ _ o)
+      munmap_odd o = rw (h, ne_eqb _ _ k, ne_eqb _ _ o)
 
       module _ (o : a % 4096 ≡ 0) where
-        pub munmap-large : (e : ℕ) → rounded size ≡ Stop e → munmap up s root a size ≡ user_did (Stop e) s
+        pub munmap_large : (e : ℕ) → rounded size ≡ Stop e → munmap up s root a size ≡ user_did (Stop e) s
         unfolding munmap
-        munmap-large e r = rw (h, ne_eqb _ _ k, eq-eqb _ _ o, r)
+        munmap_large e r = rw (h, ne_eqb _ _ k, eq-eqb _ _ o, r)
 
-        pub munmap-sized : (n : ℕ) → rounded size ≡ Value n → munmap up s root a size ≡ unmap_region up s root a n
+        pub munmap_sized : (n : ℕ) → rounded size ≡ Value n → munmap up s root a size ≡ unmap_region up s root a n
         unfolding munmap
-        munmap-sized n r = rw (h, ne_eqb _ _ k, eq-eqb _ _ o, r)
+        munmap_sized n r = rw (h, ne_eqb _ _ k, eq-eqb _ _ o, r)
 
 -- ---- what it finds
 
@@ -83,23 +83,23 @@ module _ (m : Memory) (list : List ℕ) (root a size : ℕ) where
       by false e = rw e
 
   module _ (fit : mmap_fit list ≡ true) (h : sound_user (user_in m list) root ≡ true) where
-    pub tally-empty : size ≡ 0 → munmap_found_on m list root a size ≡ none_found
+    pub tally_empty : size ≡ 0 → munmap_found_on m list root a size ≡ none_found
     unfolding munmap_found_on munmap_found
-    tally-empty z = rw (fit, h, eq-eqb _ _ z)
+    tally_empty z = rw (fit, h, eq-eqb _ _ z)
 
     module _ (k : size ≡ 0 → ⊥) where
-      pub tally-odd : (a % 4096 ≡ 0 → ⊥) → munmap_found_on m list root a size ≡ none_found
+      pub tally_odd : (a % 4096 ≡ 0 → ⊥) → munmap_found_on m list root a size ≡ none_found
       unfolding munmap_found_on munmap_found
-      tally-odd o = rw (fit, h, ne_eqb _ _ k, ne_eqb _ _ o)
+      tally_odd o = rw (fit, h, ne_eqb _ _ k, ne_eqb _ _ o)
 
       module _ (o : a % 4096 ≡ 0) where
-        pub tally-large : (e : ℕ) → rounded size ≡ Stop e → munmap_found_on m list root a size ≡ none_found
+        pub tally_large : (e : ℕ) → rounded size ≡ Stop e → munmap_found_on m list root a size ≡ none_found
         unfolding munmap_found_on munmap_found
-        tally-large e r = rw (fit, h, ne_eqb _ _ k, eq-eqb _ _ o, r)
+        tally_large e r = rw (fit, h, ne_eqb _ _ k, eq-eqb _ _ o, r)
 
-        pub tally-sized : (n : ℕ) → rounded size ≡ Value n → munmap_found_on m list root a size ≡ region_found (above_last m) (user_in m list) root a n
+        pub tally_sized : (n : ℕ) → rounded size ≡ Value n → munmap_found_on m list root a size ≡ region_found (above_last m) (user_in m list) root a n
         unfolding munmap_found_on munmap_found
-        tally-sized n r = rw (fit, h, ne_eqb _ _ k, eq-eqb _ _ o, r)
+        tally_sized n r = rw (fit, h, ne_eqb _ _ k, eq-eqb _ _ o, r)
 
 -- ---- a refusal, as code returns it
 

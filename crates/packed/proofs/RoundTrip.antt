@@ -103,12 +103,12 @@ module _ {A : Type 0} (f : List ℕ → A) (g : A → List ℕ) where
   -- read where each is fit to be read
   module _ (Fit : ℕ → List ℕ → Type 0) (one-back : (n : ℕ) (bs : List ℕ) → Fit (suc n) bs → g (f bs) ≡ triple (number 8 bs) (number 8 (drop 8 bs)) (number 8 (drop 16 bs)))
       (rest : (n : ℕ) (bs : List ℕ) → Fit (suc n) bs → Fit n (drop 24 bs)) where
-    pub slots-back : (n : ℕ) (bs : List ℕ) → Fit n bs → packed g (records f n bs) ≡ pack (unpack (n * 3) bs)
+    pub slots_back : (n : ℕ) (bs : List ℕ) → Fit n bs → packed g (records f n bs) ≡ pack (unpack (n * 3) bs)
     unfolding records packed
-    slots-back zero bs h = no_words bs
-    slots-back (suc n) bs h =
+    slots_back zero bs h = no_words bs
+    slots_back (suc n) bs h =
         let m : suc (suc (suc (n * 3))) ≡ suc n * 3 = omega arith in
-        (λ j. one-back n bs h j ++ slots-back n (drop 24 bs) (rest n bs h) j) ∙ next_three (n * 3) bs ∙ ap (λ (k : ℕ). pack (unpack k bs)) m
+        (λ j. one-back n bs h j ++ slots_back n (drop 24 bs) (rest n bs h) j) ∙ next_three (n * 3) bs ∙ ap (λ (k : ℕ). pack (unpack k bs)) m
 
   -- written where each fits its bytes
   module _ (d : A) (Fit : A → Type 0) (sized : (a : A) → length (g a) ≡ 24) (one_kept : (a : A) (bs : List ℕ) → Fit a → f (g a ++ bs) ≡ a) where

@@ -92,19 +92,19 @@ module _ (root v i n : ℕ) (lt : i < n) where
         → map_pages up w u m root (v + i * 4096) i (n - i) ≡ map_pages up w u m' root (v + (i + 1) * 4096) (i + 1) (n - (i + 1))
     run_on x e = rw (one_less, next_page, add-one i) (map_pages_on up w u m root _ i _ m' x e)
 
-    pub run-stop : (a : ℕ) → map_fresh up w u m root (v + i * 4096) ≡ out (Stop a) m' → map_pages up w u m root (v + i * 4096) i (n - i) ≡ ran (Stop a) i m'
-    run-stop a e = rw one_less (map_pages_stop up w u m root _ i _ m' a e)
+    pub run_stop : (a : ℕ) → map_fresh up w u m root (v + i * 4096) ≡ out (Stop a) m' → map_pages up w u m root (v + i * 4096) i (n - i) ≡ ran (Stop a) i m'
+    run_stop a e = rw one_less (map_pages_stop up w u m root _ i _ m' a e)
 
   module _ (up : ℕ) (w u : Bool) (m m' : Memory) {x : Outcome} (e : out x m' ≡ map_fresh up w u m root (v + i * 4096)) where
-    pub turn-left : up ≤ 4 → RoomToTake m ((n - i) * 5) → RoomToTake m' ((n - (i + 1)) * 5)
-    turn-left few r = map_fresh_left up few w u m root (v + i * 4096) e ((n - (i + 1)) * 5) (roomy_less ((n - (i + 1)) * 5 + 5) (omega arith) r)
+    pub turn_left : up ≤ 4 → RoomToTake m ((n - i) * 5) → RoomToTake m' ((n - (i + 1)) * 5)
+    turn_left few r = map_fresh_left up few w u m root (v + i * 4096) e ((n - (i + 1)) * 5) (roomy_less ((n - (i + 1)) * 5 + 5) (omega arith) r)
 
     module _ {o : Ran} (a : o ≡ map_pages up w u m root (v + i * 4096) i (n - i)) where
       pub turn_on : (y : ℕ) → x ≡ Value y → o ≡ map_pages up w u m' root (v + (i + 1) * 4096) (i + 1) (n - (i + 1))
       turn_on y h = a ∙ run_on up w u m m' y (stepped e h)
 
-      pub turn-stop : (y : ℕ) → x ≡ Stop y → ran (Stop y) i m' ≡ o
-      turn-stop y h = sym (a ∙ run-stop up w u m m' y (stepped e h))
+      pub turn_stop : (y : ℕ) → x ≡ Stop y → ran (Stop y) i m' ≡ o
+      turn_stop y h = sym (a ∙ run_stop up w u m m' y (stepped e h))
 
   pub clear_on : (up : ℕ) (m m' : Memory) → m' ≡ clear_page up m root (v + i * 4096)
       → clear_pages up m root (v + i * 4096) (n - i) ≡ clear_pages up m' root (v + (i + 1) * 4096) (n - (i + 1))

@@ -76,13 +76,13 @@ module _ (levels len start total root : ℕ) where
   walk_by_lent h = rw h
 
   module _ (h : lent_walk levels len start total root ≡ true) where
-    pub walk-levels : is_levels levels ≡ true
+    pub walk_levels : is_levels levels ≡ true
     unfolding lent_walk
-    walk-levels = (both_true (is_levels levels) _ h).0
+    walk_levels = (both_true (is_levels levels) _ h).0
 
-    pub walk-lent : may_walk len start total root ≡ true
+    pub walk_lent : may_walk len start total root ≡ true
     unfolding lent_walk
-    walk-lent = (both_true (is_levels levels) _ h).1
+    walk_lent = (both_true (is_levels levels) _ h).1
 
 module _ (levels : ℕ) (ws : List ℕ) (start total root v : ℕ) where
   pub translate_broken : lent_walk levels (length ws) start total root ≡ false → translate levels ws start total root v ≡ Stop broken_record
@@ -112,20 +112,20 @@ module _ (up : ℕ) (m : Memory) (root v p : ℕ) (w u : Bool) where
   map_is h = rw h
 
   module _ (s : HugePageSize) where
-    pub huge-broken : whole m root ≡ false → map_huge up m root v p s w u ≡ out (Stop broken_record) m
+    pub huge_broken : whole m root ≡ false → map_huge up m root v p s w u ≡ out (Stop broken_record) m
     unfolding map_huge
-    huge-broken h = rw h
+    huge_broken h = rw h
 
     module _ (h : whole m root ≡ true) where
-      pub huge-virt : aligned v (size_of s) ≡ false → map_huge up m root v p s w u ≡ out (Stop huge_unaligned) m
+      pub huge_virt : aligned v (size_of s) ≡ false → map_huge up m root v p s w u ≡ out (Stop huge_unaligned) m
       unfolding map_huge
-      huge-virt a = rw (h, a)
+      huge_virt a = rw (h, a)
 
-      pub huge-phys : aligned v (size_of s) ≡ true → aligned p (size_of s) ≡ false → map_huge up m root v p s w u ≡ out (Stop huge_unaligned) m
+      pub huge_phys : aligned v (size_of s) ≡ true → aligned p (size_of s) ≡ false → map_huge up m root v p s w u ≡ out (Stop huge_unaligned) m
       unfolding map_huge
-      huge-phys a b = rw (h, a, b)
+      huge_phys a b = rw (h, a, b)
 
-      pub huge-is : aligned v (size_of s) ≡ true → aligned p (size_of s) ≡ true
+      pub huge_is : aligned v (size_of s) ≡ true → aligned p (size_of s) ≡ true
           → map_huge up m root v p s w u ≡ map_at up (tables_above up s) u m root v (huge_entry_of p w u)
       unfolding map_huge
-      huge-is a b = rw (h, a, b)
+      huge_is a b = rw (h, a, b)

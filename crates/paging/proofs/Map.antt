@@ -22,7 +22,7 @@ use Rattle.answer.specs.declared.Outcome.{Outcome}
 use Rattle.answer.specs.declared.Outcome.TheVariants.{Value, Stop}
 use Rattle.paging.specs.Walk.{place, entry_at, reach, WordsLent}
 use Rattle.paging.specs.Map.{Memory, memory, start_frame, total_of, Out, out, go_on, clear, zero_frame, new_table, create, below, enter, make, Left, left, put_entry, with_words, map_entry, take_leaf, unmap_entry, RoomToTake}
-use Rattle.paging.proofs.Walk.{no_value, present_yes, present_no, entry_out, entry_past, entry_in, reach-stop, reach-on}
+use Rattle.paging.proofs.Walk.{no_value, present_yes, present_no, entry_out, entry_past, entry_in, reach_stop, reach_on}
 
 -- both ways on from a step
 pub go_on_cases : (P : Out → Type 0) (o : Out) (k : ℕ → Memory → Out)
@@ -91,14 +91,14 @@ module _ (u : Bool) (m : Memory) (t i : ℕ) where
 
   module _ (h : inside (start_frame m) (total_of m) t ≡ true) where
     -- 'Present tables keep their bits'
-    pub enter-there : flag 0 (get_or m.words (place (start_frame m) t i) 0) ≡ true
+    pub enter_there : flag 0 (get_or m.words (place (start_frame m) t i) 0) ≡ true
         → enter u m t i ≡ out (Value (frame_of (get_or m.words (place (start_frame m) t i) 0))) m
     unfolding enter below
-    enter-there k = rw (h, k)
+    enter_there k = rw (h, k)
 
-    pub enter-absent : flag 0 (get_or m.words (place (start_frame m) t i) 0) ≡ false → enter u m t i ≡ create u m (place (start_frame m) t i)
+    pub enter_absent : flag 0 (get_or m.words (place (start_frame m) t i) 0) ≡ false → enter u m t i ≡ create u m (place (start_frame m) t i)
     unfolding enter below
-    enter-absent k = rw (h, k)
+    enter_absent k = rw (h, k)
 
   -- every outcome of an entered table: outside, there already, a new one in the lowest free frame, or no frame left
   pub enter_cases : (P : Out → Type 0)
@@ -164,13 +164,13 @@ module _ (u : Bool) (m : Memory) (t : ℕ) {p : List ℕ} where
   make_end c = rw c
 
   module _ {i : ℕ} {is : List ℕ} (c : p ≡ i ∷ is) (m' : Memory) where
-    pub make-stop : (n : ℕ) → enter u m t i ≡ out (Stop n) m' → make u m t p ≡ out (Stop n) m'
+    pub make_stop : (n : ℕ) → enter u m t i ≡ out (Stop n) m' → make u m t p ≡ out (Stop n) m'
     unfolding make
-    make-stop n e = rw (c, e)
+    make_stop n e = rw (c, e)
 
-    pub make-on : (f : ℕ) → enter u m t i ≡ out (Value f) m' → make u m t p ≡ make u m' f is
+    pub make_on : (f : ℕ) → enter u m t i ≡ out (Value f) m' → make u m t p ≡ make u m' f is
     unfolding make
-    make-on f e = rw (c, e)
+    make_on f e = rw (c, e)
 
 -- tables that are all there are only passed
 pub make_there : (u : Bool) (m : Memory) (t f : ℕ) (p : List ℕ) → reach m.words (start_frame m) (total_of m) t p ≡ Value f → make u m t p ≡ out (Value f) m
@@ -178,11 +178,11 @@ unfolding reach make
 make_there u m t f [] h = ap (λ (w : Outcome). out w m) h
 make_there u m t f (i ∷ is) h =
     enter_cases u m t i (λ (o : Out). go_on o (λ t' m'. make u m' t' is) ≡ out (Value f) m) (λ a. absurd (stuck outside (entry_out _ _ _ _ _ a)))
-    (λ a b. make_there u m _ f is (sym (reach-on _ _ _ _ {is = is} refl _ (entry_in _ _ _ _ _ a (small a) ∙ present_yes _ b)) ∙ h))
+    (λ a b. make_there u m (frame_of (get_or m.words (place (start_frame m) t i) 0)) f is (sym (reach_on _ _ _ _ {is = is} refl _ (entry_in _ _ _ _ _ a (small a) ∙ present_yes _ b)) ∙ h))
     (λ a b _ _ _ _. absurd (absent a b)) (λ a b _. absurd (absent a b))
   where
     stuck : (n : ℕ) → entry_at m.words (start_frame m) (total_of m) t i ≡ Stop n → ⊥
-    stuck n q = no_value (sym h ∙ reach-stop m.words (start_frame m) (total_of m) t {is = is} refl n q)
+    stuck n q = no_value (sym h ∙ reach_stop m.words (start_frame m) (total_of m) t {is = is} refl n q)
 
     small : inside (start_frame m) (total_of m) t ≡ true → i < 512
     small a = go (dec_lt i 512)

@@ -1,5 +1,5 @@
 -- Pages whose WRITABLE is made to follow a choice: what changes, what a run of them comes to, and pages that have it so already.
-use Prim.Native.Nat.{ℕ, zero, suc, ◌+◌, ◌-◌, ◌*◌, ◌<◌}
+use Prim.Native.Nat.{ℕ, zero, suc, ◌+◌, ◌*◌, ◌<◌}
 use mathlib.Core.Path.{◌≡◌, refl, sym, ◌∙◌, ap, subst}
 use mathlib.Core.Bool.{Bool, true, false, false≢true}
 use mathlib.Core.List.{List}
@@ -98,34 +98,34 @@ module _ (ws : List ℕ) (start total : ℕ) where
       go (no l) = absurd (false≢true (sym (ap (flag 0) (get_or-eq_default ws 0 (omega arith)) ∙ flag_zero 0) ∙ place_present up root v x h))
 
   module _ (w : Bool) (up root v : ℕ) where
-    pub protect-none : (n : ℕ) → page_place up ws start total root v ≡ Stop n → protect_page up w ws start total root v ≡ ws
+    pub protect_none : (n : ℕ) → page_place up ws start total root v ≡ Stop n → protect_page up w ws start total root v ≡ ws
     unfolding protect_page
-    protect-none n h = rw h
+    protect_none n h = rw h
 
-    pub protect-at : (x : ℕ) → page_place up ws start total root v ≡ Value x → protect_page up w ws start total root v ≡ set ws x (with_writable w (get_or ws x 0))
+    pub protect_at : (x : ℕ) → page_place up ws start total root v ≡ Value x → protect_page up w ws start total root v ≡ set ws x (with_writable w (get_or ws x 0))
     unfolding protect_page
-    protect-at x h = rw h
+    protect_at x h = rw h
 
-    pub page-toward : Toward w ws (protect_page up w ws start total root v)
+    pub page_toward : Toward w ws (protect_page up w ws start total root v)
     unfolding protect_page
-    page-toward = go (page_place up ws start total root v)
+    page_toward = go (page_place up ws start total root v)
       where
         go : (o : Outcome) → Toward w ws (and_then o (λ _. ws) (λ x. set ws x (with_writable w (get_or ws x 0))))
         go (Value x) = toward_set w ws x
         go (Stop n) = toward_same ws
 
     -- one that follows w already
-    pub protect-same : ((x : ℕ) → page_place up ws start total root v ≡ Value x → flag 1 (get_or ws x 0) ≡ w) → protect_page up w ws start total root v ≡ ws
-    protect-same h = go (page_place up ws start total root v) refl
+    pub protect_same : ((x : ℕ) → page_place up ws start total root v ≡ Value x → flag 1 (get_or ws x 0) ≡ w) → protect_page up w ws start total root v ≡ ws
+    protect_same h = go (page_place up ws start total root v) refl
       where
         go : (o : Outcome) → page_place up ws start total root v ≡ o → protect_page up w ws start total root v ≡ ws
-        go (Value x) e = protect-at x e ∙ ap (set ws x) (writable_same w (get_or ws x 0) (h x e)) ∙ set-get_or ws x 0
-        go (Stop n) e = protect-none n e
+        go (Value x) e = protect_at x e ∙ ap (set ws x) (writable_same w (get_or ws x 0) (h x e)) ∙ set-get_or ws x 0
+        go (Stop n) e = protect_none n e
 
     -- and one that was made to
-    pub page-follows : (x : ℕ) → page_place up ws start total root v ≡ Value x → flag 1 (get_or (protect_page up w ws start total root v) x 0) ≡ w
-    page-follows x h =
-        ap (λ (s : List ℕ). flag 1 (get_or s x 0)) (protect-at x h) ∙ ap (flag 1) (get_or-set_same ws x _ 0 (place_within up root v x h)) ∙ writable_flag w (get_or ws x 0)
+    pub page_follows : (x : ℕ) → page_place up ws start total root v ≡ Value x → flag 1 (get_or (protect_page up w ws start total root v) x 0) ≡ w
+    page_follows x h =
+        ap (λ (s : List ℕ). flag 1 (get_or s x 0)) (protect_at x h) ∙ ap (flag 1) (get_or-set_same ws x _ 0 (place_within up root v x h)) ∙ writable_flag w (get_or ws x 0)
 
 -- ---- runs of pages
 
@@ -146,7 +146,7 @@ module _ (up : ℕ) (w : Bool) (start total root : ℕ) where
   pub pages_toward : (n : ℕ) (ws : List ℕ) (v : ℕ) → Toward w ws (protect_pages up w ws start total root v n)
   unfolding protect_pages
   pages_toward zero ws v = toward_same ws
-  pages_toward (suc n) ws v = toward_then (page-toward ws start total w up root v) (pages_toward n (protect_page up w ws start total root v) (v + 4096))
+  pages_toward (suc n) ws v = toward_then (page_toward ws start total w up root v) (pages_toward n (protect_page up w ws start total root v) (v + 4096))
 
   -- those that follow w already
   abbrev pub Follow : List ℕ → ℕ → ℕ → Type 0
@@ -157,7 +157,7 @@ module _ (up : ℕ) (w : Bool) (start total root : ℕ) where
   pages_same zero ws v h = refl
   pages_same (suc n) ws v h =
       let here : v + 0 * 4096 ≡ v = omega arith in
-      rw (protect-same ws start total w up root v (λ x e. h 0 x (omega arith) (rw here e)))
+      rw (protect_same ws start total w up root v (λ x e. h 0 x (omega arith) (rw here e)))
       (pages_same n ws (v + 4096) (λ j x l e.
       let next : v + suc j * 4096 ≡ (v + 4096) + j * 4096 = omega arith in h (suc j) x (omega arith) (rw next e)))
 
@@ -170,8 +170,8 @@ module _ (up : ℕ) (w : Bool) (start total root : ℕ) where
       let here : v + 0 * 4096 ≡ v = omega arith in
       let t = pages_toward n ws' (v + 4096) in
       let there : page_place up ws start total root v ≡ Value x =
-      sym (place_alike (toward_alike (toward_then (page-toward ws start total w up root v) t)) start total up root v) ∙ ap (page_place up _ start total root) (sym here) ∙ e in
-      toward_follows t x (page-follows ws start total w up root v x there)
+      sym (place_alike (toward_alike (toward_then (page_toward ws start total w up root v) t)) start total up root v) ∙ ap (page_place up _ start total root) (sym here) ∙ e in
+      toward_follows t x (page_follows ws start total w up root v x there)
   pages_follow (suc n) ws v (suc j) x l e =
       let next : (v + 4096) + j * 4096 ≡ v + suc j * 4096 = omega arith in
       pages_follow n (protect_page up w ws start total root v) (v + 4096) j x (omega arith) (rw next e)
@@ -194,8 +194,8 @@ module _ (up : ℕ) (w : Bool) (start total root : ℕ) where
       by y e (no q) = inl (get_or-set_other ws y x _ 0 q)
 
       go : (o : Outcome) → page_place up ws start total root v ≡ o → Where ws v 1 x (get_or (protect_page up w ws start total root v) x 0)
-      go (Value y) e = rw (protect-at ws start total w up root v y e) (by y e (ℕ_discrete x y))
-      go (Stop n) e = rw (protect-none ws start total w up root v n e) (inl refl)
+      go (Value y) e = rw (protect_at ws start total w up root v y e) (by y e (ℕ_discrete x y))
+      go (Stop n) e = rw (protect_none ws start total w up root v n e) (inl refl)
 
   pub pages_where : (n : ℕ) (ws : List ℕ) (v x : ℕ) → Where ws v n x (get_or (protect_pages up w ws start total root v n) x 0)
   unfolding protect_pages
@@ -216,7 +216,7 @@ module _ (up : ℕ) (w : Bool) (start total root : ℕ) where
       made p =
           let j = p.1.0 in
           let next : v + suc j * 4096 ≡ (v + 4096) + j * 4096 = omega arith in
-          let t = page-toward ws start total w up root v in
+          let t = page_toward ws start total w up root v in
           inr (
             p.0 ∙ ⊎_elim (ap (with_writable w)) (λ q. ap (with_writable w) q ∙ writable_again w _) (t.each x),
             (suc j, (omega (arith, p.1.1.0), rw next (sym (place_alike (toward_alike t) start total up root _) ∙ p.1.1.1))),

@@ -65,13 +65,13 @@ module _ (ws : List ℕ) (start total t : ℕ) {p : List ℕ} where
   reach_end c = rw c
 
   module _ {i : ℕ} {is : List ℕ} (c : p ≡ i ∷ is) where
-    pub reach-stop : (n : ℕ) → entry_at ws start total t i ≡ Stop n → reach ws start total t p ≡ Stop n
+    pub reach_stop : (n : ℕ) → entry_at ws start total t i ≡ Stop n → reach ws start total t p ≡ Stop n
     unfolding reach
-    reach-stop n h = rw (c, h)
+    reach_stop n h = rw (c, h)
 
-    pub reach-on : (e : ℕ) → entry_at ws start total t i ≡ Value e → reach ws start total t p ≡ reach ws start total (frame_of e) is
+    pub reach_on : (e : ℕ) → entry_at ws start total t i ≡ Value e → reach ws start total t p ≡ reach ws start total (frame_of e) is
     unfolding reach
-    reach-on e h = rw (c, h)
+    reach_on e h = rw (c, h)
 
 -- ---- the entry that a translation ends at, by the number of indices that are left: 0 at the last level, 1 at the last but one
 
@@ -95,27 +95,27 @@ module _ (ws : List ℕ) (start total t : ℕ) {p : List ℕ} where
   leaf_end c = rw c
 
   module _ {i : ℕ} {is : List ℕ} (c : p ≡ i ∷ is) where
-    pub leaf-stop : (n : ℕ) → entry_at ws start total t i ≡ Stop n → leaf ws start total t p ≡ NoLeaf n
+    pub leaf_stop : (n : ℕ) → entry_at ws start total t i ≡ Stop n → leaf ws start total t p ≡ NoLeaf n
     unfolding leaf
-    leaf-stop n h = rw (c, h)
+    leaf_stop n h = rw (c, h)
 
-    pub leaf-on : (e : ℕ) → entry_at ws start total t i ≡ Value e → leaf ws start total t p ≡ judge is e (leaf ws start total (frame_of e) is)
+    pub leaf_on : (e : ℕ) → entry_at ws start total t i ≡ Value e → leaf ws start total t p ≡ judge is e (leaf ws start total (frame_of e) is)
     unfolding leaf
-    leaf-on e h = rw (c, h)
+    leaf_on e h = rw (c, h)
 
     -- the same by level
     module _ (e : ℕ) (h : entry_at ws start total t i ≡ Value e) where
-      pub leaf-page : length is ≡ 0 → leaf ws start total t p ≡ Page e
-      leaf-page l = leaf-on e h ∙ judge_last is e _ l
+      pub leaf_page : length is ≡ 0 → leaf ws start total t p ≡ Page e
+      leaf_page l = leaf_on e h ∙ judge_last is e _ l
 
-      pub leaf-large : length is ≡ 1 → flag 7 e ≡ true → leaf ws start total t p ≡ Large e
-      leaf-large l k = leaf-on e h ∙ judge_one is e _ l ∙ rw k
+      pub leaf_large : length is ≡ 1 → flag 7 e ≡ true → leaf ws start total t p ≡ Large e
+      leaf_large l k = leaf_on e h ∙ judge_one is e _ l ∙ rw k
 
-      pub leaf-small : length is ≡ 1 → flag 7 e ≡ false → leaf ws start total t p ≡ leaf ws start total (frame_of e) is
-      leaf-small l k = leaf-on e h ∙ judge_one is e _ l ∙ rw k
+      pub leaf_small : length is ≡ 1 → flag 7 e ≡ false → leaf ws start total t p ≡ leaf ws start total (frame_of e) is
+      leaf_small l k = leaf_on e h ∙ judge_one is e _ l ∙ rw k
 
-      pub leaf-above : 1 < length is → leaf ws start total t p ≡ leaf ws start total (frame_of e) is
-      leaf-above l = leaf-on e h ∙ judge_above is e _ l
+      pub leaf_above : 1 < length is → leaf ws start total t p ≡ leaf ws start total (frame_of e) is
+      leaf_above l = leaf_on e h ∙ judge_above is e _ l
 
 -- ---- the test for a broken record, one comparison after the other
 

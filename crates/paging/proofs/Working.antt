@@ -26,8 +26,8 @@ use Rattle.paging.specs.Walk.{place, present, entry_at, judge, leaf, address}
 use Rattle.paging.specs.Calls.{lent_walk, translate}
 use Rattle.paging.specs.Working.{verdict_of, row_of, goes_on, rows_below, by_verdict, end_of, Working, by_rows, no_working, show_translate}
 use Rattle.paging.specs.Working.{Read, Logged, logged, entry_logged, judge_logged, leaf_logged, read_of, countdown, end_verdict, Shows}
-use Rattle.paging.proofs.Walk.{present_yes, present_no, entry_out, entry_in, lent_root, leaf-stop, leaf-on, judge_last, judge_one}
-use Rattle.paging.proofs.Calls.{walk-levels, walk-lent, translate_broken, translate_is}
+use Rattle.paging.proofs.Walk.{present_yes, present_no, entry_out, entry_in, lent_root, leaf_stop, leaf_on, judge_last, judge_one}
+use Rattle.paging.proofs.Calls.{walk_levels, walk_lent, translate_broken, translate_is}
 
 -- ---- the verdict, by the tests that code makes
 
@@ -208,7 +208,7 @@ module _ (ws : List ℕ) (start total t : ℕ) {p : List ℕ} {i : ℕ} {is : Li
 module _ (ws : List ℕ) (start total f : ℕ) (h : inside start total f ≡ false) where
   leaf_out : (is : List ℕ) → 0 < length is → leaf ws start total f is ≡ NoLeaf outside
   leaf_out [] k = absurd (omega arith)
-  leaf_out (i ∷ is) k = leaf-stop ws start total f refl outside (entry_out ws start total f i h)
+  leaf_out (i ∷ is) k = leaf_stop ws start total f refl outside (entry_out ws start total f i h)
 
   logged_out : (is : List ℕ) → 0 < length is → (leaf_logged ws start total f is).reads ≡ []
   logged_out [] k = absurd (omega arith)
@@ -262,7 +262,7 @@ module _ (ws : List ℕ) (start total t i : ℕ) (is : List ℕ) (h : inside sta
       let rest : List Row = rows_below ws start total (frame_of here) is in
       let less : length rest ≡ length (row ∷ rest) - 1 = omega arith in
       record {
-        ends = ap end_of w ∙ end_more row rest r.least ∙ r.ends ∙ sym (leaf-on ws start total t refl here (value n.0) ∙ judge_names is here _ n);
+        ends = ap end_of w ∙ end_more row rest r.least ∙ r.ends ∙ sym (leaf_on ws start total t refl here (value n.0) ∙ judge_names is here _ n);
         reads =
             ap (map read_of) w ∙ ap (λ rs. readAt ws start total t i ∷ rs) r.reads
             ∙ sym (logged_on ws start total t refl here (value_logged n.0) ∙ ap (λ (l : Logged Leaf). readAt ws start total t i ∷ l.reads) (judge_logged_names is here _ n));
@@ -273,7 +273,7 @@ module _ (ws : List ℕ) (start total t i : ℕ) (is : List ℕ) (h : inside sta
             ∙ ap (λ vs. Followed ∷ vs) r.verdicts
             ∙ one_more (length rest) r.least Followed (end_verdict (leaf ws start total (frame_of here) is) ∷ [])
             ∙ ap (λ k. replicate k Followed ++ end_verdict (leaf ws start total (frame_of here) is) ∷ []) less
-            ∙ ap (λ (l : Leaf). replicate (length (row ∷ rest) - 1) Followed ++ end_verdict l ∷ []) (sym (leaf-on ws start total t refl here (value n.0) ∙ judge_names is here _ n)));
+            ∙ ap (λ (l : Leaf). replicate (length (row ∷ rest) - 1) Followed ++ end_verdict l ∷ []) (sym (leaf_on ws start total t refl here (value n.0) ∙ judge_names is here _ n)));
         most = rw w (omega (arith, r.most));
         least = rw w (omega arith);
       }
@@ -282,7 +282,7 @@ module _ (ws : List ℕ) (start total t i : ℕ) (is : List ℕ) (h : inside sta
   right_out : NamesTable below here → inside start total (frame_of here) ≡ false → Right ws start total t (i ∷ is)
   right_out n j =
       right_end Outside (verdict_outside start total below here n j) refl
-      (sym (leaf-on ws start total t refl here (value n.0) ∙ judge_names is here _ n ∙ leaf_out ws start total (frame_of here) j is n.1))
+      (sym (leaf_on ws start total t refl here (value n.0) ∙ judge_names is here _ n ∙ leaf_out ws start total (frame_of here) j is n.1))
       (logged_on ws start total t refl here (value_logged n.0)
       ∙ ap (λ (l : Logged Leaf). readAt ws start total t i ∷ l.reads) (judge_logged_names is here _ n)
       ∙ ap (λ rs. readAt ws start total t i ∷ rs) (logged_out ws start total (frame_of here) j is n.1))
@@ -297,13 +297,13 @@ module _ (ws : List ℕ) (start total t i : ℕ) (is : List ℕ) (h : inside sta
       by : Case below here → Right ws start total t (i ∷ is)
       by (absent f) =
           right_end Absent (verdict_absent start total below here f) refl
-          (sym (leaf-stop ws start total t refl not_mapped (entry_in ws start total t i h k ∙ present_no here f)))
+          (sym (leaf_stop ws start total t refl not_mapped (entry_in ws start total t i h k ∙ present_no here f)))
           (logged_stop ws start total t refl not_mapped (entry_logged_in ws start total t i h k ∙ ap (λ o. logged o (readAt ws start total t i ∷ [])) (present_no here f)))
       by (last f z) =
-          right_end Last (verdict_last start total below here f z) refl (sym (leaf-on ws start total t refl here (value f) ∙ judge_last is here _ z))
+          right_end Last (verdict_last start total below here f z) refl (sym (leaf_on ws start total t refl here (value f) ∙ judge_last is here _ z))
           (logged_on ws start total t refl here (value_logged f) ∙ ap (λ (l : Logged Leaf). readAt ws start total t i ∷ l.reads) (judge_logged_last is here _ z))
       by (large f o g) =
-          right_end LargePage (verdict_large start total below here f o g) refl (sym (leaf-on ws start total t refl here (value f) ∙ judge_one is here _ o ∙ rw g))
+          right_end LargePage (verdict_large start total below here f o g) refl (sym (leaf_on ws start total t refl here (value f) ∙ judge_one is here _ o ∙ rw g))
           (logged_on ws start total t refl here (value_logged f) ∙ ap (λ (l : Logged Leaf). readAt ws start total t i ∷ l.reads) (judge_logged_large is here _ o g))
       by (names n) = follow n (inside start total (frame_of here)) refl
 
@@ -325,7 +325,7 @@ module _ (levels : ℕ) (ws : List ℕ) (start total root v : ℕ) where
 
   -- the rows of a record that is not broken
   pub right_lent : lent_walk levels (length ws) start total root ≡ true → Right ws start total root (indices levels v)
-  right_lent h = by levels (levels_least levels (walk-levels _ _ _ _ _ h)) (lent_root _ _ _ _ (walk-lent _ _ _ _ _ h))
+  right_lent h = by levels (levels_least levels (walk_levels _ _ _ _ _ h)) (lent_root _ _ _ _ (walk_lent _ _ _ _ _ h))
     where
       by : (n : ℕ) → 4 ≤ n → inside start total root ≡ true → Right ws start total root (indices n v)
       by zero l k = absurd (omega arith)

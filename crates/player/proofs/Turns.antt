@@ -54,22 +54,22 @@ module _ (records : Records) (ws bm list : List ℕ) (kind : ℕ) where
   left fr = record { frames = fr; root = records.root }
 
   module _ {A : Type 0} (form : Outcome → A) (line : A → Line) {l : Line} {a : A} {ws' list' : List ℕ} (bm' : List ℕ) {fr : FrameAllocator} (e : l ≡ line a) where
-    pub kernel-turn : (call : Kernel → KernelDid) → vm_fit list ≡ true → kept a (lent_memory ws' bm' fr) list' ≡ on_vm_list form call lent list → KernelReads call lent list list'
+    pub kernel_turn : (call : Kernel → KernelDid) → vm_fit list ≡ true → kept a (lent_memory ws' bm' fr) list' ≡ on_vm_list form call lent list → KernelReads call lent list list'
         → let d = call (kernel lent (vm_in list)) in
         ((u m : List ℕ) → turn kind l (board_of ws' bm' list' u m (left fr)) ≡ turn kind (line (form d.answer)) (with_kernel (board_of ws bm list u m records) d.kernel))
         × (vm_fit list' ≡ true)
-    kernel-turn call fit h reads =
+    kernel_turn call fit h reads =
         let o = h ∙ kernel_on form call lent list fit in (
           λ u m j. turn kind ((e ∙ ap (λ (x : Kept A). line x.answer) o) j)
               (record { mem = (o j).mem; root = records.root.0; kernel = (reads fit).1 j; user = mmap_in u; next = next_in u; marked = marked_in m }),
           (reads fit).0,
         )
 
-    pub user-turn : (call : User → UserDid) → mmap_fit list ≡ true → kept a (lent_memory ws' bm' fr) list' ≡ on_mmap_list form call lent list → UserReads call lent list list'
+    pub user_turn : (call : User → UserDid) → mmap_fit list ≡ true → kept a (lent_memory ws' bm' fr) list' ≡ on_mmap_list form call lent list → UserReads call lent list list'
         → let d = call (user_in lent list) in
         ((k m : List ℕ) → turn kind l (board_of ws' bm' k list' m (left fr)) ≡ turn kind (line (form d.answer)) (with_user (board_of ws bm k list m records) d.user))
         × (mmap_fit list' ≡ true)
-    user-turn call fit h reads =
+    user_turn call fit h reads =
         let o = h ∙ user_on form call lent list fit in (
           λ k m j. turn kind ((e ∙ ap (λ (x : Kept A). line x.answer) o) j)
               (record { mem = (o j).mem; root = records.root.0; kernel = vm_in k; user = (reads fit).1 j; next = (reads fit).2 j; marked = marked_in m }),

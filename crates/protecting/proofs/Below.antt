@@ -19,7 +19,7 @@ use Rattle.paging.specs.Walk.{place, entry_at, reach}
 use Rattle.paging.specs.Protect.{page_place, protect_page, protect_pages}
 use Rattle.paging.proofs.Walk.{no_value, entry_out}
 use Rattle.paging.proofs.Alike.{place_alike}
-use Rattle.paging.proofs.Protect.{Toward, toward_alike, toward_follows, page-toward, protect_pages_add, pages_same, pages_follow}
+use Rattle.paging.proofs.Protect.{Toward, toward_alike, toward_follows, page_toward, protect_pages_add, pages_same, pages_follow}
 use Rattle.spans.specs.Spans.{to_end}
 use Rattle.spans.proofs.Addresses.{same_page, same_above, span_above}
 use Rattle.protecting.specs.Protecting.{Follows}
@@ -64,7 +64,7 @@ module _ (w : Bool) (start total a b t f : ℕ) where
   pages_agree (suc k) ws v h =
       let here : v + 0 * 4096 ≡ v = omega arith in
       let one : protect_page a w ws start total t v ≡ protect_page b w ws start total f v = page_agree ws v (rw here at (h 0 (omega arith))) in
-      let same = toward_alike (page-toward ws start total w b f v) in
+      let same = toward_alike (page_toward ws start total w b f v) in
       rw one
       (pages_agree k (protect_page b w ws start total f v) (v + 4096) (λ j l.
       let next : v + suc j * 4096 ≡ (v + 4096) + j * 4096 = omega arith in

@@ -14,26 +14,26 @@ use Rattle.paging.specs.Protect.{page_place, protect_page, protect_pages}
 use Rattle.spans.specs.Spans.{to_end}
 use Rattle.spans.proofs.Addresses.{to_end_some}
 use Rattle.paging.proofs.Walk.{entry_out, entry_in, present_yes, present_no, lent_still}
-use Rattle.paging.proofs.Protect.{protect-none, protect-at, protect_pages_add, pages_toward}
+use Rattle.paging.proofs.Protect.{protect_none, protect_at, protect_pages_add, pages_toward}
 
 module _ (w : Bool) (ws : List ℕ) (start total : ℕ) where
   module _ (t v : ℕ) where
     -- a table that is not lent, an absent entry, and a present one
-    pub leaf-outside : inside start total t ≡ false → protect_page 0 w ws start total t v ≡ ws
+    pub leaf_outside : inside start total t ≡ false → protect_page 0 w ws start total t v ≡ ws
     unfolding page_place reach
-    leaf-outside h = protect-none ws start total w 0 t v outside (rw (entry_out ws start total t (index 0 v) h))
+    leaf_outside h = protect_none ws start total w 0 t v outside (rw (entry_out ws start total t (index 0 v) h))
 
     module _ (h : inside start total t ≡ true) (at : ℕ) (here : at ≡ place start t (index 0 v)) where
       pub leaf_absent : flag 0 (get_or ws at 0) ≡ false → protect_page 0 w ws start total t v ≡ ws
       unfolding page_place reach
       leaf_absent k =
-          protect-none ws start total w 0 t v not_mapped
+          protect_none ws start total w 0 t v not_mapped
           (rw (entry_in ws start total t (index 0 v) h (omega arith) ∙ present_no _ (ap (λ (x : ℕ). flag 0 (get_or ws x 0)) (sym here) ∙ k)))
 
-      pub leaf-present : flag 0 (get_or ws at 0) ≡ true → protect_page 0 w ws start total t v ≡ set ws at (with_writable w (get_or ws at 0))
+      pub leaf_present : flag 0 (get_or ws at 0) ≡ true → protect_page 0 w ws start total t v ≡ set ws at (with_writable w (get_or ws at 0))
       unfolding page_place reach
-      leaf-present k =
-          protect-at ws start total w 0 t v (place start t (index 0 v))
+      leaf_present k =
+          protect_at ws start total w 0 t v (place start t (index 0 v))
           (rw (entry_in ws start total t (index 0 v) h (omega arith) ∙ present_yes _ (ap (λ (x : ℕ). flag 0 (get_or ws x 0)) (sym here) ∙ k)))
           ∙ ap (λ (x : ℕ). set ws x (with_writable w (get_or ws x 0))) (sym here)
 

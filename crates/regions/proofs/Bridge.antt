@@ -1,8 +1,8 @@
 -- A list of regions by value whose slots are lent, for the walk of `Lending.antt`: the array is in a local, which is lent as a slice, comes back, and goes with a count into a new struct.
 --     Holding          how many records the array has, and the struct: many is `Stepped`, few `SteppedFew`
---     GoodA, typedA    what owning the array tells; its machine value then has the array's MIR type
+--     GoodA, typed_a    what owning the array tells; its machine value then has the array's MIR type
 --     lends, back      the local that holds the array is lent as a slice for a new lifetime; that is ended, and the local holds the array as it is then
---     GoodL, typedL    the same of the struct: its array field stands in the logic as the list of the records' fields, and its machine value has the array's as it is
+--     GoodL, typed_l    the same of the struct: its array field stands in the logic as the list of the records' fields, and its machine value has the array's as it is
 -- Assumes `Logic`.
 use Rattle.std.proofs.Common.{◌≡◌, ℕ, ◌^◌, ◌<◌, T as Holds, ltb, List, [], ◌∷◌, map, length, sym, refl, ◌∙◌, subst, lit<, lt→ltb, w64}
 use lib.ListN.{length-map}
@@ -138,17 +138,17 @@ module _ (K : Holding) where
       ((mach_a a ∷ [], (vint w64 n ∷ [], tt)), (refl, ((g.0, ((g.1.0.0, length-map a (T.the_field).into ∙ as_long a g), each_fields a g.0 g.1.1)), ((refl, fits), tt))))
 
   module _ {M : Type 1} {𝓤 : Ura M} (𝓛 : Logic 𝓤) where
-    pub typedA : (a : List VMRegion) → GoodA a → Holds (has_ty arrTy (mach_a a)) × WT (mach_a a)
-    typedA a g = ((Array-Lawful 𝓛 R (LL.lawful T.the_type T'.the_laws 𝓛) K.size).typed a _ g).0
+    pub typed_a : (a : List VMRegion) → GoodA a → Holds (has_ty arrTy (mach_a a)) × WT (mach_a a)
+    typed_a a g = ((Array-Lawful 𝓛 R (LL.lawful T.the_type T'.the_laws 𝓛) K.size).typed a _ g).0
 
-    pub makesA : Makes 𝓛 AR (Is AR)
-    makesA = Array-Makes 𝓛 R (LL.makes T.the_type T'.the_plain 𝓛) K.size
+    pub makes_a : Makes 𝓛 AR (Is AR)
+    makes_a = Array-Makes 𝓛 R (LL.makes T.the_type T'.the_plain 𝓛) K.size
 
-    pub typedL : (a : List VMRegion) (n : ℕ) → GoodL a n → Holds (has_ty list_ty (mach_l a n)) × WT (mach_l a n)
-    typedL a n g = ((LL.lawful type (LL.array_laws T.the_field T'.the_field_laws K.size, (LL.usize-laws, tt)) 𝓛).typed (K.make a n) _ g).0
+    pub typed_l : (a : List VMRegion) (n : ℕ) → GoodL a n → Holds (has_ty list_ty (mach_l a n)) × WT (mach_l a n)
+    typed_l a n g = ((LL.lawful type (LL.array_laws T.the_field T'.the_field_laws K.size, (LL.usize-laws, tt)) 𝓛).typed (K.make a n) _ g).0
 
-    pub makesL : Makes 𝓛 LR (Is LR)
-    makesL = LL.makes type (LL.array_plain T.the_field T'.the_field_plain K.size, (LL.usize-plain, tt)) 𝓛
+    pub makes_l : Makes 𝓛 LR (Is LR)
+    makes_l = LL.makes type (LL.array_plain T.the_field T'.the_field_plain K.size, (LL.usize-plain, tt)) 𝓛
 
   module _ {M : Type 1} {𝓤 : Ura M} {𝓛 : Logic 𝓤} {J : Type 0} {Γ : List (Item 𝓤)} {G : Goal 𝓤 𝓛.H} where
     -- the local lies in memory as an array, which is its records side by side; they are lent for a lifetime ν
@@ -158,7 +158,7 @@ module _ (K : Holding) where
     unfolding part_of
     lends t z a l g k =
         use1 𝓛 (‵ (cell_at full_share AR.mir (mach_a a ∷ []) l 0)) (𝓛.laws.at_raw full_share arrTy l 0 (mach_a a)) $
-        owned t AR (Is AR) (makesA 𝓛) a _ g $ move t (1 ∷ 0 ∷ []) $ fjoin t $ fpack t (List Val) (λ us. fsep (cell_at full_share AR.mir us l 0) (AR.own_val a us)) (mach_a a ∷ []) $
+        owned t AR (Is AR) (makes_a 𝓛) a _ g $ move t (1 ∷ 0 ∷ []) $ fjoin t $ fpack t (List Val) (λ us. fsep (cell_at full_share AR.mir us l 0) (AR.own_val a us)) (mach_a a ∷ []) $
         use1 𝓛 (‵ ((arr_parts (shares R) K.size).part full_share a l 0)) (Array-apart 𝓛 R full_share tt K.size a l 0) $ fsplit t $ drop t $ use1 𝓛 (‵ (cells (mem R) a l 0)) (whole_in 𝓛 R a l 0) $
         lft_new t z (λ ν. move t (1 ∷ []) $
         use1 𝓛 (later (some (λ (γ : GName). ‵ ((MutSlice (named 0) (ν ∷ []) R).own_val (ref l 0 γ a) (slice_val (l, 0) (length a) ∷ [])) ⊛ ‵ (flent (ν ∷ []) (Held R (length a) l 0 γ))))) (lends_slice 𝓛 R (named 0) (ν ∷ []) a l 0 (has_room a g)) $ await t z $ pick t (λ γ. split t $

@@ -94,8 +94,8 @@ module _ (s : Slots VMRegion) (enough : s.count ≤ length s.slots) where
   first_below test i e d = omega (arith, d, e, first_le test (listed s), listed_length)
 
   module _ (n i : ℕ) (e : i ≡ first_at (fits n) (listed s)) where
-    pub fit-none-of : i ≡ s.count → first_fit n (listed s) ≡ Stop no_region
-    fit-none-of h = fit_none n (listed s) (omega (arith, e, listed_length))
+    pub fit_none_of : i ≡ s.count → first_fit n (listed s) ≡ Stop no_region
+    fit_none_of h = fit_none n (listed s) (omega (arith, e, listed_length))
 
     pub fit_of : i < s.count → (first_fit n (listed s) ≡ Value (get_or s.slots i no_vm_region).start) × (n ≤ (get_or s.slots i no_vm_region).size)
     fit_of h =
@@ -105,11 +105,11 @@ module _ (s : Slots VMRegion) (enough : s.count ≤ length s.slots) where
         (fit_at n (listed s) k, fit_large n (listed s) k))
 
   module _ (a i : ℕ) (e : i ≡ first_at (used_at a) (listed s)) where
-    pub used-none-of : i ≡ s.count → used_size a (listed s) ≡ Stop region_not_found
-    used-none-of h = used_missing a (listed s) (omega (arith, e, listed_length))
+    pub used_none_of : i ≡ s.count → used_size a (listed s) ≡ Stop region_not_found
+    used_none_of h = used_missing a (listed s) (omega (arith, e, listed_length))
 
-    pub used-of : i < s.count → (used_size a (listed s) ≡ Value (get_or s.slots i no_vm_region).size) × ((get_or s.slots i no_vm_region).start ≡ a)
-    used-of h =
+    pub used_of : i < s.count → (used_size a (listed s) ≡ Value (get_or s.slots i no_vm_region).size) × ((get_or s.slots i no_vm_region).start ≡ a)
+    used_of h =
         let k : first_at (used_at a) (listed s) < length (listed s) = omega (arith, e, listed_length) in
         subst (λ (r : VMRegion). (used_size a (listed s) ≡ Value r.size) × (r.start ≡ a)) (get_or-take s.count s.slots i no_vm_region h)
         (subst (λ (j : ℕ). (used_size a (listed s) ≡ Value (get_or (listed s) j no_vm_region).size) × ((get_or (listed s) j no_vm_region).start ≡ a)) (sym e)

@@ -38,7 +38,7 @@ use Rattle.frame.proofs.Passed.{Passed, Values, Fine, slots, rows, values, args,
 use Rattle.regions.specs.declared.VMRegion.{VMRegion}
 use Rattle.regions.proofs.Slot.{R, word, ref}
 use Rattle.regions.proofs.Lends.{first_slice}
-use Rattle.regions.proofs.Bridge.{Holding, AR, arrTy, lent, mach_a, GoodA, as_long, size_fits, typedA, makesA, LR, list_ty, mach_l, GoodL, good_list, typedL, makesL, lends, back}
+use Rattle.regions.proofs.Bridge.{Holding, AR, arrTy, lent, mach_a, GoodA, as_long, size_fits, typed_a, makes_a, LR, list_ty, mach_l, GoodL, good_list, typed_l, makes_l, lends, back}
 use Rattle.regions.specs.contracts.VMRegion as T
 use Rattle.regions.proofs.VMRegion.TheLaws as T'
 
@@ -106,8 +106,8 @@ module _ (K : Holding) (Xs : List Passed) where
       exits : (zs : List VMRegion) (n : ℕ) → slotted zs n ≡ S a count v → GoodL K zs n → ent 𝓤 (emp 𝓤) (Post (mach_l zs n))
       exits zs n e gz =
           qed 𝓛 [] ∵ suffices ! _ (ends_at 𝓛 ended stayed (clauses 𝓤) bound (mach_l zs n) (K.make zs n) (tt, (tt, ends 0 tt Xs xs)) (tt, (tt, fits 0 tt Xs xs))) $ says ! (ap (λ (v : List VMRegion × (ℕ × Unit {0})). slotted v.0 v.1.0) (K.made zs n) ∙ e) $
-          owned ! (LR K) (Is (LR K)) (makesL K 𝓛) (K.make zs n) _ gz $
-          use0 𝓛 (‵ (has_all 0 tt Xs xs)) (make-has 𝓛 0 tt Xs xs g) $ owned ! usize (Is usize) (uint_Makes 𝓛 w64) count _ (refl, gc) $ fjoin ! $ owned ! (AR K) (Is (AR K)) (makesA K 𝓛) a _ ga $ fjoin ! $ nothing ! $ done !
+          owned ! (LR K) (Is (LR K)) (makes_l K 𝓛) (K.make zs n) _ gz $
+          use0 𝓛 (‵ (has_all 0 tt Xs xs)) (make-has 𝓛 0 tt Xs xs g) $ owned ! usize (Is usize) (uint_Makes 𝓛 w64) count _ (refl, gc) $ fjoin ! $ owned ! (AR K) (Is (AR K)) (makes_a K 𝓛) a _ ga $ fjoin ! $ nothing ! $ done !
 
       -- what g's triple binds outside, for the local l that is lent for ν under a name γ, and its `pre`
       abbrev κs₁ : ℕ → Lfts 1
@@ -129,9 +129,9 @@ module _ (K : Holding) (Xs : List Passed) where
         walk =
             qed 𝓛 (‵ ftrue ∷ ‵ (owns (AR K ∷ usize ∷ rows 0 tt Xs) bound.0.3 bound.0.4) ∷ []) ∵ enter ! C Λ function (mach_a a ∷ vint w64 count ∷ vals 0 tt Xs xs) _ $
             alloc1 ! (λ l₀. alloc1 ! (λ l₁. alloc1 ! (λ l₂. alloc_all ! Xs (λ bs. alloc1 ! (λ la. alloc1 ! (λ ln. alloc1 ! (λ lp. alloc1 ! (λ ls. alloc1 ! (λ lc. alloc0 ! $ params1 ! $
-            pass1 ! (init ! 13 refl (typedA K 𝓛 a ga)) $ pass1 ! (init ! 11 refl (tt, record { fits = gc })) $ move ! (10 ∷ []) $ pass_all ! 0 tt Xs bs xs g (rest la ln lp ls lc) $
+            pass1 ! (init ! 13 refl (typed_a K 𝓛 a ga)) $ pass1 ! (init ! 11 refl (tt, record { fits = gc })) $ move ! (10 ∷ []) $ pass_all ! 0 tt Xs bs xs g (rest la ln lp ls lc) $
             -- [xs; room for the array that comes back; …; for the slice; …; for the address; …; for the number; …; for the array; …; _2; …; _1; …; room for _0; …; true; what the parameters own]
-            assigns ! (of_opd ! (load ! (from ! (stop !)) (look ! 13 refl))) (past ! Xs bs (rest la ln lp ls lc) 0 (stop !)) (init ! 9 refl (typedA K 𝓛 a ga)) $
+            assigns ! (of_opd ! (load ! (from ! (stop !)) (look ! 13 refl))) (past ! Xs bs (rest la ln lp ls lc) 0 (stop !)) (init ! 9 refl (typed_a K 𝓛 a ga)) $
             assigns ! (addr ! (past ! Xs bs (rest la ln lp ls lc) 0 (stop !))) (past ! Xs bs (rest la ln lp ls lc) 2 (stop !)) (init ! 5 refl (tt, tt)) $
             assigns ! (agg ! (and_then ! (load ! (past ! Xs bs (rest la ln lp ls lc) 2 (stop !)) (look ! 5 refl)) (and_then ! (lit ! (size_fits K)) (no_more !)))) (past ! Xs bs (rest la ln lp ls lc) 3 (stop !)) (init ! 3 refl (tt, (tt, (record { fits = K.room.0 }, tt)))) $
             rewrite ! 3 (λ (m : ℕ). ‵ (fat full_share lent ls 0 (slice_val (la, 0) m))) (sym (as_long K a ga)) refl $
@@ -148,8 +148,8 @@ module _ (K : Holding) (Xs : List Passed) where
             -- the local comes back, and the list is made
             move ! (1 ∷ []) $ split ! $ move ! (0 ∷ 5 ∷ 3 ∷ []) $ back K ! tt a zs.0 la ν γ (l ∙ as_long K a ga) (λ gz.
             -- [the array; true; what the answer owns; …; xs; room for the array that comes back; …; the slice; …; the address; …; the number; …; the array's end; _2; …; _1; …; room for _0; …]
-            assigns ! (of_opd ! (load ! (past ! Xs bs (rest la ln lp ls lc) 0 (stop !)) (look ! 0 refl))) (past ! Xs bs (rest la ln lp ls lc) 4 (stop !)) (init ! 5 refl (typedA K 𝓛 zs.0 gz)) $
-            assigns ! (agg ! (and_then ! (load ! (past ! Xs bs (rest la ln lp ls lc) 4 (stop !)) (look ! 5 refl)) (and_then ! (load ! (past ! Xs bs (rest la ln lp ls lc) 1 (stop !)) (look ! 11 refl)) (no_more !)))) (from ! (stop !)) (init ! 18 refl (typedL K 𝓛 zs.0 n (good_list K zs.0 n gz is.1))) $
+            assigns ! (of_opd ! (load ! (past ! Xs bs (rest la ln lp ls lc) 0 (stop !)) (look ! 0 refl))) (past ! Xs bs (rest la ln lp ls lc) 4 (stop !)) (init ! 5 refl (typed_a K 𝓛 zs.0 gz)) $
+            assigns ! (agg ! (and_then ! (load ! (past ! Xs bs (rest la ln lp ls lc) 4 (stop !)) (look ! 5 refl)) (and_then ! (load ! (past ! Xs bs (rest la ln lp ls lc) 1 (stop !)) (look ! 11 refl)) (no_more !)))) (from ! (stop !)) (init ! 18 refl (typed_l K 𝓛 zs.0 n (good_list K zs.0 n gz is.1))) $
             returns ! (look ! 18 refl) $ forget ! 0 refl $ forget ! 5 refl $ forget ! 7 refl $ forget ! 9 refl $ forget ! 11 refl $ forget ! 14 refl $ forget ! 16 refl $ forget ! 18 refl $ move ! (4 ∷ []) $ use1 𝓛 (‵ (rooms Xs bs)) (forgets⊢ 𝓛 Xs bs v) $
             move ! (18 ∷ 19 ∷ []) $ free1 ! $ move ! (16 ∷ 17 ∷ []) $ free1 ! $ move ! (14 ∷ 15 ∷ []) $ free1 ! $ free_all ! Xs bs $ move ! (0 ∷ 12 ∷ []) $ free1 ! $ move ! (9 ∷ 10 ∷ []) $ free1 ! $ move ! (7 ∷ 8 ∷ []) $ free1 ! $ move ! (5 ∷ 6 ∷ []) $ free1 ! $ move ! (3 ∷ 4 ∷ []) $ free1 ! $ free0 ! $
             keep ! [] $ by ! (exits zs.0 n (e ∙ ap (S a count) (values_args 1 (κs₁ ν) Xs v)) (good_list K zs.0 n gz is.1)))))))))))))))))))

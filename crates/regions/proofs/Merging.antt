@@ -60,9 +60,9 @@ module _ (s : Slots VMRegion) (l : List VMRegion) (count i : ℕ) (m : Merging s
     pair = next no_vm_region l count m.few i (omega arith) ∙ ap (λ (xs : List VMRegion). this ∷ xs) (next no_vm_region l count m.few (i + 1) h)
 
     -- region i keeps its start where the slots behind it move down: marked with both sizes it is the two joined
-    pub marked-join : marked_at i (this.size + that.size) false (shifted_down no_vm_region l (i + 1) count) ≡ set (shifted_down no_vm_region l (i + 1) count) i (join this that)
+    pub marked_join : marked_at i (this.size + that.size) false (shifted_down no_vm_region l (i + 1) count) ≡ set (shifted_down no_vm_region l (i + 1) count) i (join this that)
     unfolding shifted_down
-    marked-join =
+    marked_join =
         let rest = slice (i + 1 + 1) count l ++ (no_vm_region ∷ drop count l) in
         let same : get_or (take (i + 1) l ++ rest) i no_vm_region ≡ this =
         get_or-append (take (i + 1) l) rest no_vm_region i (omega (arith, length-take-le (i + 1) l (omega (arith, m.few)))) ∙ get_or-take (i + 1) l i no_vm_region (omega arith) in
@@ -120,8 +120,8 @@ module _ (s : Slots VMRegion) (l : List VMRegion) (count i : ℕ) (m : Merging s
       unfolding both-joined merge merge_from
       merged = rw (pair, e)
 
-      pub joined-lies : Placed this.start (this.size + that.size)
-      joined-lies =
+      pub joined_lies : Placed this.start (this.size + that.size)
+      joined_lies =
           let a = lies i (omega arith) in
           let b = lies (i + 1) h in
           record {
@@ -138,16 +138,16 @@ module _ (s : Slots VMRegion) (l : List VMRegion) (count i : ℕ) (m : Merging s
           rw (← pair, ← take-take i count l (omega arith), take-append-drop i (take count l)) m.lie in
           let parts = both_true (every well_placed_vm (take i l)) _ (sym (every_append well_placed_vm (take i l) _) ∙ whole) in
           let more = both_true (well_placed_vm that) _ (both_true (well_placed_vm this) _ parts.1).1 in
-          let one = placed_back this.start (this.size + that.size) joined-lies in
+          let one = placed_back this.start (this.size + that.size) joined_lies in
           rw (every_append well_placed_vm (take i l) (both-joined ∷ slice (i + 1 + 1) count l), parts.0, one) more.1
 
       as_long : length (set (shifted_down no_vm_region l (i + 1) count) i (join this that)) ≡ length l
       unfolding both-joined front after
       as_long = ap length split ∙ length-append front (no_vm_region ∷ drop count l) ∙ omega (arith, front_length, length-drop count l, m.few)
 
-      pub merge-joined : Merging s (set (shifted_down no_vm_region l (i + 1) count) i (join this that)) (count - 1) i
+      pub merge_joined : Merging s (set (shifted_down no_vm_region l (i + 1) count) i (join this that)) (count - 1) i
       unfolding both-joined front after
-      merge-joined =
+      merge_joined =
           let f : s.count - (count - 1) ≡ suc (s.count - count) = omega (arith, m.fewer) in
           let n : length (take i l) ≡ i = length-take-le i l (omega (arith, m.few)) in
           let rest = both-joined ∷ slice (i + 1 + 1) count l in

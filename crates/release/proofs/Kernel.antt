@@ -154,9 +154,9 @@ module _ {up : ℕ} {b : Board} {k : List VMRegion} {u : List MappedRegion} {l :
   -- ---- and what holds besides while no call is turned away with 11 or 13
 
   module _ {ever : List ℕ} (t : Tidy up b k ever) where
-    pub vmalloc-tidy : (size : ℕ) → let d = vmalloc_of (kernel_of b) b.root size in turned_away d.answer ≡ false
+    pub vmalloc_tidy : (size : ℕ) → let d = vmalloc_of (kernel_of b) b.root size in turned_away d.answer ≡ false
         → Tidy up (with_kernel b d.kernel) (book_step k (vmalloc_call size) d.answer) (more_pages ever d.answer (round_up 12 size))
-    vmalloc-tidy size =
+    vmalloc_tidy size =
         vmalloc_outcomes size
         (λ (d : KernelDid). turned_away d.answer ≡ false → Tidy up (with_kernel b d.kernel) (book_step k (vmalloc_call size) d.answer) (more_pages ever d.answer (round_up 12 size)))
         (λ e _ _. t)
@@ -166,8 +166,8 @@ module _ {up : ℕ} {b : Board} {k : List VMRegion} {u : List MappedRegion} {l :
         }))
         (λ a e pos f met s ex. absurd (true≢false (sym s ∙ ex)))
 
-    pub vfree-tidy : (a : ℕ) → let d = vfree_of (kernel_of b) b.root a in Tidy up (with_kernel b d.kernel) (book_step k (vfree_call a) d.answer) ever
-    vfree-tidy a =
+    pub vfree_tidy : (a : ℕ) → let d = vfree_of (kernel_of b) b.root a in Tidy up (with_kernel b d.kernel) (book_step k (vfree_call a) d.answer) ever
+    vfree_tidy a =
         vfree_outcomes a (λ (d : KernelDid). Tidy up (with_kernel b d.kernel) (book_step k (vfree_call a) d.answer) ever)
         (λ e. t)
         (λ n e. rw (book_freed a) (record { apart = apart_merge (freed_all a k); tabled = tabled_give a (n / 4096) h.paged.account.order t.tabled }))

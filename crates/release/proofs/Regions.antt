@@ -27,7 +27,7 @@ use Rattle.mappings.specs.declared.MappedRegion.{MappedRegion}
 use Rattle.mappings.specs.Regions.{mapped_region, start_key, starts, holds, insert, remove}
 use Rattle.regions.proofs.Placed.{Placed}
 use Rattle.mappings.proofs.Rising.{Rising, rising_insert, holds_inserted, holds_others, holds_none, holds_one, rising_remove, holds_removed, holds_kept}
-use Rattle.slots.proofs.Sorted.{length-insert, length-remove}
+use Rattle.slots.proofs.Sorted.{length_insert, length_remove}
 use Rattle.release.specs.Demand3.{Region, kernel_region, user_region, drop_kernel, drop_user}
 use Rattle.release.proofs.Lists.{Once}
 
@@ -165,7 +165,7 @@ pub user_take : (a n : ℕ) (prot flags : ℤ) {u : List MappedRegion} {l : List
     → UserList (insert (mapped_region a n prot flags) u) (user_region a n ∷ l)
 user_take a n prot flags {u} {l} p h s few = record {
   rising = rising_insert (mapped_region a n prot flags) 0 u (omega arith) p h.rising;
-  few = omega (arith, length-insert start_key (mapped_region a n prot flags) u s);
+  few = omega (arith, length_insert start_key (mapped_region a n prot flags) u s);
   held = λ b m e. by b m e (ℕ_discrete b a);
   live = λ b m e. ⊎_elim
       (λ q. subst (λ (x : ℕ). holds x m (insert (mapped_region a n prot flags) u) ≡ true) (sym (user_start_lem q))
@@ -184,7 +184,7 @@ user_take a n prot flags {u} {l} p h s few = record {
 pub user_give : (a n : ℕ) {u : List MappedRegion} {l : List Region} → UserList u (user_region a n ∷ l) → Once (user_region a n ∷ l) → UserList (remove a u) l
 user_give a n {u} {l} h o = record {
   rising = rising_remove a 0 u h.rising;
-  few = omega (arith, length-remove start_key a u, h.few);
+  few = omega (arith, length_remove start_key a u, h.few);
   held = λ b m e. by b m e (ℕ_discrete b a);
   live = λ b m e. holds_kept a b m u (other b m e) ∙ h.live b m (Memᴰ.tail e);
 }

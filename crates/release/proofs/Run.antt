@@ -33,8 +33,8 @@ use Rattle.release.specs.Demand3.{none_turned_away, Region, live_step, live_from
 use Rattle.release.proofs.Regions.{KernelList, UserList}
 use Rattle.release.proofs.Paged.{Paged}
 use Rattle.release.proofs.Invariant.{Leftover, nothing_left, Inv, Tidy}
-use Rattle.release.proofs.Kernel.{more_pages, vmalloc_step, vfree_step, vmalloc-tidy, vfree-tidy}
-use Rattle.release.proofs.User.{mmap_step, munmap_step, mmap-tidy, munmap-tidy}
+use Rattle.release.proofs.Kernel.{more_pages, vmalloc_step, vfree_step, vmalloc_tidy, vfree_tidy}
+use Rattle.release.proofs.User.{mmap_step, munmap_step, mmap_tidy, munmap_tidy}
 use Rattle.release.proofs.Refused.{left_from, list_from, run_any}
 
 -- the pages ever mapped, call by call
@@ -60,10 +60,10 @@ step h (munmap_call a size) e = munmap_step h a size
 pub tidy_step : {up : ℕ} {b : Board} {k : List VMRegion} {u : List MappedRegion} {l : List Region} {ever : List ℕ} {left : Leftover} → Inv up left b k u l → Tidy up b k ever
     → (c : Call) → turned_away (play b c).answer ≡ false → Tidy up (play b c).board (book_step k c (play b c).answer) (ever_step ever c (play b c).answer)
 unfolding play
-tidy_step h t (vmalloc_call size) e = vmalloc-tidy h t size e
-tidy_step h t (vfree_call a) e = vfree-tidy h t a
-tidy_step h t (mmap_call hint size prot flags) e = mmap-tidy h t hint size prot flags e
-tidy_step h t (munmap_call a size) e = munmap-tidy h t a size
+tidy_step h t (vmalloc_call size) e = vmalloc_tidy h t size e
+tidy_step h t (vfree_call a) e = vfree_tidy h t a
+tidy_step h t (mmap_call hint size prot flags) e = mmap_tidy h t hint size prot flags e
+tidy_step h t (munmap_call a size) e = munmap_tidy h t a size
 
 -- a list of calls
 pub run_inv : (cs : List Call) {up : ℕ} {b : Board} {k : List VMRegion} {u : List MappedRegion} {l : List Region} {left : Leftover} → Inv up left b k u l → none_turned_away (events b cs) ≡ true

@@ -39,7 +39,7 @@ use Rattle.mmap.specs.Calls.{chosen, full, user_pages, leftover, user_mapped, mm
 use Rattle.munmap.specs.Calls.{munmap, munmap_of}
 use Rattle.mappings.proofs.Rising.{holds_placed, holds_one, holds_none}
 use Rattle.slots.specs.Sorted.{has_key}
-use Rattle.slots.proofs.Sorted.{length-remove}
+use Rattle.slots.proofs.Sorted.{length_remove}
 use Rattle.mmap.proofs.Calls.{room, mmap_cases, chosen_place}
 use Rattle.munmap.proofs.Calls.{munmap_cases}
 use Rattle.board.specs.Board.{Board}
@@ -105,7 +105,7 @@ module _ {up : ℕ} {b : Board} {k : List VMRegion} {u : List MappedRegion} {l :
   pub slots_removed : (a : ℕ) → store no_mapped_region (remove a (listed b.user)) b.user ≡ filled no_mapped_region (remove a u)
   slots_removed a =
       ap (λ (x : List MappedRegion). store no_mapped_region (remove a x) b.user) user_listed
-      ∙ user_stored (remove a u) (omega (arith, length-remove start_key a u, h.user_list.few))
+      ∙ user_stored (remove a u) (omega (arith, length_remove start_key a u, h.user_list.few))
 
   -- every outcome of an mmap: refused with nothing changed, met, turned away with 11 or 13
   pub mmap_outcomes : (hint : OptAddr) (size : ℕ) (prot flags : ℤ) (P : UserDid → Type 0) → let n = round_up 12 size in
@@ -220,15 +220,15 @@ module _ {up : ℕ} {b : Board} {k : List VMRegion} {u : List MappedRegion} {l :
   -- ---- and what holds besides while no call is turned away with 11 or 13
 
   module _ {ever : List ℕ} (t : Tidy up b k ever) where
-    pub mmap-tidy : (hint : OptAddr) (size : ℕ) (prot flags : ℤ) → let d = mmap_of (user_of b) b.root hint size prot flags in turned_away d.answer ≡ false
+    pub mmap_tidy : (hint : OptAddr) (size : ℕ) (prot flags : ℤ) → let d = mmap_of (user_of b) b.root hint size prot flags in turned_away d.answer ≡ false
         → Tidy up (with_user b d.user) k (more_pages ever d.answer (round_up 12 size))
-    mmap-tidy hint size prot flags =
+    mmap_tidy hint size prot flags =
         mmap_outcomes hint size prot flags (λ (d : UserDid). turned_away d.answer ≡ false → Tidy up (with_user b d.user) k (more_pages ever d.answer (round_up 12 size)))
         (λ e _ _. t)
         (λ a x p f met _. record { apart = t.apart; tabled = tabled_take (writable prot) true h.paged a (round_up 12 size / 4096) x met t.tabled })
         (λ a e c met s ex. absurd (true≢false (sym s ∙ ex)))
 
-    pub munmap-tidy : (a size : ℕ) → Tidy up (with_user b (munmap_of (user_of b) b.root a size).user) k ever
-    munmap-tidy a size =
+    pub munmap_tidy : (a size : ℕ) → Tidy up (with_user b (munmap_of (user_of b) b.root a size).user) k ever
+    munmap_tidy a size =
         munmap_outcomes a size (λ (d : UserDid). Tidy up (with_user b d.user) k ever)
         (λ e. t) (λ n e. record { apart = t.apart; tabled = tabled_give a (n / 4096) h.paged.account.order t.tabled })

@@ -28,31 +28,31 @@ module _ {A : Type 0} (d : A) (l : List A) (n : ℕ) (enough : n ≤ length l) w
   none i h = drop_of_length-le (take n l) {i = i} (omega (arith, length-take n l))
 
   module _ (test : A → Bool) (i : ℕ) where
-    pub passing-on : Passing test l n i → i < n → test (get_or l i d) ≡ true → Passing test l n (i + 1)
+    pub passing_on : Passing test l n i → i < n → test (get_or l i d) ≡ true → Passing test l n (i + 1)
     unfolding every
-    passing-on p h e = (omega arith, rw (next i h, e) at p.1)
+    passing_on p h e = (omega arith, rw (next i h, e) at p.1)
 
-    pub passing-stop : Passing test l n i → i < n → test (get_or l i d) ≡ false → false ≡ every test (take n l)
+    pub passing_stop : Passing test l n i → i < n → test (get_or l i d) ≡ false → false ≡ every test (take n l)
     unfolding every
-    passing-stop p h e = rw (next i h, e) at p.1
+    passing_stop p h e = rw (next i h, e) at p.1
 
-    pub passing-end : Passing test l n i → n ≤ i → true ≡ every test (take n l)
+    pub passing_end : Passing test l n i → n ≤ i → true ≡ every test (take n l)
     unfolding every
-    passing-end p h = rw (none i h) at p.1
+    passing_end p h = rw (none i h) at p.1
 
-    pub seeking-on : Seeking test l n i → i < n → test (get_or l i d) ≡ false → Seeking test l n (i + 1)
+    pub seeking_on : Seeking test l n i → i < n → test (get_or l i d) ≡ false → Seeking test l n (i + 1)
     unfolding first_at
-    seeking-on p h e =
+    seeking_on p h e =
         let f : first_at test (slice i n l) ≡ suc (first_at test (slice (i + 1) n l)) = rw (next i h, e) in
         (omega arith, omega (arith, p.1))
 
-    pub seeking-here : Seeking test l n i → i < n → test (get_or l i d) ≡ true → i ≡ first_at test (take n l)
+    pub seeking_here : Seeking test l n i → i < n → test (get_or l i d) ≡ true → i ≡ first_at test (take n l)
     unfolding first_at
-    seeking-here p h e = let f : first_at test (slice i n l) ≡ 0 = rw (next i h, e) in omega (arith, p.1)
+    seeking_here p h e = let f : first_at test (slice i n l) ≡ 0 = rw (next i h, e) in omega (arith, p.1)
 
-    pub seeking-end : Seeking test l n i → n ≤ i → n ≡ first_at test (take n l)
+    pub seeking_end : Seeking test l n i → n ≤ i → n ≡ first_at test (take n l)
     unfolding first_at
-    seeking-end p h = let f : first_at test (slice i n l) ≡ 0 = rw (none i h) in omega (arith, p.0, p.1)
+    seeking_end p h = let f : first_at test (slice i n l) ≡ 0 = rw (none i h) in omega (arith, p.0, p.1)
 
 -- ---- shifts by one
 
@@ -123,13 +123,13 @@ module _ {A : Type 0} (d : A) (l : List A) where
         ∙ subst (λ (k : ℕ). get_or (front ++ drop j l) (k + 1) d ≡ get_or l (j + 1) d) front_length
         (get_or-append-add front (drop j l) 1 d ∙ get_or-drop j l 1 d)
 
-    pub down-on : j + 1 < length l → {ys : List A} → ys ≡ downTo at j → set ys j (get_or ys (j + 1) d) ≡ downTo at (j + 1)
-    down-on more e =
+    pub down_on : j + 1 < length l → {ys : List A} → ys ≡ downTo at j → set ys j (get_or ys (j + 1) d) ≡ downTo at (j + 1)
+    down_on more e =
         rw (e, down-read, down-set (get_or l (j + 1) d), slice_snoc (at + 1) (j + 1) (omega arith) more)
         (ap (λ (xs : List A). take at l ++ xs) (sym (append_snoc (slice (at + 1) (j + 1) l) (get_or l (j + 1) d) (drop (j + 1) l))))
 
-    pub down-end : (blank : A) (end : ℕ) → end ≡ j + 1 → {ys : List A} → ys ≡ downTo at j → set ys (end - 1) blank ≡ shifted_down blank l at end
+    pub down_end : (blank : A) (end : ℕ) → end ≡ j + 1 → {ys : List A} → ys ≡ downTo at j → set ys (end - 1) blank ≡ shifted_down blank l at end
     unfolding shifted_down
-    down-end blank end g e =
+    down_end blank end g e =
         let f : end - 1 ≡ j = omega arith in
         rw (f, g, e) (down-set blank)

@@ -35,18 +35,18 @@ module _ {A : Type 0} (key : A → ℕ) where
   rise_first d (suc n) (a ∷ l) = rw (le-leb 0 (key a) (omega arith))
 
   module _ {p : List A} where
-    pub rise-end : (k : ℕ) → p ≡ [] → rising_from key k p ≡ true
+    pub rise_end : (k : ℕ) → p ≡ [] → rising_from key k p ≡ true
     unfolding rising_from
-    rise-end k c = rw c
+    rise_end k c = rw c
 
     module _ {a : A} {q : List A} (c : p ≡ a ∷ q) (u : ℕ) where
-      pub rise-stop : key a ≤ u → rising_from key (suc u) p ≡ false
+      pub rise_stop : key a ≤ u → rising_from key (suc u) p ≡ false
       unfolding rising_from
-      rise-stop h = rw (c, lt-leb (suc u) (key a) (omega arith))
+      rise_stop h = rw (c, lt-leb (suc u) (key a) (omega arith))
 
-      pub rise-on : u < key a → rising_from key (suc u) p ≡ rising_from key (suc (key a)) q
+      pub rise_on : u < key a → rising_from key (suc u) p ≡ rising_from key (suc (key a)) q
       unfolding rising_from
-      rise-on h = rw (c, le-leb (suc u) (key a) h)
+      rise_on h = rw (c, le-leb (suc u) (key a) h)
 
   rise_head : (lo : ℕ) (a : A) (l : List A) → rising_from key lo (a ∷ l) ≡ true → lo ≤ key a
   unfolding rising_from
@@ -66,37 +66,37 @@ module _ {A : Type 0} (key : A → ℕ) where
     -- ---- the search for a key's place
 
     module _ {p : List A} {a : A} {q : List A} (c : p ≡ a ∷ q) where
-      pub place-stop : v ≤ key a → place_of key v p ≡ 0
+      pub place_stop : v ≤ key a → place_of key v p ≡ 0
       unfolding place_of
-      place-stop h = rw (c, le-ltb (key a) v h)
+      place_stop h = rw (c, le-ltb (key a) v h)
 
-      pub place-on : key a < v → place_of key v p ≡ suc (place_of key v q)
+      pub place_on : key a < v → place_of key v p ≡ suc (place_of key v q)
       unfolding place_of
-      place-on h = rw (c, lt-ltb (key a) v h)
+      place_on h = rw (c, lt-ltb (key a) v h)
 
-    pub place-le : (l : List A) → place_of key v l ≤ length l
+    pub place_le : (l : List A) → place_of key v l ≤ length l
     unfolding place_of
-    place-le [] = omega arith
-    place-le (a ∷ l) = pick_cases (λ (k : ℕ). k ≤ suc (length l)) (ltb (key a) v) _ _ (λ _. let more = place-le l in omega arith) (λ _. omega arith)
+    place_le [] = omega arith
+    place_le (a ∷ l) = pick_cases (λ (k : ℕ). k ≤ suc (length l)) (ltb (key a) v) _ _ (λ _. let more = place_le l in omega arith) (λ _. omega arith)
 
     -- .. by halves: it is behind one with a lower key
-    pub place-behind : (d : A) (lo m : ℕ) (l : List A) → rising_from key lo l ≡ true → m < length l → key (get_or l m d) < v → m < place_of key v l
-    place-behind d lo m [] h k e = absurd (omega arith)
-    place-behind d lo zero (a ∷ l) h k e = omega (arith, place-on {p = a ∷ l} refl e)
-    place-behind d lo (suc m) (a ∷ l) h k e =
+    pub place_behind : (d : A) (lo m : ℕ) (l : List A) → rising_from key lo l ≡ true → m < length l → key (get_or l m d) < v → m < place_of key v l
+    place_behind d lo m [] h k e = absurd (omega arith)
+    place_behind d lo zero (a ∷ l) h k e = omega (arith, place_on {p = a ∷ l} refl e)
+    place_behind d lo (suc m) (a ∷ l) h k e =
         let f = rise_tail lo a l h in
         let up = rise_at d (suc (key a)) m l f (omega arith) in
-        omega (arith, place-on {p = a ∷ l} refl (omega arith), place-behind d (suc (key a)) m l f (omega arith) e)
+        omega (arith, place_on {p = a ∷ l} refl (omega arith), place_behind d (suc (key a)) m l f (omega arith) e)
 
     -- .. and not behind one that has no lower key
-    pub place-until : (d : A) (m : ℕ) (l : List A) → m < length l → v ≤ key (get_or l m d) → place_of key v l ≤ m
-    place-until d m [] k e = absurd (omega arith)
-    place-until d zero (a ∷ l) k e = omega (arith, place-stop {p = a ∷ l} refl e)
-    place-until d (suc m) (a ∷ l) k e = by (place-until d m l (omega arith) e) (dec_lt (key a) v)
+    pub place_until : (d : A) (m : ℕ) (l : List A) → m < length l → v ≤ key (get_or l m d) → place_of key v l ≤ m
+    place_until d m [] k e = absurd (omega arith)
+    place_until d zero (a ∷ l) k e = omega (arith, place_stop {p = a ∷ l} refl e)
+    place_until d (suc m) (a ∷ l) k e = by (place_until d m l (omega arith) e) (dec_lt (key a) v)
       where
         by : place_of key v l ≤ m → Dec (key a < v) → place_of key v (a ∷ l) ≤ suc m
-        by more (yes h) = omega (arith, place-on {p = a ∷ l} refl h)
-        by more (no h) = omega (arith, place-stop {p = a ∷ l} refl (omega arith))
+        by more (yes h) = omega (arith, place_on {p = a ∷ l} refl h)
+        by more (no h) = omega (arith, place_stop {p = a ∷ l} refl (omega arith))
 
     -- ---- one with the key stands at its place
 
@@ -122,52 +122,52 @@ module _ {A : Type 0} (key : A → ℕ) where
       has_above lo h e = has_on (λ q. omega arith) ∙ none_below (suc (key a)) l (omega arith) (rise_tail lo a l e)
 
     -- past the last none has it
-    pub key-past : (l : List A) → length l ≤ place_of key v l → has_key key v l ≡ false
+    pub key_past : (l : List A) → length l ≤ place_of key v l → has_key key v l ≡ false
     unfolding has_key
-    key-past [] h = refl
-    key-past (a ∷ l) h =
-        by_order (key a) v (λ k. has_on a l (λ q. omega arith) ∙ key-past l (let e = place-on {p = a ∷ l} refl k in omega arith))
-        (λ k. absurd (let e = place-stop {p = a ∷ l} refl (omega arith) in omega arith))
-        (λ k. absurd (let e = place-stop {p = a ∷ l} refl (omega arith) in omega arith))
+    key_past [] h = refl
+    key_past (a ∷ l) h =
+        by_order (key a) v (λ k. has_on a l (λ q. omega arith) ∙ key_past l (let e = place_on {p = a ∷ l} refl k in omega arith))
+        (λ k. absurd (let e = place_stop {p = a ∷ l} refl (omega arith) in omega arith))
+        (λ k. absurd (let e = place_stop {p = a ∷ l} refl (omega arith) in omega arith))
 
-    pub place-under : (l : List A) → has_key key v l ≡ true → place_of key v l < length l
-    place-under l e = go (dec_lt (place_of key v l) (length l))
+    pub place_under : (l : List A) → has_key key v l ≡ true → place_of key v l < length l
+    place_under l e = go (dec_lt (place_of key v l) (length l))
       where
         go : Dec (place_of key v l < length l) → place_of key v l < length l
         go (yes h) = h
-        go (no h) = absurd (false≢true (sym (key-past l (omega arith)) ∙ e))
+        go (no h) = absurd (false≢true (sym (key_past l (omega arith)) ∙ e))
 
-    pub key-at : (d : A) (lo : ℕ) (l : List A) → rising_from key lo l ≡ true → place_of key v l < length l
+    pub key_at : (d : A) (lo : ℕ) (l : List A) → rising_from key lo l ≡ true → place_of key v l < length l
         → has_key key v l ≡ eqb (key (get_or l (place_of key v l) d)) v
-    key-at d lo [] e h = absurd (omega arith)
-    key-at d lo (a ∷ l) e h =
+    key_at d lo [] e h = absurd (omega arith)
+    key_at d lo (a ∷ l) e h =
         by_order (key a) v
-        (λ k. let s = place-on {p = a ∷ l} refl k in has_on a l (λ q. omega arith) ∙ rw s (key-at d (suc (key a)) l (rise_tail lo a l e) (omega arith)))
-        (λ k. let s = place-stop {p = a ∷ l} refl (omega arith) in rw s (has_here a l k ∙ sym (eq-eqb (key a) v k)))
-        (λ k. let s = place-stop {p = a ∷ l} refl (omega arith) in rw s (has_above a l lo k e ∙ sym (ne_eqb (key a) v (λ q. omega arith))))
+        (λ k. let s = place_on {p = a ∷ l} refl k in has_on a l (λ q. omega arith) ∙ rw s (key_at d (suc (key a)) l (rise_tail lo a l e) (omega arith)))
+        (λ k. let s = place_stop {p = a ∷ l} refl (omega arith) in rw s (has_here a l k ∙ sym (eq-eqb (key a) v k)))
+        (λ k. let s = place_stop {p = a ∷ l} refl (omega arith) in rw s (has_above a l lo k e ∙ sym (ne_eqb (key a) v (λ q. omega arith))))
 
     -- ---- the list without the one that has the key
 
-    pub remove-none : (l : List A) → has_key key v l ≡ false → remove key v l ≡ l
+    pub remove_none : (l : List A) → has_key key v l ≡ false → remove key v l ≡ l
     unfolding remove
-    remove-none [] e = refl
-    remove-none (a ∷ l) e =
+    remove_none [] e = refl
+    remove_none (a ∷ l) e =
         pick_cases (λ (x : List A). x ≡ a ∷ l) (eqb (key a) v) _ _ (λ k. absurd (false≢true (sym e ∙ has_here a l (eqb-true (key a) v k))))
-        (λ k. ap (λ (x : List A). a ∷ x) (remove-none l (sym (has_on a l (eqb-false (key a) v k)) ∙ e)))
+        (λ k. ap (λ (x : List A). a ∷ x) (remove_none l (sym (has_on a l (eqb-false (key a) v k)) ∙ e)))
 
-    pub remove-there : (lo : ℕ) (l : List A) → rising_from key lo l ≡ true → has_key key v l ≡ true → remove key v l ≡ taken_out (place_of key v l) l
+    pub remove_there : (lo : ℕ) (l : List A) → rising_from key lo l ≡ true → has_key key v l ≡ true → remove key v l ≡ taken_out (place_of key v l) l
     unfolding remove place_of has_key
-    remove-there lo [] rise e = absurd (false≢true e)
-    remove-there lo (a ∷ l) rise e =
+    remove_there lo [] rise e = absurd (false≢true e)
+    remove_there lo (a ∷ l) rise e =
         by_order (key a) v (λ k. rw (ne_eqb (key a) v (λ q. omega arith), lt-ltb (key a) v k)
-        (ap (λ (x : List A). a ∷ x) (remove-there (suc (key a)) l (rise_tail lo a l rise) (sym (has_on a l (λ q. omega arith)) ∙ e))))
+        (ap (λ (x : List A). a ∷ x) (remove_there (suc (key a)) l (rise_tail lo a l rise) (sym (has_on a l (λ q. omega arith)) ∙ e))))
         (λ k. rw (eq-eqb (key a) v k, le-ltb (key a) v (omega arith))) (λ k. absurd (false≢true (sym (has_above a l lo k rise) ∙ e)))
 
-    pub length-remove : (l : List A) → length (remove key v l) ≤ length l
+    pub length_remove : (l : List A) → length (remove key v l) ≤ length l
     unfolding remove
-    length-remove [] = omega arith
-    length-remove (a ∷ l) =
-        let more = length-remove l in
+    length_remove [] = omega arith
+    length_remove (a ∷ l) =
+        let more = length_remove l in
         pick_cases (λ (x : List A). length x ≤ suc (length l)) (eqb (key a) v) _ _ (λ _. omega arith) (λ _. omega arith)
 
   -- two keys are removed in either order
@@ -186,29 +186,29 @@ module _ {A : Type 0} (key : A → ℕ) where
   -- ---- the list with one more, or with one instead of another
 
   module _ (a : A) where
-    pub insert-new : (l : List A) → has_key key (key a) l ≡ false → insert key a l ≡ put_in (place_of key (key a) l) a l
+    pub insert_new : (l : List A) → has_key key (key a) l ≡ false → insert key a l ≡ put_in (place_of key (key a) l) a l
     unfolding insert place_of
-    insert-new [] e = refl
-    insert-new (b ∷ l) e =
+    insert_new [] e = refl
+    insert_new (b ∷ l) e =
         by_order (key b) (key a) (λ k. rw (le-ltb (key a) (key b) (omega arith), ne_eqb (key a) (key b) (λ q. omega arith), lt-ltb (key b) (key a) k)
-        (ap (λ (x : List A). b ∷ x) (insert-new l (sym (has_on (key a) b l (λ q. omega arith)) ∙ e))))
+        (ap (λ (x : List A). b ∷ x) (insert_new l (sym (has_on (key a) b l (λ q. omega arith)) ∙ e))))
         (λ k. absurd (false≢true (sym e ∙ has_here (key a) b l k))) (λ k. rw (lt-ltb (key a) (key b) k, le-ltb (key b) (key a) (omega arith)))
 
-    pub insert-there : (lo : ℕ) (l : List A) → rising_from key lo l ≡ true → has_key key (key a) l ≡ true → insert key a l ≡ set l (place_of key (key a) l) a
+    pub insert_there : (lo : ℕ) (l : List A) → rising_from key lo l ≡ true → has_key key (key a) l ≡ true → insert key a l ≡ set l (place_of key (key a) l) a
     unfolding insert place_of has_key
-    insert-there lo [] rise e = absurd (false≢true e)
-    insert-there lo (b ∷ l) rise e =
+    insert_there lo [] rise e = absurd (false≢true e)
+    insert_there lo (b ∷ l) rise e =
         by_order (key b) (key a) (λ k. rw (le-ltb (key a) (key b) (omega arith), ne_eqb (key a) (key b) (λ q. omega arith), lt-ltb (key b) (key a) k)
-        (ap (λ (x : List A). b ∷ x) (insert-there (suc (key b)) l (rise_tail lo b l rise) (sym (has_on (key a) b l (λ q. omega arith)) ∙ e))))
+        (ap (λ (x : List A). b ∷ x) (insert_there (suc (key b)) l (rise_tail lo b l rise) (sym (has_on (key a) b l (λ q. omega arith)) ∙ e))))
         (λ k. rw (le-ltb (key a) (key b) (omega arith), eq-eqb (key a) (key b) (sym k), le-ltb (key b) (key a) (omega arith)))
         (λ k. absurd (false≢true (sym (has_above (key a) b l lo k rise) ∙ e)))
 
-    pub length-insert : (l : List A) → has_key key (key a) l ≡ false → length (insert key a l) ≡ suc (length l)
+    pub length_insert : (l : List A) → has_key key (key a) l ≡ false → length (insert key a l) ≡ suc (length l)
     unfolding insert
-    length-insert [] e = refl
-    length-insert (b ∷ l) e =
+    length_insert [] e = refl
+    length_insert (b ∷ l) e =
         by_order (key b) (key a) (λ k. rw (le-ltb (key a) (key b) (omega arith), ne_eqb (key a) (key b) (λ q. omega arith))
-        (ap suc (length-insert l (sym (has_on (key a) b l (λ q. omega arith)) ∙ e))))
+        (ap suc (length_insert l (sym (has_on (key a) b l (λ q. omega arith)) ∙ e))))
         (λ k. absurd (false≢true (sym e ∙ has_here (key a) b l k))) (λ k. rw (lt-ltb (key a) (key b) k))
 
   -- ---- they stay sorted

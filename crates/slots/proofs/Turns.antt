@@ -6,8 +6,8 @@ use native.Mathlib.Omega.{arith}
 use lib.ListN.{length, get_or, set, take}
 use Rattle.slots.specs.Slots.{Slots, slotted, listed, store}
 use Rattle.slots.specs.Shifts.{put_in, taken_out, shifted_up}
-use Rattle.slots.proofs.Slices.{up_start, up_on, downTo, down_start, down-on}
-use Rattle.slots.proofs.Stored.{stored_in, stored-out}
+use Rattle.slots.proofs.Slices.{up_start, up_on, downTo, down_start, down_on}
+use Rattle.slots.proofs.Stored.{stored_in, stored_out}
 
 -- a slot stored, where the slots before it are known
 pub stored : {A : Type 0} {l m : List A} {n : ℕ} (s t : Slots A) (i : ℕ) (a : A) → s ≡ slotted l n → t ≡ slotted (set s.slots i a) s.count
@@ -39,21 +39,21 @@ module _ {A : Type 0} (d : A) (s₀ : Slots A) where
   pub down_turn : (at j : ℕ) → at ≤ j → j + 1 < length l → (s t : Slots A) (a : A) → s ≡ slotted (downTo d l at j) n
       → a ≡ get_or s.slots (j + 1) d → t ≡ slotted (set s.slots j a) s.count → t ≡ slotted (downTo d l at (j + 1)) n
   down_turn at j g b s t a e f z =
-      stored s t j a e z (ap (set s.slots j) f ∙ down-on d l at j g (omega arith) b (ap (λ (x : Slots A). x.slots) e))
+      stored s t j a e z (ap (set s.slots j) f ∙ down_on d l at j g (omega arith) b (ap (λ (x : Slots A). x.slots) e))
 
   -- ---- the count stored last: one is put in, or taken out
 
   module _ (m i at : ℕ) (e : m ≡ n) {s t u : Slots A} where
-    pub up-stored : (a : A) → i ≡ at → at ≤ m → m < length l → s ≡ slotted (shifted_up l i m) n → t ≡ slotted (set s.slots at a) s.count
+    pub up_stored : (a : A) → i ≡ at → at ≤ m → m < length l → s ≡ slotted (shifted_up l i m) n → t ≡ slotted (set s.slots at a) s.count
         → u ≡ slotted t.slots (m + 1) → u ≡ store d (put_in at a (listed s₀)) s₀
-    up-stored a g h k x y z =
+    up_stored a g h k x y z =
         z ∙ ap (λ (w : Slots A). slotted w.slots (m + 1)) y
         ∙ stored_in d l m at a h k (ap (λ (w : Slots A). w.slots) x ∙ ap (λ (j : ℕ). shifted_up l j m) g)
         ∙ ap (λ (k : ℕ). store d (put_in at a (take k l)) (slotted l k)) e
 
-    pub down-stored : i ≡ m - 1 → at < m → m ≤ length l → s ≡ slotted (downTo d l at i) n → t ≡ slotted (set s.slots (m - 1) d) s.count
+    pub down_stored : i ≡ m - 1 → at < m → m ≤ length l → s ≡ slotted (downTo d l at i) n → t ≡ slotted (set s.slots (m - 1) d) s.count
         → u ≡ slotted t.slots (m - 1) → u ≡ store d (taken_out at (listed s₀)) s₀
-    down-stored g h k x y z =
+    down_stored g h k x y z =
         z ∙ ap (λ (w : Slots A). slotted w.slots (m - 1)) y
-        ∙ stored-out d l m at h k (ap (λ (w : Slots A). w.slots) x ∙ ap (λ (j : ℕ). downTo d l at j) g)
+        ∙ stored_out d l m at h k (ap (λ (w : Slots A). w.slots) x ∙ ap (λ (j : ℕ). downTo d l at j) g)
         ∙ ap (λ (k : ℕ). store d (taken_out at (take k l)) (slotted l k)) e

@@ -44,9 +44,9 @@ module _ (ws : List ℕ) (start total up root v : ℕ) where
     further t e low h x = rw (add-one l, down_to l (omega arith), ← g) (reach_step ws start total (take l (path up v)) root t i e h x)
 
     -- below an absent entry, or an entry of a table outside
-    pub gap-absent : (t a : ℕ) → l ≤ up → {k : ℕ} → k ≡ to_end (up - l) v → reach ws start total root (take l (path up v)) ≡ Value t
+    pub gap_absent : (t a : ℕ) → l ≤ up → {k : ℕ} → k ≡ to_end (up - l) v → reach ws start total root (take l (path up v)) ≡ Value t
         → entry_at ws start total t i ≡ Stop a → IsGap ws start total up root v k
-    gap-absent t a low w h e = record {
+    gap_absent t a low w h e = record {
       some = rw w (to_end_some (up - l) v);
       off = λ j lt.
           let r = drop (suc l) (path up (v + j * 4096)) in (
@@ -79,7 +79,7 @@ module _ (ws : List ℕ) (start total up root v : ℕ) where
   pub gap_root : {k : ℕ} → k ≡ to_end up v → inside start total root ≡ false → IsGap ws start total up root v k
   gap_root w o =
       let e : up - 0 ≡ up = omega arith in
-      gap-absent 0 refl root outside (omega arith) (rw e w) (reach_end ws start total root refl) (entry_out ws start total root _ o)
+      gap_absent 0 refl root outside (omega arith) (rw e w) (reach_end ws start total root refl) (entry_out ws start total root _ o)
 
   -- a last table
   pub leaves_found : (above : List ℕ) (t k : ℕ) → reach ws start total root (take up (path up v)) ≡ Value t → inside start total t ≡ true

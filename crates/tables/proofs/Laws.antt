@@ -19,7 +19,7 @@ use Rattle.answer.specs.declared.Outcome.{Outcome}
 use Rattle.answer.specs.declared.Outcome.TheVariants.{Value, Stop}
 use Rattle.paging.specs.Walk.{place}
 use Rattle.paging.specs.Map.{Memory, memory, start_frame, total_of, Out, out, clear, create, enter, make, RoomToTake}
-use Rattle.paging.proofs.Map.{roomy_less, taken_inside, create_new, create_full, enter-there, enter-absent, enter_roomy, make-stop, make-on, make_roomy}
+use Rattle.paging.proofs.Map.{roomy_less, taken_inside, create_new, create_full, enter_there, enter_absent, enter_roomy, make_stop, make_on, make_roomy}
 use Rattle.walk.proofs.Laws.{shifted}
 
 -- after `take_frame`
@@ -50,10 +50,10 @@ module _ (u : Bool) (m : Memory) (t i : ℕ) {p : ℕ} (q : p ≡ place (start_f
   pub entered_there : {a : ℕ} → a ≡ addr_of (get_or m.words p 0) → flag 0 (get_or m.words p 0) ≡ true → out (Value (a / 4096)) m ≡ enter u m t i
   entered_there g k =
       ap (λ (x : ℕ). out (Value x) m) (shifted (get_or m.words p 0) g ∙ ap (λ (x : ℕ). frame_of (get_or m.words x 0)) q)
-      ∙ sym (enter-there u m t i h (subst (λ (x : ℕ). flag 0 (get_or m.words x 0) ≡ true) q k))
+      ∙ sym (enter_there u m t i h (subst (λ (x : ℕ). flag 0 (get_or m.words x 0) ≡ true) q k))
 
   pub entered_new : flag 0 (get_or m.words p 0) ≡ false → {o : Out} → o ≡ create u m p → o ≡ enter u m t i
-  entered_new k c = c ∙ ap (create u m) q ∙ sym (enter-absent u m t i h (subst (λ (x : ℕ). flag 0 (get_or m.words x 0) ≡ false) q k))
+  entered_new k c = c ∙ ap (create u m) q ∙ sym (enter_absent u m t i h (subst (λ (x : ℕ). flag 0 (get_or m.words x 0) ≡ false) q k))
 
 -- after `enter`: where it came, and the room that is left
 pub stepped : {w w' : Outcome} {m : Memory} {o : Out} → out w m ≡ o → w ≡ w' → o ≡ out w' m
@@ -68,10 +68,10 @@ module _ (u : Bool) (m : Memory) (t i : ℕ) (w : Outcome) (m' : Memory) (e : ou
   entered_left l k h s r = entered_roomy u m t i e (4 - (l + 1)) (roomy_less (4 - (l + 1) + 1) (omega arith) r)
 
   pub made_stop : {o : Out} (p q : List ℕ) → o ≡ make u m t p → p ≡ i ∷ q → (n : ℕ) → w ≡ Stop n → out (Stop n) m' ≡ o
-  made_stop p q a b n h = sym (a ∙ make-stop u m t b m' n (stepped e h))
+  made_stop p q a b n h = sym (a ∙ make_stop u m t b m' n (stepped e h))
 
   pub made_on : {o : Out} (p q : List ℕ) → o ≡ make u m t p → p ≡ i ∷ q → (f : ℕ) → w ≡ Value f → o ≡ make u m' f q
-  made_on p q a b f h = a ∙ make-on u m t b m' f (stepped e h)
+  made_on p q a b f h = a ∙ make_on u m t b m' f (stepped e h)
 
 -- after `make_tables`: the room that is left
 pub made_roomy : (u : Bool) (m : Memory) (t : ℕ) (p : List ℕ) {w : Outcome} {m' : Memory} → out w m' ≡ make u m t p → (n : ℕ) → RoomToTake m (n + length p) → RoomToTake m' n

@@ -26,7 +26,7 @@ use Rattle.mprotect.specs.Calls.{mprotect}
 use Rattle.fault.specs.Faults.{handle_fault}
 use Rattle.handler.specs.Handler.{handle_fault_second}
 use Rattle.board.specs.Board.{Board, BoardDid}
-use Rattle.board.proofs.Outcomes.{unmarked, may_other, may-met, start_refused, start_met, start_cases}
+use Rattle.board.proofs.Outcomes.{unmarked, may_other, may_met, start_refused, start_met, start_cases}
 use Rattle.release.specs.Calls.{Call, vmalloc_call, vfree_call, mmap_call, munmap_call, user_of}
 use Rattle.release.specs.Calls.{play as play_regions}
 use Rattle.trace.specs.Trace.{region_call, mprotect_call, faultCall, secondFaultCall, markCowCall, unmarkCowCall, isCowCall, map_page_call, map_huge_call, unmapPageCall, translateCall, show_translate_call, user_may_call, allocate_call, deallocateCall, markAllocatedCall, isAllocatedCall, freeFramesCall, allocatedFramesCall, totalFramesCall, init_call, start_call, played, by_regions, by_board}
@@ -148,5 +148,5 @@ levels_named = record {
       (λ may _ _ _ _ _. (may, (span_with (unmarked from to levels) 0).levels)) (λ e. absurd (not_met (omega arith) e)) (λ e. absurd (not_met (omega arith) e));
   other_start = λ b from to levels o. ap by_board (start_refused b from to levels broken_record (may_other (length b.mem.words) from to levels o));
   some_start = λ b from to levels o h k l some.
-      ap (λ (d : BoardDid). (by_board d).line.number) (start_met b from to levels (may-met (length b.mem.words) from to levels o h k l (λ e. absurd (not_met some e))));
+      ap (λ (d : BoardDid). (by_board d).line.number) (start_met b from to levels (may_met (length b.mem.words) from to levels o h k l (λ e. absurd (not_met some e))));
 }

@@ -19,7 +19,7 @@ use Rattle.paging.specs.declared.Leaf.TheVariants.{Page, NoLeaf}
 use Rattle.paging.specs.Walk.{place, present, entry_at, reach, judge, leaf}
 use Rattle.paging.proofs.Walk.{present_yes, present_no}
 use Rattle.tree.proofs.Walks.{nowhere, reach_step, entry_agree}
-use Rattle.tree.proofs.Tree.{Tree, idle_reach, stored, entry_now, entry_kept, reached, cut-reached}
+use Rattle.tree.proofs.Tree.{Tree, idle_reach, stored, entry_now, entry_kept, reached, cut_reached}
 
 pub record Plain (ws : List ℕ) (start total root n : ℕ) : Type 0 where
   pub plain : (p : List ℕ) (t i e : ℕ) → suc (length p) < n → reach ws start total root p ≡ Value t → entry_at ws start total t i ≡ Value e → flag 7 e ≡ false
@@ -117,5 +117,5 @@ module _ {ws bits : List ℕ} {start total root n : ℕ} (w : Tree ws bits start
   pub cut_plain : flag 0 e ≡ false → Plain (stored ws start s j e) start total root n
   cut_plain off = record {
     plain = λ p t i x lp h k.
-        stored_entry (λ b _. absurd (true≢false (sym b ∙ off))) p t i x lp (cut-reached w enough q s j lq hq small e off p t (omega arith) h).0 k;
+        stored_entry (λ b _. absurd (true≢false (sym b ∙ off))) p t i x lp (cut_reached w enough q s j lq hq small e off p t (omega arith) h).0 k;
   }

@@ -20,7 +20,7 @@ use Rattle.paging.specs.Map.{Memory, memory, start_frame, total_of, left, unmap_
 use Rattle.paging.proofs.Map.{take_leaf_out, take_leaf_none, take_leaf_there, unmap_entry_stop, unmap_entry_take}
 use Rattle.tree.proofs.Paths.{same_path}
 use Rattle.tree.proofs.Walks.{nowhere, entry_cases, entry_there, reach_step, reach_back}
-use Rattle.tree.proofs.Tree.{stored, other_reach, other_leaf, cut-here, cut-tree}
+use Rattle.tree.proofs.Tree.{stored, other_reach, other_leaf, cut_here, cut_tree}
 use Rattle.tree.proofs.Plain.{cut_plain}
 use Rattle.tree.proofs.Ordered.{reach_in, leaf_in, inside_in, mark_in, PlainIn, Ordered}
 
@@ -112,7 +112,7 @@ module _ {m : Memory} {root n : ℕ} (o : Ordered m root n) (q : List ℕ) (j t 
       → Cut m (memory (stored m.words (start_frame m) t j 0) (frames bits (with_counter m.frames.fa a))) root n (q ++ (j ∷ [])) f
   cut bits a wide small counted others = record {
     order = record {
-      tree = cut-tree o.tree o.sizes.enough q t j under hq sj 0 (flag_zero 0) f bits hf others;
+      tree = cut_tree o.tree o.sizes.enough q t j under hq sj 0 (flag_zero 0) f bits hf others;
       sizes = record { few = o.sizes.few; enough = rw length-set o.sizes.enough; low = o.sizes.low };
       wide = wide;
       small = small;
@@ -124,7 +124,7 @@ module _ {m : Memory} {root n : ℕ} (o : Ordered m root n) (q : List ℕ) (j t 
     start = refl;
     total = refl;
     was = hf;
-    gone = cut-here o.tree o.sizes.enough q t j under hq sj 0 (flag_zero 0) [];
+    gone = cut_here o.tree o.sizes.enough q t j under hq sj 0 (flag_zero 0) [];
     rest = λ p lp d. other_reach o.tree o.sizes.enough q t j under hq sj 0 p lp (off p lp d);
     leaves = λ p lp d. other_leaf o.tree o.sizes.enough q t j under hq sj 0 p (omega arith) (off p (omega arith) d);
     marks = λ g ins d. others (g - start_frame m) (λ e.

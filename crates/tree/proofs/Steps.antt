@@ -20,7 +20,7 @@ use Rattle.paging.specs.Map.{Memory, memory, start_frame, total_of, zero_frame}
 use Rattle.paging.proofs.Map.{length_clear}
 use Rattle.tree.proofs.Paths.{Leads}
 use Rattle.tree.proofs.Walks.{entry_absent}
-use Rattle.tree.proofs.Tree.{idle_reach, idle_leaf, stored, keeps, reached, grown-at, grown-tree, grown-leaf}
+use Rattle.tree.proofs.Tree.{idle_reach, idle_leaf, stored, keeps, reached, grown_at, grown_tree, grown_leaf}
 use Rattle.tree.proofs.Plain.{idle_plain, grown_plain}
 use Rattle.tree.proofs.Words.{zero_other, zero_blank}
 use Rattle.tree.proofs.Ordered.{reach_in, leaf_in, inside_in, mark_in, Ordered, free_unreached, in_bitmap}
@@ -123,13 +123,13 @@ module _ {m : Memory} {root n : ℕ} (o : Ordered m root n) (q : List ℕ) (s j 
   none = entry_absent m.words (start_frame m) (total_of m) s j (o.tree.into q s (omega arith) hq) small absent
 
   pub write_at : reach_in (written m s j e) root (q ++ (j ∷ [])) ≡ Value f
-  write_at = grown-at o.tree o.sizes.enough q s j lq hq small e f c.bit c.names c.new c.blank
+  write_at = grown_at o.tree o.sizes.enough q s j lq hq small e f c.bit c.names c.new c.blank
 
   -- f is reached, along that path, and nothing else is new
   pub write_grew : (w : List ℕ) → Leads (q ++ (j ∷ [])) w → Grew m (written m s j e) root n w (λ x. x ≡ f) None
   write_grew w l = record {
     order = record {
-      tree = grown-tree o.tree o.sizes.enough q s j lq hq small e f c.bit c.names c.new c.blank c.lent c.mine;
+      tree = grown_tree o.tree o.sizes.enough q s j lq hq small e f c.bit c.names c.new c.blank c.lent c.mine;
       sizes = record { few = o.sizes.few; enough = rw length-set o.sizes.enough; low = o.sizes.low };
       wide = o.wide;
       small = o.small;
@@ -150,4 +150,4 @@ module _ {m : Memory} {root n : ℕ} (o : Ordered m root n) (q : List ℕ) (s j 
   -- a new table changes no leaf
   pub write_leaf : suc (length q) < n → (p : List ℕ) → length p ≡ n → leaf_in (written m s j e) root p ≡ leaf_in m root p
   write_leaf lt =
-      grown-leaf o.tree o.sizes.enough q s j lq hq small e f c.bit c.names c.new c.blank none (c.low lt) lt
+      grown_leaf o.tree o.sizes.enough q s j lq hq small e f c.bit c.names c.new c.blank none (c.low lt) lt

@@ -120,9 +120,9 @@ module _ {ws bits : List ℕ} {start total root n : ℕ} (w : Tree ws bits start
     blank-still : suc (length q) < n → (i : ℕ) → entry_at (stored ws start s j e) start total f i ≡ Stop not_mapped
     blank-still l i = entry_kept f i (λ d _. new q (omega arith) (hq ∙ ap Value (sym d))) ∙ blank l i
 
-    pub grown-at : reach (stored ws start s j e) start total root (q ++ (j ∷ [])) ≡ Value f
+    pub grown_at : reach (stored ws start s j e) start total root (q ++ (j ∷ [])) ≡ Value f
     unfolding reach
-    grown-at = reach_append (stored ws start s j e) start total q (j ∷ []) root ∙ rw (way_kept, entry-put, to)
+    grown_at = reach_append (stored ws start s j e) start total q (j ∷ []) root ∙ rw (way_kept, entry-put, to)
 
     -- what is reached now: f, along the new path, and what was reached before
     pub reached : (p : List ℕ) (x : ℕ) → length p ≤ n → reach (stored ws start s j e) start total root p ≡ Value x
@@ -143,8 +143,8 @@ module _ {ws bits : List ℕ} {start total root n : ℕ} (w : Tree ws bits start
             absurd (nowhere (sym (reach_stuck (stored ws start s j e) start total [] f f i r not_mapped refl b) ∙ here (i ∷ r) t))
 
     -- the tree once f is grown and marked
-    pub grown-tree : inside start total f ≡ true → marked bits (f - start) ≡ 1 → Tree (stored ws start s j e) bits start total root n
-    grown-tree ins mine = record {
+    pub grown_tree : inside start total f ≡ true → marked bits (f - start) ≡ 1 → Tree (stored ws start s j e) bits start total root n
+    grown_tree ins mine = record {
       once = λ p p' x lp lp' h h'. ⊎_elim
           (λ a. ⊎_elim (λ b. cc (a.0, b.0)) (λ b. absurd (new p' lp' (b ∙ ap Value a.1))) (reached p' x lp' h'))
           (λ a. ⊎_elim (λ b. absurd (new p lp (a ∙ ap Value b.1))) (λ b. w.once p p' x lp lp' a b) (reached p' x lp' h'))
@@ -154,10 +154,10 @@ module _ {ws bits : List ℕ} {start total root n : ℕ} (w : Tree ws bits start
     }
 
     -- a new table changes no leaf
-    pub grown-leaf : entry_at ws start total s j ≡ Stop not_mapped → flag 7 e ≡ false → suc (length q) < n → (p : List ℕ) → length p ≡ n
+    pub grown_leaf : entry_at ws start total s j ≡ Stop not_mapped → flag 7 e ≡ false → suc (length q) < n → (p : List ℕ) → length p ≡ n
         → leaf (stored ws start s j e) start total root p ≡ leaf ws start total root p
     unfolding leaf
-    grown-leaf none plain lt p lp = ⊎_elim (λ t. at t.0 t.1) (λ off. other_leaf p (omega arith) off) (through q j p)
+    grown_leaf none plain lt p lp = ⊎_elim (λ t. at t.0 t.1) (λ off. other_leaf p (omega arith) off) (through q j p)
       where
         skip : (i : ℕ) (r : List ℕ) → judge (i ∷ r) e (NoLeaf not_mapped) ≡ NoLeaf not_mapped
         skip i [] = rw plain
@@ -175,24 +175,24 @@ module _ {ws bits : List ℕ} {start total root n : ℕ} (w : Tree ws bits start
   -- ---- the entry leads nowhere now
 
   module _ (off : flag 0 e ≡ false) where
-    pub cut-here : (r : List ℕ) → reach (stored ws start s j e) start total root (q ++ (j ∷ r)) ≡ Stop not_mapped
-    cut-here r = reach_stuck (stored ws start s j e) start total q root s j r not_mapped way_kept (entry_now ∙ present_no e off)
+    pub cut_here : (r : List ℕ) → reach (stored ws start s j e) start total root (q ++ (j ∷ r)) ≡ Stop not_mapped
+    cut_here r = reach_stuck (stored ws start s j e) start total q root s j r not_mapped way_kept (entry_now ∙ present_no e off)
 
     -- what is reached now was reached before, and not through the entry
-    pub cut-reached : (p : List ℕ) (x : ℕ) → length p ≤ n → reach (stored ws start s j e) start total root p ≡ Value x
+    pub cut_reached : (p : List ℕ) (x : ℕ) → length p ≤ n → reach (stored ws start s j e) start total root p ≡ Value x
         → (reach ws start total root p ≡ Value x) × ((r : List ℕ) → p ≡ q ++ (j ∷ r) → ⊥)
-    cut-reached p x lp h =
-        ⊎_elim (λ c. absurd (nowhere (sym (cut-here c.0) ∙ ap (reach (stored ws start s j e) start total root) (sym c.1) ∙ h)))
+    cut_reached p x lp h =
+        ⊎_elim (λ c. absurd (nowhere (sym (cut_here c.0) ∙ ap (reach (stored ws start s j e) start total root) (sym c.1) ∙ h)))
         (λ o. (sym (other_reach p lp o) ∙ h, o)) (through q j p)
 
     -- the tree without what the entry led to, also once the frame f that it named is free
-    pub cut-tree : (f : ℕ) (bits' : List ℕ) → reach ws start total root (q ++ (j ∷ [])) ≡ Value f → ((k : ℕ) → (k ≡ f - start → ⊥) → marked bits' k ≡ marked bits k)
+    pub cut_tree : (f : ℕ) (bits' : List ℕ) → reach ws start total root (q ++ (j ∷ [])) ≡ Value f → ((k : ℕ) → (k ≡ f - start → ⊥) → marked bits' k ≡ marked bits k)
         → Tree (stored ws start s j e) bits' start total root n
-    cut-tree f bits' hf others = record {
-      once = λ p p' x lp lp' h h'. w.once p p' x lp lp' (cut-reached p x lp h).0 (cut-reached p' x lp' h').0;
-      into = λ p x lp h. w.into p x lp (cut-reached p x lp h).0;
+    cut_tree f bits' hf others = record {
+      once = λ p p' x lp lp' h h'. w.once p p' x lp lp' (cut_reached p x lp h).0 (cut_reached p' x lp' h').0;
+      into = λ p x lp h. w.into p x lp (cut_reached p x lp h).0;
       kept = λ p x lp h.
-          let o = cut-reached p x lp h in
+          let o = cut_reached p x lp h in
           others (x - start) (λ d. o.1 [] (w.once p (q ++ (j ∷ [])) x lp lf o.0 (hf ∙ ap Value (same p x lp o.0 d)))) ∙ w.kept p x lp o.0;
     }
       where

@@ -17,7 +17,7 @@ use Rattle.packed.specs.Records.{records, packed}
 use Rattle.packed.proofs.Records.{length_packed, length_records}
 use Rattle.packed.proofs.Words.{length_bytes, pack_unpack}
 use Rattle.packed.proofs.Stores.{further, record_at, sets_head, slot_set, triple, length_triple, three_stored}
-use Rattle.packed.proofs.RoundTrip.{Bytes, number_small, next_word, number_kept, behind_two, first_kept, second_kept, slots-back, slots_kept, bytes_behind}
+use Rattle.packed.proofs.RoundTrip.{Bytes, number_small, next_word, number_kept, behind_two, first_kept, second_kept, slots_back, slots_kept, bytes_behind}
 use Rattle.slots.specs.Slots.{Slots, slotted}
 use Rattle.slots.proofs.Filled.{zero_at}
 use Rattle.regions.specs.declared.VMRegion.{VMRegion}
@@ -61,7 +61,7 @@ pub vm_back : (bs : List ℕ) → vm_fit bs ≡ true → Bytes bs → vm_out (vm
 vm_back bs fit b =
     let h = both_true _ _ fit in
     ap (λ (l : List ℕ). bytes 8 (number 8 bs) ++ l)
-    (slots-back vm_region_in vm_region_out (λ (n : ℕ) (l : List ℕ). used_is_flag n l ≡ true) (λ n l k. used n l k) (λ n l k. (flags_apart n l k).1) 256 (drop 8 bs) h.1)
+    (slots_back vm_region_in vm_region_out (λ (n : ℕ) (l : List ℕ). used_is_flag n l ≡ true) (λ n l k. used n l k) (λ n l k. (flags_apart n l k).1) 256 (drop 8 bs) h.1)
     ∙ next_word 768 bs ∙ pack_unpack vm_words bs (eqb-true _ vm_size h.0) b
   where
     used : (n : ℕ) (l : List ℕ) → used_is_flag (suc n) l ≡ true → vm_region_out (vm_region_in l) ≡ triple (number 8 l) (number 8 (drop 8 l)) (number 8 (drop 16 l))

@@ -87,8 +87,8 @@ module _ (up : ℕ) (k : Kernel) (root : ℕ) where
     run : kernel_placed up k root n (first_fit n (listed k.regions)) ≡ kernel_mapped a n k.regions w m
     run = ap (kernel_placed up k root n) f ∙ ap (λ (r : Ran). kernel_mapped a n k.regions r.walked r.mem) (sym e)
 
-    pub placed-met : (x : ℕ) → w ≡ Value x → kernel_placed up k root n (first_fit n (listed k.regions)) ≡ kernel_did (Value a) (kernel m (taken_slots true n k.regions))
-    placed-met x g = run ∙ ap (λ (v : Outcome). kernel_mapped a n k.regions v m) g
+    pub placed_met : (x : ℕ) → w ≡ Value x → kernel_placed up k root n (first_fit n (listed k.regions)) ≡ kernel_did (Value a) (kernel m (taken_slots true n k.regions))
+    placed_met x g = run ∙ ap (λ (v : Outcome). kernel_mapped a n k.regions v m) g
 
     pub placed_stop : (x : ℕ) → w ≡ Stop x → kernel_placed up k root n (first_fit n (listed k.regions)) ≡ kernel_did (Stop x) (kernel m (taken_slots false n k.regions))
     placed_stop x g = run ∙ ap (λ (v : Outcome). kernel_mapped a n k.regions v m) g

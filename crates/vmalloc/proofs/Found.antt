@@ -16,7 +16,7 @@ use Rattle.regions.specs.Regions.{no_vm_region, sound_regions, fits, first_fit, 
 use Rattle.regions.specs.List.{used_at, freed_at}
 use Rattle.vm_list.specs.Packed.{vm_size, vm_in, vm_fit}
 use Rattle.regions.proofs.Placed.{Placed, placed_at, sound_few, sound_placed}
-use Rattle.regions.proofs.Firsts.{first_below, fit-none-of, fit_of, used-none-of, used-of, free_of}
+use Rattle.regions.proofs.Firsts.{first_below, fit_none_of, fit_of, used_none_of, used_of, free_of}
 use Rattle.vm_list.proofs.RoundTrip.{fit_long, slots_long}
 use Rattle.vmalloc.specs.Calls.{kernel, sound_kernel}
 use Rattle.vmalloc.specs.Packed.{sound_lent}
@@ -56,8 +56,8 @@ module _ (m : Memory) (bs : List ℕ) (root : ℕ) (h : sound_lent m bs root ≡
       pub in_list : i ≡ first_at test (listed s)
       in_list = f ∙ ap (λ (k : ℕ). first_at test (take k s.slots)) c
 
-      pub in-range : (i ≡ n → ⊥) → i < n
-      in-range d = subst (λ (k : ℕ). i < k) (sym c) (first_below s enough test i in_list (λ z. d (z ∙ sym c)))
+      pub in_range_lem : (i ≡ n → ⊥) → i < n
+      in_range_lem d = subst (λ (k : ℕ). i < k) (sym c) (first_below s enough test i in_list (λ z. d (z ∙ sym c)))
 
     module _ (i : ℕ) (small : i < n) (r : VMRegion) (e : r ≡ get_or s.slots i no_vm_region) where
       inside : i < s.count
@@ -71,14 +71,14 @@ module _ (m : Memory) (bs : List ℕ) (root : ℕ) (h : sound_lent m bs root ≡
         found = subst (λ (x : VMRegion). (first_fit size (listed s) ≡ Value x.start) × (size ≤ x.size)) (sym e) (fit_of s enough size i (in_list (fits size) i f) inside)
 
       module _ (a : ℕ) (f : i ≡ first_at (used_at a) (take n s.slots)) where
-        pub found-used : (used_size a (listed s) ≡ Value r.size) × (r.start ≡ a)
-        found-used = subst (λ (x : VMRegion). (used_size a (listed s) ≡ Value x.size) × (x.start ≡ a)) (sym e) (used-of s enough a i (in_list (used_at a) i f) inside)
+        pub found_used : (used_size a (listed s) ≡ Value r.size) × (r.start ≡ a)
+        found_used = subst (λ (x : VMRegion). (used_size a (listed s) ≡ Value x.size) × (x.start ≡ a)) (sym e) (used_of s enough a i (in_list (used_at a) i f) inside)
 
-        pub found-freed : free_first a (listed s) ≡ freed_at i (listed s)
-        found-freed = free_of s enough a i (in_list (used_at a) i f) inside
+        pub found_freed : free_first a (listed s) ≡ freed_at i (listed s)
+        found_freed = free_of s enough a i (in_list (used_at a) i f) inside
 
-    pub none-fits : (i size : ℕ) → i ≡ first_at (fits size) (take n s.slots) → i ≡ n → first_fit size (listed s) ≡ Stop no_region
-    none-fits i size f z = fit-none-of s enough size i (in_list (fits size) i f) (z ∙ c)
+    pub none_fits : (i size : ℕ) → i ≡ first_at (fits size) (take n s.slots) → i ≡ n → first_fit size (listed s) ≡ Stop no_region
+    none_fits i size f z = fit_none_of s enough size i (in_list (fits size) i f) (z ∙ c)
 
-    pub none-used : (i a : ℕ) → i ≡ first_at (used_at a) (take n s.slots) → i ≡ n → used_size a (listed s) ≡ Stop region_not_found
-    none-used i a f z = used-none-of s enough a i (in_list (used_at a) i f) (z ∙ c)
+    pub none_used : (i a : ℕ) → i ≡ first_at (used_at a) (take n s.slots) → i ≡ n → used_size a (listed s) ≡ Stop region_not_found
+    none_used i a f z = used_none_of s enough a i (in_list (used_at a) i f) (z ∙ c)

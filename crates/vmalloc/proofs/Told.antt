@@ -62,10 +62,10 @@ module _ (m : Memory) (list : List ℕ) (root a : ℕ) where
       by false e = rw e
 
   module _ (h : sound_lent m list root ≡ true) where
-    pub tally-null : a ≡ 0 → vfree_found_on m list root a ≡ none_found
+    pub tally_null : a ≡ 0 → vfree_found_on m list root a ≡ none_found
     unfolding vfree_found_on vfree_found
-    tally-null z = rw (lent_fit m list root h, lent_kernel m list root h, eq-eqb a 0 z)
+    tally_null z = rw (lent_fit m list root h, lent_kernel m list root h, eq-eqb a 0 z)
 
-    pub tally-is : (a ≡ 0 → ⊥) → vfree_found_on m list root a ≡ released_found_on m list root a
+    pub tally_is : (a ≡ 0 → ⊥) → vfree_found_on m list root a ≡ released_found_on m list root a
     unfolding vfree_found_on vfree_found
-    tally-is z = rw (lent_fit m list root h, lent_kernel m list root h, ne_eqb a 0 z)
+    tally_is z = rw (lent_fit m list root h, lent_kernel m list root h, ne_eqb a 0 z)

@@ -93,18 +93,18 @@ module _ {ws : List ℕ} {start total root v levels : ℕ} {out : List ℕ} {t l
       whole : rows_below ws start total root (indices levels v) ≡ more
       whole = sym u.rest ∙ ap (λ r. u.done ++ r) (ends_here (ap goes_on (sym verdict-here) ∙ g))
 
-      pub end-answer : by_verdict d (get_or ws p 0) ≡ end_of (rows_below ws start total root (indices levels v))
-      end-answer = ap (λ (r : Row). by_verdict r.verdict r.word) row_is ∙ sym (end_last u.done rowHere) ∙ ap end_of (sym whole)
+      pub end_answer : by_verdict d (get_or ws p 0) ≡ end_of (rows_below ws start total root (indices levels v))
+      end_answer = ap (λ (r : Row). by_verdict r.verdict r.word) row_is ∙ sym (end_last u.done rowHere) ∙ ap end_of (sym whole)
 
-      pub end-numbers : set o 0 (at + 1) ≡ shown_numbers (rows_below ws start total root (indices levels v))
-      end-numbers =
+      pub end_numbers : set o 0 (at + 1) ≡ shown_numbers (rows_below ws start total root (indices levels v))
+      end_numbers =
           ap (λ ns. set ns 0 (at + 1)) stands
           ∙ count_put more (at + 1) (length-append u.done (rowHere ∷ []) ∙ ap (λ n. n + 1) u.count)
           ∙ ap shown_numbers (sym whole)
 
     -- the walk goes on
-    pub written-more : goes_on d ≡ true → {f : ℕ} → f ≡ frame_of (get_or ws p 0) → Written ws start total root v levels o f (level - 1) (at + 1)
-    written-more g {f = f} h =
+    pub written_more : goes_on d ≡ true → {f : ℕ} → f ≡ frame_of (get_or ws p 0) → Written ws start total root v levels o f (level - 1) (at + 1)
+    written_more g {f = f} h =
         let on = ap goes_on (sym verdict-here) ∙ g in
         let n = followed start total (level - 1) wordHere on in
         let next : f ≡ frame_of wordHere = h ∙ ap frame_of word-is in
