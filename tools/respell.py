@@ -39,6 +39,8 @@ def defined():
             names.add(m[1])
         for m in re.finditer(rf"^  (?:pub )?({WORD}) :|^\s+pub ({WORD}) :", text, re.M):
             names.add(m[1] or m[2])
+        for m in re.finditer(rf"^  (?:pub )?((?:{WORD} )+{WORD}) : ", text, re.M):
+            names |= set(m[1].split()) - {"pub"}
         for m in re.finditer(rf"^(?:pub )?(?:record|data) ({WORD})", text, re.M):
             names.add(m[1])
     return names
