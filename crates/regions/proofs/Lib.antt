@@ -6,7 +6,3 @@ pub mod Placed
 pub mod Firsts
 pub mod Stored
 pub mod Merging
-mod Slot
-mod Bridge
-mod Lends
-mod Lending

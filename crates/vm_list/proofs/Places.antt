@@ -10,7 +10,7 @@ use lib.Dec.{eqb, leb}
 use lib.ListN.{length, get_or, take, drop, drop_of_length-le}
 use lib.Bits.{bit_or, or_add_and, and_le_r, or_zero_l}
 use lib.Seq.{drop-drop, drop-cons}
-use borrow.Author.Tests.{eq-eqb, ne_eqb, eqb-true, eqb-false, lt-leb, le-leb, not-true, not-false}
+use borrow.Author.Tests.{eq-eqb, ne_eqb, eqb-true, eqb-false, lt-leb, le-leb}
 use Rattle.bits.specs.Bit.{both}
 use Rattle.packed.specs.Words.{number, unpack}
 use Rattle.packed.specs.Records.{records}
@@ -184,8 +184,8 @@ module _ (bs : List ℕ) (long : length bs ≡ vm_size) (few : number 8 bs ≤ 2
       ∙ ap (λ (k : ℕ). both (both (used_is_flag k (drop 8 bs)) (every well_placed_vm (take k (vm_in bs).slots))) (every is_zero (drop (k * 3 + 1) (unpack vm_words bs)))) e
       ∙ whole_test bs long few
 
-  pub live_broken : not t ≡ true → false ≡ both (vm_fit bs) (sound_regions (vm_in bs))
-  live_broken h = ap (λ (x : Bool). both x rest) (sym (not-true t h)) ∙ all
+  pub live_broken : t ≡ false → false ≡ both (vm_fit bs) (sound_regions (vm_in bs))
+  live_broken h = ap (λ (x : Bool). both x rest) (sym h) ∙ all
 
-  pub live_right : not t ≡ false → {r : Bool} → r ≡ rest → r ≡ both (vm_fit bs) (sound_regions (vm_in bs))
-  live_right h r = r ∙ ap (λ (x : Bool). both x rest) (sym (not-false t h)) ∙ all
+  pub live_right : t ≡ true → {r : Bool} → r ≡ rest → r ≡ both (vm_fit bs) (sound_regions (vm_in bs))
+  live_right h r = r ∙ ap (λ (x : Bool). both x rest) (sym h) ∙ all
