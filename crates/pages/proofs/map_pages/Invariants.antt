@@ -1,14 +1,7 @@
-use Rattle.std.proofs.Common.{ℕ, ◌≡◌, ◌+◌, ◌*◌, ◌-◌, ◌/◌, ◌%◌, ◌^◌, ◌<◌, ◌≤◌, Bool, true, false, List, [], ◌∷◌, ◌++◌, length, take, drop, get_or, set}
-use mathlib.Core.Path.{refl, sym, ◌∙◌}
-use native.Mathlib.Numerals.{unary_clauses}
-use native.Mathlib.Omega.{arith}
+use Rattle.std.proofs.Common.{◌≡◌, ◌+◌, ◌*◌, ◌-◌, ◌≤◌, length}
 use Rattle.paging.specs.Kept.{lent_memory}
 use Rattle.paging.specs.Map.{RoomToTake}
-use Rattle.answer.specs.declared.Outcome.TheVariants.{Value}
-use Rattle.paging.specs.Pages.{ran, map_pages}
-use Rattle.paging.proofs.Map.{roomy_less}
-use Rattle.bits.proofs.Counter.{onward, fewer, next_fits}
-use Rattle.pages.proofs.Laws.{turn_left, turn_on, turn_stop, run_end}
+use Rattle.paging.specs.Pages.{map_pages}
 use Rattle.pages.proofs.map_pages.Given as goal
 
 abbrev pub invariant-loop-i : goal.invariant-loop-i
