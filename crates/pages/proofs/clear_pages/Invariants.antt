@@ -1,11 +1,6 @@
-use Rattle.std.proofs.Common.{ℕ, ◌≡◌, ◌+◌, ◌*◌, ◌-◌, ◌/◌, ◌%◌, ◌^◌, ◌<◌, ◌≤◌, Bool, true, false, List, [], ◌∷◌, ◌++◌, length, take, drop, get_or, set}
-use mathlib.Core.Path.{refl, sym, ◌∙◌}
-use native.Mathlib.Numerals.{unary_clauses}
+use Rattle.std.proofs.Common.{ℕ, ◌≡◌, ◌+◌, ◌*◌, ◌-◌, ◌≤◌, List, length}
 use Rattle.paging.specs.Kept.{lent_memory}
 use Rattle.paging.specs.Pages.{clear_pages}
-use Rattle.bits.proofs.Counter.{onward, fewer, next_fits}
-use Rattle.paging.proofs.Walk.{lent_still}
-use Rattle.pages.proofs.Laws.{clear_on, clear_end}
 use Rattle.pages.proofs.clear_pages.Given as goal
 
 abbrev pub invariant-loop-i : goal.invariant-loop-i
