@@ -7,7 +7,7 @@ use native.Mathlib.Omega.{arith}
 use lib.Dec.{ltb}
 use lib.ListN.{length}
 use borrow.Author.Tests.{lt-ltb, le-ltb, ltb-true}
-use Rattle.bits.specs.Bit.{pick, one}
+use Rattle.bits.specs.Bit.{pick}
 use Rattle.bits.proofs.Choice.{pick_cases}
 use Rattle.answer.specs.Numbers.{no_region}
 use Rattle.answer.specs.declared.Outcome.{Outcome}
