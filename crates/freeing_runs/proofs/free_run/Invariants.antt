@@ -1,0 +1,17 @@
+use Rattle.std.proofs.Common.{◌≡◌, ◌+◌, ◌*◌, ◌-◌, ◌≤◌, length}
+use Rattle.bitmap.specs.Bitmap.{marks_in}
+use Rattle.paging.specs.Kept.{lent_memory}
+use Rattle.paging.specs.Map.{RoomToTake}
+use Rattle.paging.specs.Pages.{free_pages}
+use Rattle.paging.specs.Found.{Tells}
+use Rattle.freeing_runs.specs.Freeing.{Blank}
+use Rattle.freeing_runs.proofs.free_run.Given as goal
+
+abbrev pub invariant-loop-done : goal.invariant-loop-done
+invariant-loop-done l = (l.done ≤ l.n) × (length l.words ≡ length l.initial.words) × RoomToTake (lent_memory l.words l.bitmap l.left) 0 × Blank l.words (marks_in l.empty)
+    × (free_pages l.up (lent_memory l.initial.words l.initial.bitmap l.initial.left) l.root.0 l.virt.0 l.n
+    ≡ free_pages l.up (lent_memory l.words l.bitmap l.left) l.root.0 (l.virt.0 + l.done * 4096) (l.n - l.done))
+    × Tells (lent_memory l.initial.words l.initial.bitmap l.initial.left) (lent_memory l.words l.bitmap l.left) l.found
+
+abbrev pub decreases-loop-done : goal.decreases-loop-done
+decreases-loop-done l = l.n - l.done
