@@ -1,19 +1,11 @@
-use Rattle.std.proofs.Common.{rules, ◌≡◌, true, List, ◌⊎◌, length, ℕ, ◌+◌, ◌-◌, ◌*◌, ◌%◌, ◌^◌, ◌<◌, ◌≤◌, ◌/◌, Bool, false, nat_eq, nat_lt, [], ◌∷◌, ◌++◌, slice_index_or, slice_set, bit_and, bit_or, Fits, w8, w32, w64, Bor, MutBor, ℤ, pos, ◌+ℤ◌, ◌-ℤ◌, ◌*ℤ◌, ◌≤ℤ◌, ◌<ℤ◌, FitsSigned, to_z, of_z}
-use Rattle.slots.specs.Slots.{listed}
-use Rattle.allocator.specs.Round.{last_page}
+use Rattle.std.proofs.Common.{◌≡◌, true, ℕ, ◌-◌, false, w32, to_z, of_z}
 use Rattle.address.specs.Address.{as_virt}
-use Rattle.paging.specs.Levels.{most_above}
-use Rattle.paging.specs.Walk.{WordsLent}
-use Rattle.paging.specs.Kept.{lent_memory, Kept}
-use Rattle.paging.specs.Map.{Memory}
-use Rattle.mappings.specs.Regions.{starts}
-use Rattle.mappings.specs.Packed.{mmap_in, next_in, mmap_fit, sound_list}
-use Rattle.free_range.specs.Search.{find_free}
-use Rattle.user_space.specs.User.{sound_user, User}
-use Rattle.user_space.specs.Packed.{user_in, lent_user, UserLeaves}
-use Rattle.mmap.specs.Calls.{fixed_at, hinted_at, chosen, full, leftover, map_region, chosen_region}
-use Rattle.mmap.specs.Packed.{mmapped}
-use mathlib.Core.Path.{refl, sym, ◌∙◌, ap, subst}
+use Rattle.paging.specs.Kept.{Kept}
+use Rattle.mappings.specs.Packed.{sound_list}
+use Rattle.user_space.specs.User.{User}
+use Rattle.user_space.specs.Packed.{lent_user, UserLeaves}
+use Rattle.mmap.specs.Calls.{chosen, full, map_region, chosen_region}
+use mathlib.Core.Path.{sym, ◌∙◌, ap, subst}
 use mir.Facts.{to_z-of_z}
 use Rattle.address.specs.declared.VirtAnswer.{VirtAnswer}
 use Rattle.answer.specs.declared.Outcome.TheVariants.{Value}
@@ -48,8 +40,7 @@ returns-in-Stop c =
 
 pub returns-else-is_full : goal.returns-else-is_full
 returns-else-is_full c =
-    let lent : User = lent_user c.args.words.now c.args.bitmap.now c.args.frames c.args.list.now in let came : chosen (lent) c.args.hint c.args.n c.args.flags ≡ c.choose.result = ap (chosen (lent) c.args.hint c.args.n) (sym (to_z-of_z c.ranges.flags)) ∙ sym (c.choose.ensures (lent).mem) in let placed : (a : ℕ) {k : Kept VirtAnswer} → chosen (lent) c.args.hint c.args.n c.args.flags ≡ Value a → full (lent) a ≡ false → UserLeaves as_virt k (map_region (c.args.frames.levels - 1) (lent) c.args.root.0 a c.args.n (to_z w32 (of_z w32 c.args.prot)) (to_z w32 (of_z w32 c.args.flags))) → UserLeaves as_virt k (chosen_region (c.args.frames.levels - 1) (lent) c.args.root.0 c.args.hint c.args.n c.args.prot c.args.flags) = λ a {k. k} h f t =
-    subst (UserLeaves as_virt k)
+    let lent : User = lent_user c.args.words.now c.args.bitmap.now c.args.frames c.args.list.now in let came : chosen (lent) c.args.hint c.args.n c.args.flags ≡ c.choose.result = ap (chosen (lent) c.args.hint c.args.n) (sym (to_z-of_z c.ranges.flags)) ∙ sym (c.choose.ensures (lent).mem) in let placed : (a : ℕ) (k : Kept VirtAnswer) → chosen (lent) c.args.hint c.args.n c.args.flags ≡ Value a → full (lent) a ≡ false → UserLeaves as_virt k (map_region (c.args.frames.levels - 1) (lent) c.args.root.0 a c.args.n (to_z w32 (of_z w32 c.args.prot)) (to_z w32 (of_z w32 c.args.flags))) → UserLeaves as_virt k (chosen_region (c.args.frames.levels - 1) (lent) c.args.root.0 c.args.hint c.args.n c.args.prot c.args.flags) = λ a k h f t. subst (UserLeaves as_virt k)
     (sym (placed_room (c.args.frames.levels - 1) (lent) c.args.root.0 c.args.hint c.args.n c.args.prot c.args.flags a h f
     ∙ region_same (c.args.frames.levels - 1) (lent) c.args.root.0 a c.args.n (sym (to_z-of_z c.ranges.prot)) (sym (to_z-of_z c.ranges.flags)))) t in
-    placed c.in-Value.a (came ∙ c.in-Value.is) (sym (c.is_full.ensures (lent).mem) ∙ c.if-is_full.false) c.map_region.ensures
+    placed c.in-Value.a _ (came ∙ c.in-Value.is) (sym (c.is_full.ensures (lent).mem) ∙ c.if-is_full.false) c.map_region.ensures

@@ -1,18 +1,14 @@
-use Rattle.std.proofs.Common.{rules, ◌≡◌, true, List, ◌⊎◌, length, ℕ, ◌+◌, ◌-◌, ◌*◌, ◌%◌, ◌^◌, ◌<◌, ◌≤◌, ◌/◌, Bool, false, nat_eq, nat_lt, [], ◌∷◌, ◌++◌, slice_index_or, slice_set, bit_and, bit_or, Fits, w8, w32, w64, Bor, MutBor, ℤ, pos, ◌+ℤ◌, ◌-ℤ◌, ◌*ℤ◌, ◌≤ℤ◌, ◌<ℤ◌, FitsSigned, to_z, of_z}
+use Rattle.std.proofs.Common.{◌≡◌, true, List, ℕ, ◌+◌, ◌-◌, ◌*◌, ◌^◌, ◌<◌, ◌≤◌, ◌/◌, Bool, w32, to_z, of_z}
 use Rattle.slots.specs.Slots.{listed, store}
-use Rattle.allocator.specs.Round.{last_page}
 use Rattle.address.specs.Address.{as_virt}
-use Rattle.paging.specs.Levels.{most_above}
 use Rattle.paging.specs.Walk.{WordsLent}
 use Rattle.paging.specs.Kept.{lent_memory}
 use Rattle.paging.specs.Map.{Memory, start_frame, total_of, RoomToTake}
-use Rattle.mappings.specs.Regions.{starts, mapped_region, no_mapped_region, insert}
-use Rattle.mappings.specs.Packed.{mmap_in, next_in, mmap_fit, sound_list, MmapStands}
-use Rattle.free_range.specs.Search.{find_free}
-use Rattle.user_space.specs.User.{sound_user, User}
-use Rattle.user_space.specs.Packed.{user_in, lent_user, UserLeaves}
-use Rattle.mmap.specs.Calls.{fixed_at, hinted_at, chosen, full, leftover, map_region, chosen_region, user_pages}
-use Rattle.mmap.specs.Packed.{mmapped}
+use Rattle.mappings.specs.Regions.{mapped_region, no_mapped_region, insert}
+use Rattle.mappings.specs.Packed.{mmap_in, next_in, MmapStands}
+use Rattle.user_space.specs.User.{User}
+use Rattle.user_space.specs.Packed.{lent_user}
+use Rattle.mmap.specs.Calls.{user_pages}
 use mathlib.Core.Path.{sym, ◌∙◌, ap}
 use native.Mathlib.Omega.{arith}
 use mir.Facts.{to_z-of_z}
@@ -22,7 +18,7 @@ use Rattle.paging.proofs.Calls.{whole_up, whole_above, whole_roomy}
 use Rattle.user_space.specs.Flags.{writable}
 use Rattle.user_space.proofs.Leaving.{leaves}
 use Rattle.mmap.proofs.Steps.{no_mapping_left, ran_lent, ran_few, region_met, region_stop}
-use Rattle.user_space.proofs.Lent.{user_whole, list_sound}
+use Rattle.user_space.proofs.Lent.{user_whole}
 use Rattle.mmap.proofs.inner.map_region.Goals as goal
 
 pub overflow_sub-up : goal.overflow_sub-up
@@ -40,24 +36,24 @@ map_pages-run-requires-clause-up_le_most_above c =
 
 pub clear_after-requires-clause-words_lent : goal.clear_after-requires-clause-words_lent
 clear_after-requires-clause-words_lent c =
-    let lent : User = lent_user c.args.words.now c.args.bitmap.now c.args.frames c.args.list.now in let few : c.args.frames.levels - 1 ≤ 4 = whole_above (lent).mem c.args.root.0 (user_whole (lent) c.args.root.0 c.requires.root_value) in let roomy : RoomToTake (lent).mem (c.args.n / 4096 * 5) = whole_roomy (lent).mem c.args.root.0 (user_whole (lent) c.args.root.0 c.requires.root_value) (c.args.n / 4096 * 5) (omega (arith, c.requires.n_bound)) in let left-lent : (b : Bool) {w : Outcome} {k : ℕ} {m : Memory} → ran w k m ≡ map_pages (c.args.frames.levels - 1) b true (lent).mem c.args.root.0 c.args.virt.0 0 (c.args.n / 4096) → WordsLent m.words (start_frame m) (total_of m) × (c.args.virt.0 + k * 4096 < 2 ^ 64) = λ b h. (
+    let lent : User = lent_user c.args.words.now c.args.bitmap.now c.args.frames c.args.list.now in let few : c.args.frames.levels - 1 ≤ 4 = whole_above (lent).mem c.args.root.0 (user_whole (lent) c.args.root.0 c.requires.root_value) in let roomy : RoomToTake (lent).mem (c.args.n / 4096 * 5) = whole_roomy (lent).mem c.args.root.0 (user_whole (lent) c.args.root.0 c.requires.root_value) (c.args.n / 4096 * 5) (omega (arith, c.requires.n_bound)) in let left-lent : (b : Bool) (w : Outcome) (k : ℕ) (m : Memory) → ran w k m ≡ map_pages (c.args.frames.levels - 1) b true (lent).mem c.args.root.0 c.args.virt.0 0 (c.args.n / 4096) → WordsLent m.words (start_frame m) (total_of m) × (c.args.virt.0 + k * 4096 < 2 ^ 64) = λ b w k m h. (
   ran_lent (c.args.frames.levels - 1) b true (lent).mem c.args.root.0 c.args.virt.0 (c.args.n / 4096) h (few) (roomy),
   omega (arith, ran_few (c.args.frames.levels - 1) b true (lent).mem c.args.root.0 c.args.virt.0 (c.args.n / 4096) h, c.requires.n_value, c.requires.n_bound),
-) in let l = left-lent c.is_writable.result c.map_pages-run.ensures in l.0
+) in let l = left-lent c.is_writable.result _ _ _ c.map_pages-run.ensures in l.0
 
 pub clear_after-requires-clause-done_bound : goal.clear_after-requires-clause-done_bound
 clear_after-requires-clause-done_bound c =
-    let lent : User = lent_user c.args.words.now c.args.bitmap.now c.args.frames c.args.list.now in let few : c.args.frames.levels - 1 ≤ 4 = whole_above (lent).mem c.args.root.0 (user_whole (lent) c.args.root.0 c.requires.root_value) in let roomy : RoomToTake (lent).mem (c.args.n / 4096 * 5) = whole_roomy (lent).mem c.args.root.0 (user_whole (lent) c.args.root.0 c.requires.root_value) (c.args.n / 4096 * 5) (omega (arith, c.requires.n_bound)) in let left-lent : (b : Bool) {w : Outcome} {k : ℕ} {m : Memory} → ran w k m ≡ map_pages (c.args.frames.levels - 1) b true (lent).mem c.args.root.0 c.args.virt.0 0 (c.args.n / 4096) → WordsLent m.words (start_frame m) (total_of m) × (c.args.virt.0 + k * 4096 < 2 ^ 64) = λ b h. (
+    let lent : User = lent_user c.args.words.now c.args.bitmap.now c.args.frames c.args.list.now in let few : c.args.frames.levels - 1 ≤ 4 = whole_above (lent).mem c.args.root.0 (user_whole (lent) c.args.root.0 c.requires.root_value) in let roomy : RoomToTake (lent).mem (c.args.n / 4096 * 5) = whole_roomy (lent).mem c.args.root.0 (user_whole (lent) c.args.root.0 c.requires.root_value) (c.args.n / 4096 * 5) (omega (arith, c.requires.n_bound)) in let left-lent : (b : Bool) (w : Outcome) (k : ℕ) (m : Memory) → ran w k m ≡ map_pages (c.args.frames.levels - 1) b true (lent).mem c.args.root.0 c.args.virt.0 0 (c.args.n / 4096) → WordsLent m.words (start_frame m) (total_of m) × (c.args.virt.0 + k * 4096 < 2 ^ 64) = λ b w k m h. (
   ran_lent (c.args.frames.levels - 1) b true (lent).mem c.args.root.0 c.args.virt.0 (c.args.n / 4096) h (few) (roomy),
   omega (arith, ran_few (c.args.frames.levels - 1) b true (lent).mem c.args.root.0 c.args.virt.0 (c.args.n / 4096) h, c.requires.n_value, c.requires.n_bound),
-) in let l = left-lent c.is_writable.result c.map_pages-run.ensures in l.1
+) in let l = left-lent c.is_writable.result _ _ _ c.map_pages-run.ensures in l.1
 
 pub clear_after-requires-clause-up_le_most_above : goal.clear_after-requires-clause-up_le_most_above
 clear_after-requires-clause-up_le_most_above c =
-    let lent : User = lent_user c.args.words.now c.args.bitmap.now c.args.frames c.args.list.now in let few : c.args.frames.levels - 1 ≤ 4 = whole_above (lent).mem c.args.root.0 (user_whole (lent) c.args.root.0 c.requires.root_value) in let roomy : RoomToTake (lent).mem (c.args.n / 4096 * 5) = whole_roomy (lent).mem c.args.root.0 (user_whole (lent) c.args.root.0 c.requires.root_value) (c.args.n / 4096 * 5) (omega (arith, c.requires.n_bound)) in let left-lent : (b : Bool) {w : Outcome} {k : ℕ} {m : Memory} → ran w k m ≡ map_pages (c.args.frames.levels - 1) b true (lent).mem c.args.root.0 c.args.virt.0 0 (c.args.n / 4096) → WordsLent m.words (start_frame m) (total_of m) × (c.args.virt.0 + k * 4096 < 2 ^ 64) = λ b h. (
+    let lent : User = lent_user c.args.words.now c.args.bitmap.now c.args.frames c.args.list.now in let few : c.args.frames.levels - 1 ≤ 4 = whole_above (lent).mem c.args.root.0 (user_whole (lent) c.args.root.0 c.requires.root_value) in let roomy : RoomToTake (lent).mem (c.args.n / 4096 * 5) = whole_roomy (lent).mem c.args.root.0 (user_whole (lent) c.args.root.0 c.requires.root_value) (c.args.n / 4096 * 5) (omega (arith, c.requires.n_bound)) in let left-lent : (b : Bool) (w : Outcome) (k : ℕ) (m : Memory) → ran w k m ≡ map_pages (c.args.frames.levels - 1) b true (lent).mem c.args.root.0 c.args.virt.0 0 (c.args.n / 4096) → WordsLent m.words (start_frame m) (total_of m) × (c.args.virt.0 + k * 4096 < 2 ^ 64) = λ b w k m h. (
   ran_lent (c.args.frames.levels - 1) b true (lent).mem c.args.root.0 c.args.virt.0 (c.args.n / 4096) h (few) (roomy),
   omega (arith, ran_few (c.args.frames.levels - 1) b true (lent).mem c.args.root.0 c.args.virt.0 (c.args.n / 4096) h, c.requires.n_value, c.requires.n_bound),
-) in let l = left-lent c.is_writable.result c.map_pages-run.ensures in few
+) in let l = left-lent c.is_writable.result _ _ _ c.map_pages-run.ensures in few
 
 pub returns-in-Stop : goal.returns-in-Stop
 returns-in-Stop c =
