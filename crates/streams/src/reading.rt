@@ -1,41 +1,38 @@
 // The tape's bytes: those that are read and not taken yet stand in a buffer.
 ghost use Rattle.std.specs.Prelude.{◌≡◌, ◌+◌, ◌-◌, ◌≤◌, ◌<◌, length, take, drop};
 ghost use Rattle.tape.specs.Tape.{next};
-ghost use Rattle.streams.specs.Streams.{Refilled, Brought, got_of, readable};
+ghost use Rattle.streams.specs.Streams.{Refilled, Brought, got_of, answer_of, bytes_of, readable};
 
 use crate::{Got, Input, Source};
-use libc::STDIN_FILENO;
+use std::io;
+use std::io::Read;
 use tape::Next;
 
 // A call of the tape has at most so many bytes.
 const LONGEST: usize = 26;
 
-// What a read that answered `answer` brought, n bytes.
-fn got_of(answer: isize, n: usize) -> Got
-    ensures { result ≡ got_of answer n }
+// What a read that gave this answer brought.
+fn got_of(answer: io::Result<usize>) -> Got
+    ensures { result ≡ got_of (answer_of answer) (bytes_of answer) }
 {
-    if answer < 0 {
-        return Got::Failure;
+    match answer {
+        Err(_) => Got::Failure,
+        Ok(0) => Got::Nothing,
+        Ok(n) => Got::Bytes(n),
     }
-    if n == 0 {
-        return Got::Nothing;
-    }
-    Got::Bytes(n)
 }
 
 // One read, behind the first n bytes.
-fn read_behind(buf: &mut [u8], n: usize) -> Got
+fn read_behind<R: Read>(reader: &mut R, buf: &mut [u8], n: usize) -> Got
     requires { n ≤ length buf.old }
     ensures buf_unchanged { take n buf.new ≡ take n buf.old }
     ensures brought { Brought (length buf.old - n) result }
 {
-    let got = libc::read(STDIN_FILENO, &mut buf[n..]);
-    let k = io::count(got, &buf[n..]);
-    got_of(got, k)
+    got_of(reader.read(&mut buf[n..]))
 }
 
 // Reads behind the first n bytes until a whole call is there in any case, the tape ends or a read fails.
-fn fill(buf: &mut [u8], n: usize, offset: u64) -> Input
+fn fill<R: Read>(reader: &mut R, buf: &mut [u8], n: usize, offset: u64) -> Input
     requires n_bound { n ≤ 26 }
     requires in_bounds { 26 ≤ length buf.old }
     ensures buf_unchanged { take n buf.new ≡ take n buf.old }
@@ -47,7 +44,7 @@ fn fill(buf: &mut [u8], n: usize, offset: u64) -> Input
 {
     let mut filled = n;
     while filled < LONGEST {
-        match read_behind(buf, filled) {
+        match read_behind(reader, buf, filled) {
             Got::Bytes(k) => filled += k,
             Got::Nothing => return Input {
                 at: 0,
@@ -82,7 +79,7 @@ fn move_down(buf: &mut [u8], at: usize, n: usize)
 }
 
 // A whole call, or all that is left of the tape, stands in the buffer.
-pub fn refill(buf: &mut [u8], input: Input) -> Input
+pub fn refill<R: Read>(reader: &mut R, buf: &mut [u8], input: Input) -> Input
     requires at_le_filled { input.at ≤ input.filled }
     requires filled_in_bounds { input.filled ≤ length buf.old }
     requires in_bounds { 26 ≤ length buf.old }
@@ -97,7 +94,7 @@ pub fn refill(buf: &mut [u8], input: Input) -> Input
     match source {
         Source::Open => {
             move_down(buf, at, n);
-            fill(buf, n, input.offset)
+            fill(reader, buf, n, input.offset)
         }
         Source::Closed => input,
         Source::Failed => input,

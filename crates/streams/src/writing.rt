@@ -2,7 +2,7 @@
 ghost use Rattle.std.specs.Prelude.{◌≡◌, ◌+◌, ◌≤◌, length, take, true};
 ghost use Rattle.streams.specs.Streams.{kept_text, last_text, Begins};
 
-use libc::{STDERR_FILENO, STDOUT_FILENO};
+use std::io::Write;
 
 // The end of what is put and not written yet, and whether all that had to be written was.
 #[derive(Clone, Copy)]
@@ -11,15 +11,15 @@ pub struct Flushed {
     pub written: bool,
 }
 
-// The first n bytes of what is put, written.
-pub fn write_first(out: &[u8], n: usize) -> bool
+// The first n bytes of what is put, written; whether that could be done.
+pub fn write_first<W: Write>(writer: &mut W, out: &[u8], n: usize) -> bool
     requires { n ≤ length out.now }
 {
-    io::write_all(STDOUT_FILENO, &out[..n])
+    writer.write_all(&out[..n]).is_ok()
 }
 
 // What is put is written once there is no room for a line behind it.
-pub fn flush(out: &[u8], put: usize) -> Flushed
+pub fn flush<W: Write>(writer: &mut W, out: &[u8], put: usize) -> Flushed
     requires { put ≤ length out.now }
     ensures out_value { take result.put out.now ≡ kept_text (take put out.now) }
     ensures put_bound { result.put + 64 ≤ 65536 }
@@ -29,25 +29,30 @@ pub fn flush(out: &[u8], put: usize) -> Flushed
     }
     Flushed {
         put: 0,
-        written: write_first(out, put),
+        written: write_first(writer, out, put),
     }
 }
 
 // The last line behind all that is put, and all of it written; whether that could be done. What is handed to the last write then is the text that was still to be
 // written, and the line.
-pub fn write_last(out: &mut [u8; 65536], put: usize, allocated: u64) -> bool
+pub fn write_last<W: Write>(
+    writer: &mut W,
+    out: &mut [u8; 65536],
+    put: usize,
+    allocated: u64,
+) -> bool
     requires { put ≤ 65536 }
     ensures { result ≡ true → Begins (last_text (take put out.old) allocated) out.new }
 {
-    let flushed = flush(out, put);
+    let flushed = flush(writer, out, put);
     if !flushed.written {
         return false;
     }
     let end = tape::text::put_count(out, flushed.put, b"frames", allocated);
-    write_first(out, end)
+    write_first(writer, out, end)
 }
 
-// What stands in the way of a key.
-pub fn complain(text: &[u8]) {
-    io::write_all(STDERR_FILENO, text);
+// What stands in the way of a key. Where this cannot be written either, nothing is left to be told.
+pub fn complain<W: Write>(writer: &mut W, text: &[u8]) {
+    let _ = writer.write_all(text);
 }

@@ -1,0 +1,10 @@
+use Rattle.std.proofs.Common.{◌-◌, ◌≡◌, ◌≤◌, length, take}
+use Rattle.streams.proofs.reading.fill.Given as goal
+
+-- what stood in front is as it was
+abbrev pub invariant-loop-filled : goal.invariant-loop-filled
+invariant-loop-filled g l =
+    record { from_n : l.n ≤ l.filled; within : l.filled ≤ length l.buf; front : take l.n l.buf ≡ take l.n l.initial.buf }
+
+abbrev pub decreases-loop-filled : goal.decreases-loop-filled
+decreases-loop-filled g l = 26 - l.filled
