@@ -1,5 +1,5 @@
-// The key program's loop: a call tape from standard input, played on a fresh board, and its key on standard output. Where a read or a write fails,
-// a message goes to standard error and the last line is left out.
+// The key program's loop: a call tape from a reader, played on a fresh board, and its key to a writer. Where a read or a write fails, a message goes to a second
+// writer and the last line is left out.
 #![tactic(auto)]
 
 ghost use Rattle.std.specs.Prelude.{◌≡◌, true, ◌≤◌};
@@ -11,6 +11,7 @@ use address::Frame;
 use answer::Answer;
 use board::Records;
 use frame::{FrameAllocator, Marks};
+use std::io::{Read, Write};
 use streams::{Input, Source, reading, writing};
 use turn::{KernelBytes, MarkedBytes, Stage, State, UserBytes};
 
@@ -51,7 +52,9 @@ fn is_going(stage: Stage) -> bool
 }
 
 // One call further: with a whole call in the buffer if the tape has one, and room for its line.
-fn advance(
+fn advance<R: Read, W: Write>(
+    reader: &mut R,
+    writer: &mut W,
     words: &mut [u64; 8192],
     bitmap: &mut Marks,
     kernel: &mut KernelBytes,
@@ -76,8 +79,8 @@ fn advance(
     ensures put_bound_2 { result.put ≤ 65536 }
     ensures marked_after { lists_fit kernel.new user.new marked.new ≡ true }
 {
-    let input = reading::refill(buf, from.input);
-    let flushed = writing::flush(out, from.put);
+    let input = reading::refill(reader, buf, from.input);
+    let flushed = writing::flush(writer, out, from.put);
     let records = from.records;
     let source = input.source;
     let stage = stage_of(reading::is_readable(source), flushed.written, input.offset);
@@ -94,7 +97,9 @@ fn advance(
 }
 
 // Turn after turn until the tape ends or the run stops.
-fn run(
+fn run<R: Read, W: Write>(
+    reader: &mut R,
+    writer: &mut W,
     words: &mut [u64; 8192],
     bitmap: &mut Marks,
     kernel: &mut KernelBytes,
@@ -124,59 +129,75 @@ fn run(
     };
     let mut going = true;
     while going {
-        state = advance(words, bitmap, kernel, user, marked, buf, out, state);
+        state = advance(reader, writer, words, bitmap, kernel, user, marked, buf, out, state);
         let stage = state.stage;
         going = is_going(stage);
     }
     state
 }
 
-// The end of a run: the last line, or why there is none.
-fn finish(out: &mut [u8; 65536], put: usize, stage: Stage, allocated: u64)
+// The end of a run: the last line, or why there is none. Whether the whole key is written.
+fn finish<W: Write, M: Write>(
+    writer: &mut W,
+    messages: &mut M,
+    out: &mut [u8; 65536],
+    put: usize,
+    stage: Stage,
+    allocated: u64,
+) -> bool
     requires { put ≤ 65536 }
 {
     match stage {
         Stage::Ended => {
-            if !writing::write_last(out, put, allocated) {
-                writing::complain(b"key: the key could not be written whole\n");
+            if writing::write_last(writer, out, put, allocated) {
+                return true;
             }
+            writing::complain(messages, b"key: the key could not be written whole\n");
         }
-        Stage::Unwritten => writing::complain(b"key: the key could not be written whole\n"),
+        Stage::Unwritten => writing::complain(messages, b"key: the key could not be written whole\n"),
         Stage::Unread => {
-            writing::write_first(out, put);
-            writing::complain(b"key: the tape could not be read to its end\n");
+            writing::write_first(writer, out, put);
+            writing::complain(messages, b"key: the tape could not be read to its end\n");
         }
         _ => {
-            writing::write_first(out, put);
-            writing::complain(b"key: the tape is too long\n");
+            writing::write_first(writer, out, put);
+            writing::complain(messages, b"key: the tape is too long\n");
         }
     }
+    false
 }
 
-// A whole run on a board that was started, and its end.
-fn play_tape(
+// A whole run on a board that was started, and its end. Whether the whole key is written.
+fn play_tape<R: Read, W: Write, M: Write>(
+    reader: &mut R,
+    writer: &mut W,
+    messages: &mut M,
     words: &mut [u64; 8192],
     bitmap: &mut Marks,
     kernel: &mut KernelBytes,
     user: &mut UserBytes,
     marked: &mut MarkedBytes,
     fresh: Records,
-)
+) -> bool
     requires { lists_fit kernel.old user.old marked.old ≡ true }
 {
-    let mut buf = io::large_buffer();
-    let mut out = io::large_buffer();
+    let mut buf = [0u8; 65536];
+    let mut out = [0u8; 65536];
     let end = run(
-        words, bitmap, kernel, user, marked, &mut buf, &mut out, fresh,
+        reader, writer, words, bitmap, kernel, user, marked, &mut buf, &mut out, fresh,
     );
     let records = end.records;
     let frames = records.frames;
     let stage = end.stage;
-    finish(&mut out, end.put, stage, frames.allocated);
+    finish(writer, messages, &mut out, end.put, stage, frames.allocated)
 }
 
-// A tape from standard input on a fresh board, and its key on standard output.
-pub fn run_tape() {
+// The tape of a reader on a fresh board, and its key to a writer. Whether the whole key is written: if not, `messages` is told why.
+pub fn run_tape<R: Read, W: Write, M: Write>(
+    reader: &mut R,
+    writer: &mut W,
+    messages: &mut M,
+) -> bool {
     let mut words = [0u64; 8192];
     let mut bitmap = [0u8; frame::MARKS_SIZE];
     let mut kernel = [0u8; vm_list::VM_SIZE];
@@ -202,6 +223,9 @@ pub fn run_tape() {
     let records = started.records;
     match answer {
         Answer::Met => play_tape(
+            reader,
+            writer,
+            messages,
             &mut words,
             &mut bitmap,
             &mut kernel,
@@ -209,6 +233,9 @@ pub fn run_tape() {
             &mut marked,
             records,
         ),
-        Answer::Refused(_) => writing::complain(b"key: the board was not started\n"),
+        Answer::Refused(_) => {
+            writing::complain(messages, b"key: the board was not started\n");
+            false
+        }
     }
 }
