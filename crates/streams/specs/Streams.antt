@@ -30,6 +30,12 @@ abbrev pub bytes_of : {E : Type 0} → Result ℕ E → ℕ
 bytes_of (Ok n) = n
 bytes_of (Err e) = 0
 
+-- .. and how many bytes it brought
+abbrev pub size_of : Got → ℕ
+size_of (Bytes n) = n
+size_of Nothing = 0
+size_of Failure = 0
+
 -- one byte at least and at most n, or none
 abbrev pub Brought : ℕ → Got → Type 0
 Brought n (Bytes k) = (0 < k) × (k ≤ n)

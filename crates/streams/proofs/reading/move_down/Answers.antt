@@ -1,5 +1,5 @@
-use Rattle.std.proofs.Common.{◌≡◌, ◌+◌, ◌≤◌, length, arith}
-use Rattle.streams.proofs.Buffers.{Moved, moved_none, moved_next}
+use Rattle.std.proofs.Common.{arith}
+use Rattle.streams.proofs.Buffers.{moved_none, moved_next}
 use Rattle.streams.proofs.reading.move_down.Goals as goal
 
 pub loop-i-init : goal.loop-i-init
