@@ -2,10 +2,14 @@
 // writer and the last line is left out.
 #![tactic(auto)]
 
-ghost use Rattle.std.specs.Prelude.{◌≡◌, true, ◌≤◌};
+ghost use Rattle.std.specs.Prelude.{◌≡◌, true, ◌++◌, ◌≤◌, take};
+ghost use Rattle.std.specs.Io.KnownBytes.{Appends};
 ghost use Rattle.board.specs.Packed.{board_of, lists_fit};
+ghost use Rattle.tape.specs.Text.{count_text};
+ghost use Rattle.streams.specs.Streams.{frames_word};
 ghost use Rattle.turn.specs.Run.{goes, run_of};
-ghost use Rattle.runner.specs.Loop.{stage_of, Turned, LoopEnd};
+ghost use Rattle.runner.specs.Key.{WritesKey, first_board};
+ghost use Rattle.runner.specs.Loop.{stage_of, Turned, TurnedBy, LoopEnd, LoopEndBy};
 
 use address::Frame;
 use answer::Answer;
@@ -74,6 +78,14 @@ fn advance<R: Read, W: Write>(
         result.input.source
         (run_of words.new bitmap.new kernel.new user.new marked.new
         buf.new out.new result) }
+    ensures turned_by { TurnedBy from.input.source
+        (run_of words.old bitmap.old kernel.old user.old marked.old
+        buf.old out.old from)
+        result.input.source
+        (run_of words.new bitmap.new kernel.new user.new marked.new
+        buf.new out.new result)
+        (R.remaining reader.old) (R.remaining reader.new)
+        (W.contents writer.old) (W.contents writer.new) }
     ensures at_le_filled_2 { result.input.at ≤ result.input.filled }
     ensures filled_bound_2 { result.input.filled ≤ 65536 }
     ensures put_bound_2 { result.put ≤ 65536 }
@@ -113,6 +125,11 @@ fn run<R: Read, W: Write>(
     ensures loop_end { LoopEnd (board_of words.old bitmap.old kernel.old user.old marked.old fresh)
         (run_of words.new bitmap.new kernel.new user.new marked.new
         buf.new out.new result) }
+    ensures loop_end_by { LoopEndBy (board_of words.old bitmap.old kernel.old user.old marked.old fresh)
+        (R.remaining reader.old) (R.remaining reader.new)
+        (W.contents writer.old) (W.contents writer.new)
+        (run_of words.new bitmap.new kernel.new user.new marked.new
+        buf.new out.new result) }
     ensures put_bound { result.put ≤ 65536 }
     ensures marked_after { lists_fit kernel.new user.new marked.new ≡ true }
 {
@@ -129,7 +146,9 @@ fn run<R: Read, W: Write>(
     };
     let mut going = true;
     while going {
-        state = advance(reader, writer, words, bitmap, kernel, user, marked, buf, out, state);
+        state = advance(
+            reader, writer, words, bitmap, kernel, user, marked, buf, out, state,
+        );
         let stage = state.stage;
         going = is_going(stage);
     }
@@ -146,6 +165,10 @@ fn finish<W: Write, M: Write>(
     allocated: u64,
 ) -> bool
     requires { put ≤ 65536 }
+    ensures ended { result ≡ true → stage ≡ Stage.Ended }
+    ensures whole { result ≡ true
+        → Appends (W.contents writer.old) (W.contents writer.new)
+        (take put out.old ++ count_text frames_word allocated) }
 {
     match stage {
         Stage::Ended => {
@@ -154,7 +177,10 @@ fn finish<W: Write, M: Write>(
             }
             writing::complain(messages, b"key: the key could not be written whole\n");
         }
-        Stage::Unwritten => writing::complain(messages, b"key: the key could not be written whole\n"),
+        Stage::Unwritten => writing::complain(
+            messages,
+            b"key: the key could not be written whole\n",
+        ),
         Stage::Unread => {
             writing::write_first(writer, out, put);
             writing::complain(messages, b"key: the tape could not be read to its end\n");
@@ -180,6 +206,9 @@ fn play_tape<R: Read, W: Write, M: Write>(
     fresh: Records,
 ) -> bool
     requires { lists_fit kernel.old user.old marked.old ≡ true }
+    ensures { result ≡ true
+        → WritesKey (board_of words.old bitmap.old kernel.old user.old marked.old fresh)
+        (R.remaining reader.old) (W.contents writer.old) (W.contents writer.new) }
 {
     let mut buf = [0u8; 65536];
     let mut out = [0u8; 65536];
@@ -197,7 +226,10 @@ pub fn run_tape<R: Read, W: Write, M: Write>(
     reader: &mut R,
     writer: &mut W,
     messages: &mut M,
-) -> bool {
+) -> bool
+    ensures { result ≡ true
+        → WritesKey first_board (R.remaining reader.old) (W.contents writer.old) (W.contents writer.new) }
+{
     let mut words = [0u64; 8192];
     let mut bitmap = [0u8; frame::MARKS_SIZE];
     let mut kernel = [0u8; vm_list::VM_SIZE];

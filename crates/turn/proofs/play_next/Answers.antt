@@ -1,5 +1,5 @@
 -- The step that stands next: the end, a line `tape`, or a call.
-use Rattle.std.proofs.Common.{◌≡◌, ◌+◌, ◌≤◌, take, sym, ap, ◌∙◌, subst, arith}
+use Rattle.std.proofs.Common.{◌+◌, ◌≤◌, take, sym, ap, ◌∙◌, subst, arith}
 use Rattle.board.specs.Packed.{board_of}
 use Rattle.player.specs.Play.{turn}
 use Rattle.streams.specs.declared.Input.{Input}
