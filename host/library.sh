@@ -9,11 +9,12 @@ library=target/staticlib/libdesk.a
 log=$(mktemp)
 trap 'rm -f "$log"' EXIT
 
-# `rt lib` proves the crates below one after the other, so the first time `rt all check` proves all crates before, side by side. Its end is no matter here: what the
-# library needs and is not proved, `rt lib` proves or refuses.
+# `rt lib` proves the crates below one after the other, so the first time `rt all check` proves all crates before, side by side: one for each processor that has 3 GB of
+# memory, or as many as RT_JOBS says. Its end is no matter here: what the library needs and is not proved, `rt lib` proves or refuses.
 if [ ! -e $library ]; then
     echo "library: proving the crates"
-    rt all check </dev/null >"$log" 2>&1 || true
+    lanes=$(awk -v most="$(nproc)" '/^MemAvailable:/ { n = int($2 / 3000000); print n < 1 ? 1 : n < most ? n : most }' /proc/meminfo)
+    rt all check --jobs "${RT_JOBS:-$lanes}" </dev/null >"$log" 2>&1 || true
     sed -n '/^== summary$/,$p' "$log"
 fi
 
