@@ -1,6 +1,4 @@
-use Rattle.std.proofs.Common.{rules, ◌≡◌, ℕ, ◌+◌, ◌-◌, ◌*◌, ◌<◌, ◌≤◌, length, ◌/◌, ◌%◌, Bool, true, false, nat_eq, nat_lt, List, [], ◌∷◌, ◌++◌, slice_index_or, slice_set, bit_and, bit_or, Fits, w8, w32, w64, Bor, MutBor}
-use Rattle.layout.specs.Left.{parts_left, Unchanged, no_leftovers}
-use Rattle.desk_memory.specs.Memory.{frames_parts, packed_init, packed_is_allocated, packed_mark, packed_allocate, packed_deallocate, packed_free_frames, packed_allocated_frames, packed_total_frames}
+use Rattle.layout.specs.Left.{no_leftovers}
 use mathlib.Core.Path.{refl}
 use borrow.Author.Tests.{eq-eqb, ne_eqb}
 use Rattle.layout.specs.Parts.{fields_size}
@@ -24,7 +22,7 @@ returns-clause-bits_after c =
     (let call : Frames → FramesDid Answer = λ fr. mark_allocated fr c.args.number in
     contract_met no_leftovers
     (frames_met answer_line (call) c.args.fields.now c.args.bits.now changed (λ (x : Changed). answer_line x.answer) (λ (x : Changed). x.frames) (λ _. (refl, refl))
-    c.mark_allocated-did.new.1.0 (eq-eqb _ fields_size c.if-fields-ne-FIELDS_SIZE.false) c.get_fields.ensures (c.mark_allocated-did.ensures.value, c.mark_allocated-did.ensures.bitmap_after) c.answer_line.ensures c.put_fields.ensures)
+    c.mark_allocated-did.new.bitmap (eq-eqb _ fields_size c.if-fields-ne-FIELDS_SIZE.false) c.get_fields.ensures (c.mark_allocated-did.ensures.value, c.mark_allocated-did.ensures.bitmap_after) c.answer_line.ensures c.put_fields.ensures)
     (frames_unchanged answer_line (call) c.args.fields.now c.args.bits.now no_leftovers (λ i. (c.slice_known-1.given i).fits) (mark_clean c.args.number))).0
 
 pub returns-clause-refused : goal.returns-clause-refused
@@ -32,5 +30,5 @@ returns-clause-refused c =
     (let call : Frames → FramesDid Answer = λ fr. mark_allocated fr c.args.number in
     contract_met no_leftovers
     (frames_met answer_line (call) c.args.fields.now c.args.bits.now changed (λ (x : Changed). answer_line x.answer) (λ (x : Changed). x.frames) (λ _. (refl, refl))
-    c.mark_allocated-did.new.1.0 (eq-eqb _ fields_size c.if-fields-ne-FIELDS_SIZE.false) c.get_fields.ensures (c.mark_allocated-did.ensures.value, c.mark_allocated-did.ensures.bitmap_after) c.answer_line.ensures c.put_fields.ensures)
+    c.mark_allocated-did.new.bitmap (eq-eqb _ fields_size c.if-fields-ne-FIELDS_SIZE.false) c.get_fields.ensures (c.mark_allocated-did.ensures.value, c.mark_allocated-did.ensures.bitmap_after) c.answer_line.ensures c.put_fields.ensures)
     (frames_unchanged answer_line (call) c.args.fields.now c.args.bits.now no_leftovers (λ i. (c.slice_known-1.given i).fits) (mark_clean c.args.number))).1
