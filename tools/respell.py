@@ -14,7 +14,7 @@ import sys
 WORD = r"[^\s:(){}\[\],.;λ→×=|«»⌜⌝\"`]+"
 # Names that need more than a spelling, and laws that would fall together with what they tell of.
 GIVEN = {"hasRoom": "HasRoom", "align-up": "align_up_lem"}
-LAWS = {"free_part": "freePart", "runs_to": "runsTo"}
+LAWS = {"free_part": "freePart", "runs_to": "runsTo", "large_page": "largePage", "not_canonical": "notCanonical"}
 
 
 def files(pattern):

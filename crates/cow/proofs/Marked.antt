@@ -21,7 +21,7 @@ use Rattle.slots.specs.Sorted.{rising_from, has_key, insert, remove, place_of}
 use Rattle.slots.proofs.Sorted.{place_le, place_under, key_at, insert_there, insert_new, remove_none, remove_there}
 use Rattle.slots.proofs.Stored.{stored_again}
 use Rattle.cow.specs.Marked.{page_of, page_key, sound_marked, store_pages, MarkedDid, marked_did, mark_cow, unmark_cow, is_cow}
-use Rattle.cow.specs.Packed.{marked_size, marked_in, marked_out, marked_fit, marked_kept, on_marked, MarkedReads}
+use Rattle.cow.specs.Packed.{marked_size, marked_in, marked_out, marked_fit, marked_bytes, on_marked, MarkedReads}
 use Rattle.cow.proofs.RoundTrip.{marked_back, slots_long}
 
 -- ---- the test for a broken list, one comparison after the other
@@ -107,14 +107,14 @@ module _ (s : Slots ℕ) (a : ℕ) where
 
 module _ (call : Slots ℕ → MarkedDid) (bs : List ℕ) where
   abbrev Told : Answer → List ℕ → Type 0
-  Told a left = (marked_kept a left ≡ on_marked call bs) × MarkedReads call bs left
+  Told a left = (marked_bytes a left ≡ on_marked call bs) × MarkedReads call bs left
 
   -- pages are left, and the bytes stand for them
   told : marked_fit bs ≡ true → {a : Answer} {s : Slots ℕ} → call (marked_in bs) ≡ marked_did a s
       → (left : List ℕ) → marked_fit left ≡ true → Bytes left → marked_in left ≡ s → Told a left
   unfolding on_marked
   told fit {a = a} d left f b e = (
-    rw fit (ap (marked_kept a) (sym (marked_back left f b) ∙ ap marked_out e) ∙ ap (λ (x : MarkedDid). marked_kept x.answer (marked_out x.marked)) (sym d)),
+    rw fit (ap (marked_bytes a) (sym (marked_back left f b) ∙ ap marked_out e) ∙ ap (λ (x : MarkedDid). marked_bytes x.answer (marked_out x.marked)) (sym d)),
     λ _. (f, e ∙ ap (λ (x : MarkedDid). x.marked) (sym d)),
   )
 

@@ -25,18 +25,18 @@ marked_fit bs = eqb (length bs) marked_size
 -- ---- the calls
 
 -- an answer, and the bytes afterwards
-pub record MarkedKept : Type 0 where
+pub record MarkedBytes : Type 0 where
   pub answer : Answer
   pub list : List ℕ
 
-abbrev pub marked_kept : Answer → List ℕ → MarkedKept
-marked_kept a l = record { answer = a; list = l }
+abbrev pub marked_bytes : Answer → List ℕ → MarkedBytes
+marked_bytes a l = record { answer = a; list = l }
 
 -- a call on the pages that packed bytes stand for, and what it leaves packed again; 10 and nothing changed where they stand for none
-unfoldable pub on_marked : (Slots ℕ → MarkedDid) → List ℕ → MarkedKept
+unfoldable pub on_marked : (Slots ℕ → MarkedDid) → List ℕ → MarkedBytes
 on_marked call list =
-    unless (marked_fit list) (marked_kept (Refused broken_record) list)
-    (let d = call (marked_in list) in marked_kept d.answer (marked_out d.marked))
+    unless (marked_fit list) (marked_bytes (Refused broken_record) list)
+    (let d = call (marked_in list) in marked_bytes d.answer (marked_out d.marked))
 
 -- bytes that stood for pages stand for those that the call leaves
 abbrev pub MarkedReads : (Slots ℕ → MarkedDid) → List ℕ → List ℕ → Type 0

@@ -8,7 +8,7 @@ ghost use Rattle.bits.specs.Bit.{unless};
 ghost use Rattle.answer.specs.Numbers.{broken_record};
 ghost use Rattle.answer.specs.declared.FlagAnswer.TheVariants.{NoFlag};
 ghost use Rattle.cow.specs.Marked.{page_of, mark_cow, unmark_cow, is_cow};
-ghost use Rattle.cow.specs.Packed.{marked_in, marked_fit, marked_kept, on_marked, MarkedReads};
+ghost use Rattle.cow.specs.Packed.{marked_in, marked_fit, marked_bytes, on_marked, MarkedReads};
 
 use address::VirtAddr;
 use answer::{Answer, FlagAnswer};
@@ -28,7 +28,7 @@ pub fn page_of(addr: VirtAddr) -> VirtAddr
 
 // Marks a page copy-on-write: 20 where 256 others are.
 pub fn mark_cow(marked: &mut [u8], addr: VirtAddr) -> Answer
-    ensures marked_after { marked_kept result marked.new ≡ on_marked (λ s. mark_cow s addr.0) marked.old }
+    ensures marked_after { marked_bytes result marked.new ≡ on_marked (λ s. mark_cow s addr.0) marked.old }
     ensures marked_reads { MarkedReads (λ s. mark_cow s addr.0) marked.old marked.new }
 {
     if !list::is_sound(marked) {
@@ -49,7 +49,7 @@ pub fn mark_cow(marked: &mut [u8], addr: VirtAddr) -> Answer
 
 // Met also where the page is not marked.
 pub fn unmark_cow(marked: &mut [u8], addr: VirtAddr) -> Answer
-    ensures marked_after { marked_kept result marked.new ≡ on_marked (λ s. unmark_cow s addr.0) marked.old }
+    ensures marked_after { marked_bytes result marked.new ≡ on_marked (λ s. unmark_cow s addr.0) marked.old }
     ensures marked_reads { MarkedReads (λ s. unmark_cow s addr.0) marked.old marked.new }
 {
     if !list::is_sound(marked) {

@@ -22,29 +22,29 @@ use Rattle.board.specs.Board.{start, may_start}
 use Rattle.board.specs.Packed.{BoardBytes, board_in, board_bytes, StartedBytes, started_bytes, packed_by, start_on}
 use Rattle.board.proofs.Outcomes.{start_met, start_refused as start_stopped}
 use Rattle.layout.specs.Parts.{fields_out, fields_fit}
-use Rattle.layout.specs.Left.{PartsLeft, parts_left, broken_line, unless_fit, IsRefusal, Unchanged, no_leftovers}
+use Rattle.layout.specs.Left.{Left, left, broken_line, unless_fit, IsRefusal, Unchanged, no_leftovers}
 use Rattle.layout.specs.Memory.{plain_line}
 use Rattle.layout.proofs.Left.{broken_left, unchanged_left}
-use Rattle.desk_faults.specs.Board.{BoardParts, board_parts, board_fit, board_of_parts, board_packed, written_if_met, start_left, packed_start}
+use Rattle.desk_faults.specs.Board.{BoardParts, board_parts, board_fit, board_of_parts, board_packed, left_of, start_left, packed_start}
 
 module _ (words fields bits : List ℕ) (root : ℕ) (kernel user marked : List ℕ) (from to levels : ℕ) where
   abbrev lent : BoardParts
   lent = board_parts words fields bits root kernel user marked
 
-  pub start_broken : {r : Line} → fields_fit fields ≡ false → r ≡ broken_line → parts_left r lent ≡ packed_start lent from to levels
+  pub start_broken : {r : Line} → fields_fit fields ≡ false → r ≡ broken_line → left r lent ≡ packed_start lent from to levels
   unfolding packed_start
   start_broken h e = broken_left {ok = board_fit lent} lent _ (rw h refl) e
 
   -- what is left of a board that was started: its record and root are written where the start is met
-  abbrev wrote : StartedBytes → PartsLeft BoardParts
+  abbrev wrote : StartedBytes → Left BoardParts
   wrote s =
       let b = s.board in
-      parts_left (answer_line s.answer)
+      left (answer_line s.answer)
       (record {
         words = b.mem.words;
-        fields = written_if_met s.answer fields (fields_out b.mem.frames.fa);
+        fields = left_of s.answer fields (fields_out b.mem.frames.fa);
         marks = b.mem.frames.bits;
-        root = written_if_met s.answer root b.root;
+        root = left_of s.answer root b.root;
         kernel = b.kernel;
         user = b.user;
         marked = b.marked;
@@ -69,17 +69,17 @@ module _ (words fields bits : List ℕ) (root : ℕ) (kernel user marked : List 
 
     pub start_did : {ws fs ks us ms : List ℕ} (bs : List ℕ) {rt : ℕ} {x : Started} {r : Line} → fields_fit fields ≡ true
         → started_bytes x ws bs ks us ms ≡ start_on given from to levels → r ≡ answer_line x.answer
-        → (fs ≡ written_if_met x.answer fields (fields_out x.records.frames)) × (rt ≡ written_if_met x.answer root x.records.root.0)
-        → parts_left r (board_parts ws fs bs rt ks us ms) ≡ packed_start lent from to levels
+        → (fs ≡ left_of x.answer fields (fields_out x.records.frames)) × (rt ≡ left_of x.answer root x.records.root.0)
+        → left r (board_parts ws fs bs rt ks us ms) ≡ packed_start lent from to levels
     unfolding packed_start start_on
     start_did {ws = ws} {ks = ks} {us = us} {ms = ms} bs fit e r (fs, rt) =
-        (λ j. parts_left (r j) (board_parts ws (fs j) bs (rt j) ks us ms)) ∙ ap wrote e ∙ tested (both (eqb (length kernel) vm_size) (both (mmap_fit user) (marked_fit marked))) fit
+        (λ j. left (r j) (board_parts ws (fs j) bs (rt j) ks us ms)) ∙ ap wrote e ∙ tested (both (eqb (length kernel) vm_size) (both (mmap_fit user) (marked_fit marked))) fit
 
   -- 10 and 11
   pub start_refused : Unchanged no_leftovers lent (packed_start lent from to levels)
   unfolding packed_start
   start_refused = unchanged_left no_leftovers (board_fit lent) lent _ (λ _. by (start (board_of_parts lent) from to levels).answer)
     where
-      by : (w : Outcome) → IsRefusal no_leftovers (plain_line w).number → written_if_met (as_answer w) lent (board_packed (start (board_of_parts lent) from to levels).board) ≡ lent
+      by : (w : Outcome) → IsRefusal no_leftovers (plain_line w).number → left_of (as_answer w) lent (board_packed (start (board_of_parts lent) from to levels).board) ≡ lent
       by (Value x) h = absurd (h refl)
       by (Stop n) h = refl

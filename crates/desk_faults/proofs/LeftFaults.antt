@@ -32,7 +32,7 @@ use Rattle.paging.proofs.Map.{go_on_cases}
 use Rattle.slots.specs.Slots.{Slots, listed}
 use Rattle.slots.specs.Sorted.{has_key}
 use Rattle.cow.specs.Marked.{page_of, page_key, sound_marked, MarkedDid, full_of_pages, mark_cow, unmark_cow, is_cow}
-use Rattle.cow.specs.Packed.{marked_in, marked_out, marked_fit, MarkedKept, marked_kept, on_marked}
+use Rattle.cow.specs.Packed.{marked_in, marked_out, marked_fit, MarkedBytes, marked_bytes, on_marked}
 use Rattle.cow.proofs.RoundTrip.{marked_back}
 use Rattle.error_code.specs.ErrorCode.{is_present, is_write, is_user, is_reserved, is_fetch}
 use Rattle.copying.specs.Copying.{as_taken, raw_frame, only_error, map_frame, temporary, translated, cleared_if_mapped, copied, copy_page, copy_to, copy_on_write}
@@ -40,7 +40,7 @@ use Rattle.fault.specs.Faults.{in_heap, valid, demand_page, Faulting, faulting, 
 use Rattle.fault.specs.Packed.{on_pages, found_on_pages, fault_found_on}
 use Rattle.handler.specs.Handler.{overwrite, put_over, map_over, handle_fault_second, handle_fault_second_of}
 use Rattle.layout.specs.Parts.{fields_in, fields_out, fields_fit}
-use Rattle.layout.specs.Left.{parts_left, broken_line, IsRefusal, Unchanged, no_leftovers, fault_leftovers, second_leftovers}
+use Rattle.layout.specs.Left.{left, broken_line, IsRefusal, Unchanged, no_leftovers, fault_leftovers, second_leftovers}
 use Rattle.layout.specs.Memory.{ListParts, list_parts, plain_line, memory_parts}
 use Rattle.layout.proofs.Left.{broken_left, unchanged_left, fields_same, memory_unchanged, list_met}
 use Rattle.layout.proofs.Numbers.{Listed, make_listed}
@@ -54,11 +54,11 @@ told_of told true a b = refl
 told_of told false a b = refl
 
 module _ (call : Slots ℕ → MarkedDid) (marked : List ℕ) where
-  pub marked_did_lem : {x : Answer} {ms : List ℕ} {r : Line} → marked_kept x ms ≡ on_marked call marked → r ≡ answer_line x → parts_left r ms ≡ left_marked call marked
+  pub marked_did_lem : {x : Answer} {ms : List ℕ} {r : Line} → marked_bytes x ms ≡ on_marked call marked → r ≡ answer_line x → left r ms ≡ left_marked call marked
   unfolding on_marked left_marked
   marked_did_lem {ms = ms} e r =
-      (λ j. parts_left (r j) ms) ∙ ap (λ (d : MarkedKept). parts_left (answer_line d.answer) d.list) e
-      ∙ told_of (λ (d : MarkedKept). parts_left (answer_line d.answer) d.list) (marked_fit marked) _ _
+      (λ j. left (r j) ms) ∙ ap (λ (d : MarkedBytes). left (answer_line d.answer) d.list) e
+      ∙ told_of (λ (d : MarkedBytes). left (answer_line d.answer) d.list) (marked_fit marked) _ _
 
   marked_unchanged : Bytes marked → ((s : Slots ℕ) → IsRefusal no_leftovers (answer_line (call s).answer).number → (call s).marked ≡ s)
       → Unchanged no_leftovers marked (left_marked call marked)
@@ -72,26 +72,26 @@ cow_did marked addr e r = r ∙ ap flag_line e ∙ told_of flag_line (marked_fit
 -- ---- the first fault path
 
 module _ (call : Faulting → FaultDid) (words fields bits marked : List ℕ) where
-  abbrev faultLent : ListParts
-  faultLent = list_parts words fields bits marked
+  abbrev fault_lent : ListParts
+  fault_lent = list_parts words fields bits marked
 
-  pub fault_broken : {r : Line} → fields_fit fields ≡ false → r ≡ broken_line → parts_left r faultLent ≡ on_fault call faultLent
+  pub fault_broken : {r : Line} → fields_fit fields ≡ false → r ≡ broken_line → left r fault_lent ≡ on_fault call fault_lent
   unfolding on_fault
-  fault_broken h e = broken_left {ok = fault_fit faultLent} faultLent _ (rw h refl) e
+  fault_broken h e = broken_left {ok = fault_fit fault_lent} fault_lent _ (rw h refl) e
 
   pub fault_met : {ws fs ms : List ℕ} (bs : List ℕ) {f g : FrameAllocator} {x : Answer} {r : Line}
       → fields_fit fields ≡ true → Bytes fields → f ≡ fields_in fields
       → kept x (lent_memory ws bs g) ms ≡ on_pages call (lent_memory words bits f) marked
-      → r ≡ answer_line x → fs ≡ fields_out g → parts_left r (list_parts ws fs bs ms) ≡ on_fault call faultLent
+      → r ≡ answer_line x → fs ≡ fields_out g → left r (list_parts ws fs bs ms) ≡ on_fault call fault_lent
   unfolding on_fault on_pages
   fault_met = list_met answer_line words fields bits marked (λ (m : Memory). on_pages call m marked) (marked_fit marked) (Refused broken_record) _ refl refl
 
   fault_unchanged : (leftovers : List ℕ) → Bytes fields → Bytes marked
       → ((s : Faulting) → IsRefusal leftovers (plain_line (call s).answer).number → (call s).state ≡ s)
-      → Unchanged leftovers faultLent (on_fault call faultLent)
+      → Unchanged leftovers fault_lent (on_fault call fault_lent)
   unfolding on_fault
   fault_unchanged leftovers b c law =
-      unchanged_left leftovers (fault_fit faultLent) faultLent _ (λ fit n.
+      unchanged_left leftovers (fault_fit fault_lent) fault_lent _ (λ fit n.
       let f = both_true (fields_fit fields) (marked_fit marked) fit in
       ap fault_packed (law _ n) ∙ (λ j. list_parts words (fields_same fields f.0 b j) bits (marked_back marked f.1 c j)))
 

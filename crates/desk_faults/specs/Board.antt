@@ -11,7 +11,7 @@ use Rattle.mappings.specs.Packed.{mmap_in, next_in, mmap_out, mmap_fit}
 use Rattle.cow.specs.Packed.{marked_in, marked_out, marked_fit}
 use Rattle.board.specs.Board.{Board, BoardDid, start}
 use Rattle.layout.specs.Parts.{frames_in, fields_fit, fields_out}
-use Rattle.layout.specs.Left.{PartsLeft, parts_left, unless_fit}
+use Rattle.layout.specs.Left.{Left, left, unless_fit}
 use Rattle.layout.specs.Memory.{plain_line}
 
 pub record BoardParts : Type 0 where
@@ -52,12 +52,12 @@ board_packed b = record {
 }
 
 -- what only a met start writes
-abbrev pub written_if_met : {A : Type 0} → Answer → A → A → A
-written_if_met Met old new = new
-written_if_met (Refused n) old new = old
+abbrev pub left_of : {A : Type 0} → Answer → A → A → A
+left_of Met old new = new
+left_of (Refused n) old new = old
 
-abbrev pub start_left : BoardParts → BoardDid → PartsLeft BoardParts
-start_left p d = parts_left (plain_line d.answer) (written_if_met (as_answer d.answer) p (board_packed d.board))
+abbrev pub start_left : BoardParts → BoardDid → Left BoardParts
+start_left p d = left (plain_line d.answer) (left_of (as_answer d.answer) p (board_packed d.board))
 
-unfoldable pub packed_start : BoardParts → ℕ → ℕ → ℕ → PartsLeft BoardParts
+unfoldable pub packed_start : BoardParts → ℕ → ℕ → ℕ → Left BoardParts
 packed_start p from to levels = unless_fit (board_fit p) p (start_left p (start (board_of_parts p) from to levels))

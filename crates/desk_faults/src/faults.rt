@@ -1,7 +1,7 @@
 // Copy-on-write pages and both fault paths: the frames are lent as words; the frame record, its bitmap and the marked pages are packed bytes.
 ghost use Rattle.std.specs.Prelude.{◌≡◌};
 ghost use Rattle.frame.specs.Found.{key_line, tally_of};
-ghost use Rattle.layout.specs.Left.{parts_left, Unchanged, no_leftovers, fault_leftovers, second_leftovers};
+ghost use Rattle.layout.specs.Left.{left, Unchanged, no_leftovers, fault_leftovers, second_leftovers};
 ghost use Rattle.layout.specs.Memory.{list_parts, memory_parts};
 ghost use Rattle.desk_faults.specs.Faults.{packed_mark_cow, packed_unmark_cow, packed_is_cow, packed_fault, packed_fault_found, packed_fault_second};
 
@@ -12,20 +12,20 @@ use layout::parts;
 
 #[unsafe(no_mangle)]
 pub extern "C" fn gadulnos_mark_cow(marked: &mut [u8], addr: u64) -> Line
-    ensures marked_after { parts_left result marked.new
+    ensures marked_after { left result marked.new
         ≡ packed_mark_cow marked.old addr }
     ensures refused { Unchanged no_leftovers marked.old
-        (parts_left result marked.new) }
+        (left result marked.new) }
 {
     answer::answer_line(cow::mark_cow(marked, VirtAddr(addr)))
 }
 
 #[unsafe(no_mangle)]
 pub extern "C" fn gadulnos_unmark_cow(marked: &mut [u8], addr: u64) -> Line
-    ensures marked_after { parts_left result marked.new
+    ensures marked_after { left result marked.new
         ≡ packed_unmark_cow marked.old addr }
     ensures refused { Unchanged no_leftovers marked.old
-        (parts_left result marked.new) }
+        (left result marked.new) }
 {
     answer::answer_line(cow::unmark_cow(marked, VirtAddr(addr)))
 }
@@ -48,12 +48,12 @@ pub extern "C" fn gadulnos_handle_page_fault(
     addr: u64,
     code: u64,
 ) -> TallyLine
-    ensures marked_after { parts_left (key_line result) (list_parts words.new fields.new bits.new marked.new)
+    ensures marked_after { left (key_line result) (list_parts words.new fields.new bits.new marked.new)
         ≡ packed_fault (list_parts words.old fields.old bits.old marked.old) root addr code }
     ensures result_value { tally_of result
         ≡ packed_fault_found (list_parts words.old fields.old bits.old marked.old) root addr code }
     ensures refused { Unchanged fault_leftovers (list_parts words.old fields.old bits.old marked.old)
-        (parts_left (key_line result) (list_parts words.new fields.new bits.new marked.new)) }
+        (left (key_line result) (list_parts words.new fields.new bits.new marked.new)) }
 {
     if fields.len() != parts::FIELDS_SIZE {
         return parts::broken_tally();
@@ -85,10 +85,10 @@ pub extern "C" fn gadulnos_handle_page_fault_second(
     addr: u64,
     code: u64,
 ) -> Line
-    ensures bits_after { parts_left result (memory_parts words.new fields.new bits.new)
+    ensures bits_after { left result (memory_parts words.new fields.new bits.new)
         ≡ packed_fault_second (memory_parts words.old fields.old bits.old) root addr code }
     ensures refused { Unchanged second_leftovers (memory_parts words.old fields.old bits.old)
-        (parts_left result (memory_parts words.new fields.new bits.new)) }
+        (left result (memory_parts words.new fields.new bits.new)) }
 {
     if fields.len() != parts::FIELDS_SIZE {
         return parts::broken();

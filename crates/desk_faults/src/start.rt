@@ -1,8 +1,8 @@
 // The start of a board: the frames are lent as words, the root as its number, and the other parts as packed bytes.
 ghost use Rattle.std.specs.Prelude.{◌≡◌, length};
 ghost use Rattle.layout.specs.Parts.{fields_size, fields_out};
-ghost use Rattle.layout.specs.Left.{parts_left, Unchanged, no_leftovers};
-ghost use Rattle.desk_faults.specs.Board.{board_parts, written_if_met, packed_start};
+ghost use Rattle.layout.specs.Left.{left, Unchanged, no_leftovers};
+ghost use Rattle.desk_faults.specs.Board.{board_parts, left_of, packed_start};
 
 use address::Frame;
 use answer::{Answer, Line};
@@ -13,8 +13,8 @@ use layout::parts;
 // The frame record and the root that a start leaves: only a met one writes them.
 fn put_records(fields: &mut [u8], root: &mut u64, a: Answer, left: Records)
     requires { length fields.old ≡ fields_size }
-    ensures fields_after { fields.new ≡ written_if_met a fields.old (fields_out left.frames) }
-    ensures root_after { root.new ≡ written_if_met a root.old left.root.0 }
+    ensures fields_after { fields.new ≡ left_of a fields.old (fields_out left.frames) }
+    ensures root_after { root.new ≡ left_of a root.old left.root.0 }
 {
     match a {
         Answer::Met => {
@@ -41,13 +41,13 @@ pub extern "C" fn gadulnos_start_levels(
     to: u64,
     levels: u64,
 ) -> Line
-    ensures marked_after { parts_left result (board_parts words.new fields.new bits.new root.new
+    ensures marked_after { left result (board_parts words.new fields.new bits.new root.new
         kernel.new user.new marked.new)
         ≡ packed_start (board_parts words.old fields.old bits.old root.old
         kernel.old user.old marked.old) from to levels }
     ensures refused { Unchanged no_leftovers (board_parts words.old fields.old bits.old root.old
         kernel.old user.old marked.old)
-        (parts_left result (board_parts words.new fields.new bits.new root.new
+        (left result (board_parts words.new fields.new bits.new root.new
         kernel.new user.new marked.new)) }
 {
     if fields.len() != parts::FIELDS_SIZE {
@@ -77,13 +77,13 @@ pub extern "C" fn gadulnos_start(
     from: u64,
     to: u64,
 ) -> Line
-    ensures marked_after { parts_left result (board_parts words.new fields.new bits.new root.new
+    ensures marked_after { left result (board_parts words.new fields.new bits.new root.new
         kernel.new user.new marked.new)
         ≡ packed_start (board_parts words.old fields.old bits.old root.old
         kernel.old user.old marked.old) from to 4 }
     ensures refused { Unchanged no_leftovers (board_parts words.old fields.old bits.old root.old
         kernel.old user.old marked.old)
-        (parts_left result (board_parts words.new fields.new bits.new root.new
+        (left result (board_parts words.new fields.new bits.new root.new
         kernel.new user.new marked.new)) }
 {
     gadulnos_start_levels(

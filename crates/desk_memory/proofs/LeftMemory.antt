@@ -32,7 +32,7 @@ use Rattle.paging.specs.Working.{show_translate}
 use Rattle.paging.proofs.Working.{shows}
 use Rattle.working.specs.Rows.{shown_numbers}
 use Rattle.layout.specs.Parts.{fields_in, fields_out, fields_fit}
-use Rattle.layout.specs.Left.{parts_left, broken_line, IsRefusal, Unchanged, no_leftovers, table_leftovers}
+use Rattle.layout.specs.Left.{left, broken_line, IsRefusal, Unchanged, no_leftovers, table_leftovers}
 use Rattle.layout.specs.Memory.{plain_line, memory_parts}
 use Rattle.layout.proofs.Left.{broken_left, met_left, broken_line_lem, met_line_lem, unchanged_left, fields_same, memory_unchanged}
 use Rattle.layout.proofs.Numbers.{map_listed}
@@ -41,7 +41,7 @@ use Rattle.desk_memory.specs.Memory.{frames_parts, frames_packed, on_frames, rea
 -- ---- the frame record and its bitmap
 
 module _ {A : Type 0} (said : A → Line) (call : Frames → FramesDid A) (fields bits : List ℕ) where
-  pub frames_broken : {r : Line} → fields_fit fields ≡ false → r ≡ broken_line → parts_left r (frames_parts fields bits) ≡ on_frames said call (frames_parts fields bits)
+  pub frames_broken : {r : Line} → fields_fit fields ≡ false → r ≡ broken_line → left r (frames_parts fields bits) ≡ on_frames said call (frames_parts fields bits)
   unfolding on_frames
   frames_broken h e = broken_left (frames_parts fields bits) _ h e
 
@@ -50,7 +50,7 @@ module _ {A : Type 0} (said : A → Line) (call : Frames → FramesDid A) (field
       → ((d : FramesDid A) → (line (of d) ≡ said d.answer) × (fa (of d) ≡ d.frames.fa))
       → {fs : List ℕ} (bs : List ℕ) {f : FrameAllocator} {x : X} {r : Line} → fields_fit fields ≡ true → f ≡ fields_in fields
       → let d = call (lent_frames bits f) in (x ≡ of d) × (marks_in bs ≡ d.frames.bits)
-      → r ≡ line x → fs ≡ fields_out (fa x) → parts_left r (frames_parts fs bs) ≡ on_frames said call (frames_parts fields bits)
+      → r ≡ line x → fs ≡ fields_out (fa x) → left r (frames_parts fs bs) ≡ on_frames said call (frames_parts fields bits)
   unfolding on_frames
   frames_met {X} of line fa parts bs h f (x, y) r fs =
       let same : ◌≡◌ {A = FramesDid A} (call (lent_frames bits _)) (call (lent_frames bits (fields_in fields))) = λ j. call (lent_frames bits (f j)) in
@@ -59,7 +59,7 @@ module _ {A : Type 0} (said : A → Line) (call : Frames → FramesDid A) (field
       let l = r ∙ ap line p ∙ (parts d).0 in
       let g = fs ∙ ap (λ (x : X). fields_out (fa x)) p ∙ ap fields_out (parts d).1 in
       let k = y ∙ ap (λ (d : FramesDid A). d.frames.bits) same in
-      met_left (frames_parts fields bits) h (λ j. parts_left (l j) (record { fields = g j; marks = k j }))
+      met_left (frames_parts fields bits) h (λ j. left (l j) (record { fields = g j; marks = k j }))
 
   pub frames_unchanged : (leftovers : List ℕ) → Bytes fields → ((fr : Frames) → IsRefusal leftovers (said (call fr).answer).number → (call fr).frames ≡ fr)
       → Unchanged leftovers (frames_parts fields bits) (on_frames said call (frames_parts fields bits))
@@ -129,14 +129,14 @@ module _ (words fields bits : List ℕ) (b : Bytes fields) (root v p : ℕ) (w u
 -- ---- a translation with its working
 
 pub show_left : (words : List ℕ) (start total levels root v : ℕ) {a : PhysAnswer} {ns : List ℕ} {r : Line}
-    → let s = show_translate levels words start total root v in (a ≡ as_phys s.answer) × (ns ≡ shown_numbers s.rows) → r ≡ phys_line a → parts_left r ns ≡ left_show words start total levels root v
-show_left words start total levels root v (a, n) r = λ j. parts_left ((r ∙ ap phys_line (a ∙ ap as_phys (shows.same levels words start total root v))) j) (n j)
+    → let s = show_translate levels words start total root v in (a ≡ as_phys s.answer) × (ns ≡ shown_numbers s.rows) → r ≡ phys_line a → left r ns ≡ left_show words start total levels root v
+show_left words start total levels root v (a, n) r = λ j. left ((r ∙ ap phys_line (a ∙ ap as_phys (shows.same levels words start total root v))) j) (n j)
 
 -- ---- unmap_page
 
 pub unmap_left : (ws : List ℕ) (start total levels root v : ℕ) {x : FrameAnswer} {rest : List ℕ} {r : Line}
-    → let d = unmap_page levels ws start total root v in (x ≡ as_frame d.walked) × (rest ≡ d.words) → r ≡ frame_line x → parts_left r rest ≡ left_unmap ws start total levels root v
-unmap_left ws start total levels root v (x, w) r = λ j. parts_left ((r ∙ ap frame_line x) j) (w j)
+    → let d = unmap_page levels ws start total root v in (x ≡ as_frame d.walked) × (rest ≡ d.words) → r ≡ frame_line x → left r rest ≡ left_unmap ws start total levels root v
+unmap_left ws start total levels root v (x, w) r = λ j. left ((r ∙ ap frame_line x) j) (w j)
 
 -- its refusals: 10, 14 and 19
 pub unmap_refused : (ws : List ℕ) (start total levels root v : ℕ) → Unchanged no_leftovers ws (left_unmap ws start total levels root v)

@@ -15,7 +15,7 @@ use Rattle.paging.specs.Working.{show_translate}
 use Rattle.paging.specs.User.{user_may}
 use Rattle.working.specs.Rows.{shown_numbers}
 use Rattle.layout.specs.Parts.{frames_in, fields_fit, fields_out}
-use Rattle.layout.specs.Left.{PartsLeft, parts_left, broken_line, unless_fit}
+use Rattle.layout.specs.Left.{Left, left, broken_line, unless_fit}
 use Rattle.layout.specs.Memory.{MemoryParts, on_memory}
 
 -- ---- the bytes of the frame record, and the words that its bitmap's 1024 bytes stand for
@@ -30,28 +30,28 @@ frames_parts f b = record { fields = f; marks = marks_in b }
 abbrev pub frames_packed : Frames → FramesParts
 frames_packed fr = record { fields = fields_out fr.fa; marks = fr.bits }
 
-unfoldable pub on_frames : {A : Type 0} → (A → Line) → (Frames → FramesDid A) → FramesParts → PartsLeft FramesParts
+unfoldable pub on_frames : {A : Type 0} → (A → Line) → (Frames → FramesDid A) → FramesParts → Left FramesParts
 on_frames line call p =
     unless_fit (fields_fit p.fields) p
-    (parts_left (line (call (frames_in p.fields p.marks)).answer) (frames_packed (call (frames_in p.fields p.marks)).frames))
+    (left (line (call (frames_in p.fields p.marks)).answer) (frames_packed (call (frames_in p.fields p.marks)).frames))
 
 -- .. that are only read
 unfoldable pub read_frames : {A : Type 0} → (A → Line) → (Frames → A) → FramesParts → Line
 read_frames line call p = unless (fields_fit p.fields) broken_line (line (call (frames_in p.fields p.marks)))
 
-abbrev pub packed_init : FramesParts → ℕ → ℕ → PartsLeft FramesParts
+abbrev pub packed_init : FramesParts → ℕ → ℕ → Left FramesParts
 packed_init p from to = on_frames answer_line (λ (fr : Frames). init fr from to) p
 
 abbrev pub packed_is_allocated : FramesParts → ℕ → Line
 packed_is_allocated p n = read_frames flag_line (λ (fr : Frames). is_allocated fr n) p
 
-abbrev pub packed_mark : FramesParts → ℕ → PartsLeft FramesParts
+abbrev pub packed_mark : FramesParts → ℕ → Left FramesParts
 packed_mark p n = on_frames answer_line (λ (fr : Frames). mark_allocated fr n) p
 
-abbrev pub packed_allocate : FramesParts → PartsLeft FramesParts
+abbrev pub packed_allocate : FramesParts → Left FramesParts
 packed_allocate p = on_frames frame_line allocate p
 
-abbrev pub packed_deallocate : FramesParts → ℕ → PartsLeft FramesParts
+abbrev pub packed_deallocate : FramesParts → ℕ → Left FramesParts
 packed_deallocate p n = on_frames found_line (λ (fr : Frames). deallocate fr n) p
 
 abbrev pub packed_free_frames : FramesParts → Line
@@ -74,21 +74,21 @@ abbrev pub line_translate : List ℕ → ℕ → ℕ → ℕ → ℕ → ℕ →
 line_translate words start total levels root virt = phys_line (as_phys (translate levels words start total root virt))
 
 -- with its working the line is the same, and all its numbers are written, whatever stood there
-abbrev pub left_show : List ℕ → ℕ → ℕ → ℕ → ℕ → ℕ → PartsLeft (List ℕ)
+abbrev pub left_show : List ℕ → ℕ → ℕ → ℕ → ℕ → ℕ → Left (List ℕ)
 left_show words start total levels root virt =
-    parts_left (line_translate words start total levels root virt) (shown_numbers (show_translate levels words start total root virt).rows)
+    left (line_translate words start total levels root virt) (shown_numbers (show_translate levels words start total root virt).rows)
 
 abbrev pub line_user_may : List ℕ → ℕ → ℕ → ℕ → ℕ → ℕ → Bool → Line
 line_user_may words start total levels root virt write = flag_line (user_may levels words start total root virt write)
 
-abbrev pub packed_map_page : MemoryParts → ℕ → ℕ → ℕ → Bool → Bool → PartsLeft MemoryParts
+abbrev pub packed_map_page : MemoryParts → ℕ → ℕ → ℕ → Bool → Bool → Left MemoryParts
 packed_map_page p root virt phys writable user = on_memory (λ (m : Memory). map_page_of m root virt phys writable user) p
 
-abbrev pub packed_map_huge : MemoryParts → ℕ → ℕ → ℕ → HugePageSize → Bool → Bool → PartsLeft MemoryParts
+abbrev pub packed_map_huge : MemoryParts → ℕ → ℕ → ℕ → HugePageSize → Bool → Bool → Left MemoryParts
 packed_map_huge p root virt phys size writable user = on_memory (λ (m : Memory). map_huge_of m root virt phys size writable user) p
 
 -- the words are all that it is lent, and they need not be unpacked
-abbrev pub left_unmap : List ℕ → ℕ → ℕ → ℕ → ℕ → ℕ → PartsLeft (List ℕ)
+abbrev pub left_unmap : List ℕ → ℕ → ℕ → ℕ → ℕ → ℕ → Left (List ℕ)
 left_unmap words start total levels root virt =
     let d = unmap_page levels words start total root virt in
-    parts_left (frame_line (as_frame d.walked)) d.words
+    left (frame_line (as_frame d.walked)) d.words

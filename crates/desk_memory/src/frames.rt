@@ -1,6 +1,6 @@
 // The frame allocator's calls: the record and the bitmap are packed bytes.
 ghost use Rattle.std.specs.Prelude.{◌≡◌};
-ghost use Rattle.layout.specs.Left.{parts_left, Unchanged, no_leftovers};
+ghost use Rattle.layout.specs.Left.{left, Unchanged, no_leftovers};
 ghost use Rattle.desk_memory.specs.Memory.{frames_parts, packed_init, packed_is_allocated, packed_mark, packed_allocate, packed_deallocate};
 ghost use Rattle.desk_memory.specs.Memory.{packed_free_frames, packed_allocated_frames, packed_total_frames};
 
@@ -11,10 +11,10 @@ use layout::parts;
 
 #[unsafe(no_mangle)]
 pub extern "C" fn gadulnos_init(fields: &mut [u8], bits: &mut Marks, from: u64, to: u64) -> Line
-    ensures bits_after { parts_left result (frames_parts fields.new bits.new)
+    ensures bits_after { left result (frames_parts fields.new bits.new)
         ≡ packed_init (frames_parts fields.old bits.old) from to }
     ensures refused { Unchanged no_leftovers (frames_parts fields.old bits.old)
-        (parts_left result (frames_parts fields.new bits.new)) }
+        (left result (frames_parts fields.new bits.new)) }
 {
     if fields.len() != parts::FIELDS_SIZE {
         return parts::broken();
@@ -38,10 +38,10 @@ pub extern "C" fn gadulnos_is_allocated(fields: &[u8], bits: &Marks, number: u64
 
 #[unsafe(no_mangle)]
 pub extern "C" fn gadulnos_mark_allocated(fields: &mut [u8], bits: &mut Marks, number: u64) -> Line
-    ensures bits_after { parts_left result (frames_parts fields.new bits.new)
+    ensures bits_after { left result (frames_parts fields.new bits.new)
         ≡ packed_mark (frames_parts fields.old bits.old) number }
     ensures refused { Unchanged no_leftovers (frames_parts fields.old bits.old)
-        (parts_left result (frames_parts fields.new bits.new)) }
+        (left result (frames_parts fields.new bits.new)) }
 {
     if fields.len() != parts::FIELDS_SIZE {
         return parts::broken();
@@ -55,10 +55,10 @@ pub extern "C" fn gadulnos_mark_allocated(fields: &mut [u8], bits: &mut Marks, n
 
 #[unsafe(no_mangle)]
 pub extern "C" fn gadulnos_allocate_frame(fields: &mut [u8], bits: &mut Marks) -> Line
-    ensures bits_after { parts_left result (frames_parts fields.new bits.new)
+    ensures bits_after { left result (frames_parts fields.new bits.new)
         ≡ packed_allocate (frames_parts fields.old bits.old) }
     ensures refused { Unchanged no_leftovers (frames_parts fields.old bits.old)
-        (parts_left result (frames_parts fields.new bits.new)) }
+        (left result (frames_parts fields.new bits.new)) }
 {
     if fields.len() != parts::FIELDS_SIZE {
         return parts::broken();
@@ -76,10 +76,10 @@ pub extern "C" fn gadulnos_deallocate_frame(
     bits: &mut Marks,
     number: u64,
 ) -> Line
-    ensures bits_after { parts_left result (frames_parts fields.new bits.new)
+    ensures bits_after { left result (frames_parts fields.new bits.new)
         ≡ packed_deallocate (frames_parts fields.old bits.old) number }
     ensures refused { Unchanged no_leftovers (frames_parts fields.old bits.old)
-        (parts_left result (frames_parts fields.new bits.new)) }
+        (left result (frames_parts fields.new bits.new)) }
 {
     if fields.len() != parts::FIELDS_SIZE {
         return parts::broken();

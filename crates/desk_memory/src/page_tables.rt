@@ -1,7 +1,7 @@
 // The mapper's calls, on lent words; the frame record and the bitmap are packed bytes.
 ghost use Rattle.std.specs.Prelude.{◌≡◌};
 ghost use Rattle.paging.specs.Calls.{size_of};
-ghost use Rattle.layout.specs.Left.{parts_left, Unchanged, no_leftovers, table_leftovers};
+ghost use Rattle.layout.specs.Left.{left, Unchanged, no_leftovers, table_leftovers};
 ghost use Rattle.layout.specs.Memory.{memory_parts};
 ghost use Rattle.desk_memory.specs.Memory.{huge_of, line_translate, left_show, line_user_may, packed_map_page, packed_map_huge, left_unmap};
 
@@ -35,7 +35,7 @@ pub extern "C" fn gadulnos_show_translate(
     virt: u64,
     out: &mut [u64; working::SHOWN_NUMBERS],
 ) -> Line
-    ensures { parts_left result out.new ≡ left_show words.now start total levels root virt }
+    ensures { left result out.new ≡ left_show words.now start total levels root virt }
 {
     let found = working::show_translate(
         words,
@@ -83,10 +83,10 @@ pub extern "C" fn gadulnos_map_page(
     writable: bool,
     user: bool,
 ) -> Line
-    ensures bits_after { parts_left result (memory_parts words.new fields.new bits.new)
+    ensures bits_after { left result (memory_parts words.new fields.new bits.new)
         ≡ packed_map_page (memory_parts words.old fields.old bits.old) root virt phys writable user }
     ensures refused { Unchanged table_leftovers (memory_parts words.old fields.old bits.old)
-        (parts_left result (memory_parts words.new fields.new bits.new)) }
+        (left result (memory_parts words.new fields.new bits.new)) }
 {
     if fields.len() != parts::FIELDS_SIZE {
         return parts::broken();
@@ -143,10 +143,10 @@ pub extern "C" fn gadulnos_map_huge_page(
     writable: bool,
     user: bool,
 ) -> Line
-    ensures bits_after { parts_left result (memory_parts words.new fields.new bits.new)
+    ensures bits_after { left result (memory_parts words.new fields.new bits.new)
         ≡ packed_map_huge (memory_parts words.old fields.old bits.old) root virt phys (huge_of gigabyte) writable user }
     ensures refused { Unchanged table_leftovers (memory_parts words.old fields.old bits.old)
-        (parts_left result (memory_parts words.new fields.new bits.new)) }
+        (left result (memory_parts words.new fields.new bits.new)) }
 {
     if fields.len() != parts::FIELDS_SIZE {
         return parts::broken();
@@ -179,10 +179,10 @@ pub extern "C" fn gadulnos_unmap_page(
     root: u64,
     virt: u64,
 ) -> Line
-    ensures words_after { parts_left result words.new
+    ensures words_after { left result words.new
         ≡ left_unmap words.old start total levels root virt }
     ensures refused { Unchanged no_leftovers words.old
-        (parts_left result words.new) }
+        (left result words.new) }
 {
     address::frame_line(mapper::unmap_page(
         words,

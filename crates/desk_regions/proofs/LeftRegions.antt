@@ -48,11 +48,11 @@ use Rattle.mprotect.specs.Calls.{ProtectDid, protect_did, mprotect}
 use Rattle.mprotect.specs.Packed.{ProtectKept, protect_kept, kept_protected, mprotect_on}
 use Rattle.mprotect.proofs.Cases.{mprotect_cases}
 use Rattle.layout.specs.Parts.{fields_in, fields_out, fields_fit}
-use Rattle.layout.specs.Left.{PartsLeft, parts_left, broken_line, unless_fit, IsRefusal, Unchanged, no_leftovers, region_leftovers}
+use Rattle.layout.specs.Left.{Left, left, broken_line, unless_fit, IsRefusal, Unchanged, no_leftovers, region_leftovers}
 use Rattle.layout.specs.Memory.{ListParts, list_parts, plain_line}
 use Rattle.layout.proofs.Left.{broken_left, met_left, unchanged_left, fields_same, list_met}
 use Rattle.layout.proofs.Numbers.{pages_listed}
-use Rattle.desk_regions.specs.Regions.{address_line, kernel_fit, kernel_of_parts, kernel_packed, on_kernel, user_fit, user_of_parts, user_packed, on_user}
+use Rattle.desk_regions.specs.Regions.{address_line, kernel_fit, kernel_in, kernel_packed, on_kernel, user_fit, user_in, user_packed, on_user}
 use Rattle.desk_regions.specs.Regions.{packed_vmalloc, packed_vfree, packed_vfree_found, packed_mmap, packed_munmap, packed_munmap_found, packed_find_free, search_leftovers, ProtectParts, protect_parts, protect_packed, packed_mprotect}
 
 -- what is worked out for a call beside its parts
@@ -62,62 +62,62 @@ all_three e f g = λ j. (e j, (f j, g j))
 -- ---- vmalloc and vfree
 
 module _ {A : Type 0} (form : Outcome → A) (line : A → Line) (call : Kernel → KernelDid) (words fields bits list : List ℕ) where
-  abbrev kernelLent : ListParts
-  kernelLent = list_parts words fields bits list
+  abbrev kernel_lent : ListParts
+  kernel_lent = list_parts words fields bits list
 
-  abbrev kernelSaid : Outcome → Line
-  kernelSaid a = line (form a)
+  abbrev kernel_said : Outcome → Line
+  kernel_said a = line (form a)
 
-  pub kernel_broken : {r : Line} → fields_fit fields ≡ false → r ≡ broken_line → parts_left r kernelLent ≡ on_kernel kernelSaid call kernelLent
+  pub kernel_broken : {r : Line} → fields_fit fields ≡ false → r ≡ broken_line → left r kernel_lent ≡ on_kernel kernel_said call kernel_lent
   unfolding on_kernel
-  kernel_broken h e = broken_left {ok = kernel_fit kernelLent} kernelLent _ (rw h refl) e
+  kernel_broken h e = broken_left {ok = kernel_fit kernel_lent} kernel_lent _ (rw h refl) e
 
-  pub kernel_met : kernelSaid (Stop broken_record) ≡ broken_line → {ws fs ls : List ℕ} (bs : List ℕ) {f g : FrameAllocator} {x : A} {r : Line}
+  pub kernel_met : kernel_said (Stop broken_record) ≡ broken_line → {ws fs ls : List ℕ} (bs : List ℕ) {f g : FrameAllocator} {x : A} {r : Line}
       → fields_fit fields ≡ true → Bytes fields → f ≡ fields_in fields
       → kept x (lent_memory ws bs g) ls ≡ on_vm_list form call (lent_memory words bits f) list
-      → r ≡ line x → fs ≡ fields_out g → parts_left r (list_parts ws fs bs ls) ≡ on_kernel kernelSaid call kernelLent
+      → r ≡ line x → fs ≡ fields_out g → left r (list_parts ws fs bs ls) ≡ on_kernel kernel_said call kernel_lent
   unfolding on_kernel on_vm_list
   kernel_met e =
       list_met line words fields bits list (λ (m : Memory). on_vm_list form call m list) (vm_fit list) (form (Stop broken_record))
-      (kept_kernel form (call (kernel_of_parts kernelLent))) e refl
+      (kept_kernel form (call (kernel_in kernel_lent))) e refl
 
   kernel_unchanged : (leftovers : List ℕ) → Bytes fields → Bytes list
-      → ((k : Kernel) → IsRefusal leftovers (kernelSaid (call k).answer).number → (call k).kernel ≡ k)
-      → Unchanged leftovers kernelLent (on_kernel kernelSaid call kernelLent)
+      → ((k : Kernel) → IsRefusal leftovers (kernel_said (call k).answer).number → (call k).kernel ≡ k)
+      → Unchanged leftovers kernel_lent (on_kernel kernel_said call kernel_lent)
   unfolding on_kernel
   kernel_unchanged leftovers b c law =
-      unchanged_left leftovers (kernel_fit kernelLent) kernelLent _ (λ fit n.
+      unchanged_left leftovers (kernel_fit kernel_lent) kernel_lent _ (λ fit n.
       let f = both_true (fields_fit fields) (vm_fit list) fit in
       ap kernel_packed (law _ n) ∙ (λ j. list_parts words (fields_same fields f.0 b j) bits (vm_back list f.1 c j)))
 
 -- ---- mmap and munmap
 
 module _ {A : Type 0} (form : Outcome → A) (line : A → Line) (call : User → UserDid) (words fields bits list : List ℕ) where
-  abbrev userLent : ListParts
-  userLent = list_parts words fields bits list
+  abbrev user_lent : ListParts
+  user_lent = list_parts words fields bits list
 
-  abbrev userSaid : Outcome → Line
-  userSaid a = line (form a)
+  abbrev user_said : Outcome → Line
+  user_said a = line (form a)
 
-  pub user_broken : {r : Line} → fields_fit fields ≡ false → r ≡ broken_line → parts_left r userLent ≡ on_user userSaid call userLent
+  pub user_broken : {r : Line} → fields_fit fields ≡ false → r ≡ broken_line → left r user_lent ≡ on_user user_said call user_lent
   unfolding on_user
-  user_broken h e = broken_left {ok = user_fit userLent} userLent _ (rw h refl) e
+  user_broken h e = broken_left {ok = user_fit user_lent} user_lent _ (rw h refl) e
 
-  pub user_met : userSaid (Stop broken_record) ≡ broken_line → {ws fs ls : List ℕ} (bs : List ℕ) {f g : FrameAllocator} {x : A} {r : Line}
+  pub user_met : user_said (Stop broken_record) ≡ broken_line → {ws fs ls : List ℕ} (bs : List ℕ) {f g : FrameAllocator} {x : A} {r : Line}
       → fields_fit fields ≡ true → Bytes fields → f ≡ fields_in fields
       → kept x (lent_memory ws bs g) ls ≡ on_mmap_list form call (lent_memory words bits f) list
-      → r ≡ line x → fs ≡ fields_out g → parts_left r (list_parts ws fs bs ls) ≡ on_user userSaid call userLent
+      → r ≡ line x → fs ≡ fields_out g → left r (list_parts ws fs bs ls) ≡ on_user user_said call user_lent
   unfolding on_user on_mmap_list
   user_met e =
       list_met line words fields bits list (λ (m : Memory). on_mmap_list form call m list) (mmap_fit list) (form (Stop broken_record))
-      (kept_user form (call (user_of_parts userLent))) e refl
+      (kept_user form (call (user_in user_lent))) e refl
 
   user_unchanged : (leftovers : List ℕ) → Bytes fields → Bytes list
-      → ((u : User) → IsRefusal leftovers (userSaid (call u).answer).number → (call u).user ≡ u)
-      → Unchanged leftovers userLent (on_user userSaid call userLent)
+      → ((u : User) → IsRefusal leftovers (user_said (call u).answer).number → (call u).user ≡ u)
+      → Unchanged leftovers user_lent (on_user user_said call user_lent)
   unfolding on_user
   user_unchanged leftovers b c law =
-      unchanged_left leftovers (user_fit userLent) userLent _ (λ fit n.
+      unchanged_left leftovers (user_fit user_lent) user_lent _ (λ fit n.
       let f = both_true (fields_fit fields) (mmap_fit list) fit in
       ap user_packed (law _ n) ∙ (λ j. list_parts words (fields_same fields f.0 b j) bits (mmap_back list f.1 c j)))
 
@@ -238,37 +238,37 @@ module _ (words fields bits list : List ℕ) (b : Bytes fields) (c : Bytes list)
 -- ---- mprotect
 
 module _ (words list : List ℕ) (start total levels root a size : ℕ) where
-  abbrev protectLent : ProtectParts
-  protectLent = protect_parts words list
+  abbrev protect_lent : ProtectParts
+  protect_lent = protect_parts words list
 
   -- a signed number that is passed on is z, what its bits read back
   pub mprotect_left : {prot z : ℤ} → z ≡ prot → {ws ls : List ℕ} {x : Answer} {r : Line} → protect_kept x ws ls ≡ mprotect_on levels words start total root list a size z → r ≡ answer_line x
-      → parts_left r (protect_parts ws ls) ≡ packed_mprotect protectLent start total levels root a size prot
+      → left r (protect_parts ws ls) ≡ packed_mprotect protect_lent start total levels root a size prot
   unfolding packed_mprotect mprotect_on
   mprotect_left {prot} q {ws} {ls} e f =
-      ap (λ (l : Line). parts_left l (protect_parts ws ls)) f ∙ ap said e ∙ ap (λ (y : ℤ). said (mprotect_on levels words start total root list a size y)) q ∙ by (mmap_fit list)
+      ap (λ (l : Line). left l (protect_parts ws ls)) f ∙ ap said e ∙ ap (λ (y : ℤ). said (mprotect_on levels words start total root list a size y)) q ∙ by (mmap_fit list)
     where
-      said : ProtectKept → PartsLeft ProtectParts
-      said k = parts_left (answer_line k.answer) (protect_parts k.words k.list)
+      said : ProtectKept → Left ProtectParts
+      said k = left (answer_line k.answer) (protect_parts k.words k.list)
 
       did : ProtectDid
       did = mprotect levels words start total root (mmap_in list) (next_in list) a size prot
 
       by : (fit : Bool) → said (unless fit (protect_kept (as_answer (Stop broken_record)) words list) (kept_protected did (next_in list)))
-          ≡ unless_fit fit protectLent (parts_left (plain_line did.answer) (protect_packed did (next_in list)))
+          ≡ unless_fit fit protect_lent (left (plain_line did.answer) (protect_packed did (next_in list)))
       by true = refl
       by false = refl
 
   -- its refusals: 10, 1, 2, 3 and 16
-  pub mprotect_refused : (prot : ℤ) → Bytes list → Unchanged no_leftovers protectLent (packed_mprotect protectLent start total levels root a size prot)
+  pub mprotect_refused : (prot : ℤ) → Bytes list → Unchanged no_leftovers protect_lent (packed_mprotect protect_lent start total levels root a size prot)
   unfolding packed_mprotect
   mprotect_refused prot b =
-      unchanged_left no_leftovers (mmap_fit list) protectLent _ (λ fit.
+      unchanged_left no_leftovers (mmap_fit list) protect_lent _ (λ fit.
       mprotect_cases levels words start total root (mmap_in list) (next_in list) a size prot Clean (λ _. kept fit) (λ _. kept fit) (λ _. kept fit) (λ _. kept fit) (λ _. kept fit)
       (λ _ _ _ _ _ n. absurd (n refl)))
     where
       Clean : ProtectDid → Type 0
-      Clean d = IsRefusal no_leftovers (plain_line d.answer).number → protect_packed d (next_in list) ≡ protectLent
+      Clean d = IsRefusal no_leftovers (plain_line d.answer).number → protect_packed d (next_in list) ≡ protect_lent
 
       kept : mmap_fit list ≡ true → {k : ℕ} → Clean (protect_did (Stop k) words (mmap_in list))
       kept fit n = ap (protect_parts words) (mmap_back list fit b)
@@ -279,12 +279,12 @@ module _ (list : List ℕ) (size old : ℕ) where
   abbrev regions : List MappedRegion
   regions = listed (mmap_in list)
 
-  pub search_broken : {r : Line} → sound_list list ≡ false → r ≡ broken_line → parts_left r old ≡ packed_find_free list size old
+  pub search_broken : {r : Line} → sound_list list ≡ false → r ≡ broken_line → left r old ≡ packed_find_free list size old
   search_broken h e = broken_left old _ h e
 
   pub search_met : {x : Searched} {r : Line} → sound_list list ≡ true → x ≡ searched regions (next_in list) size → r ≡ count_line x.outcome
-      → parts_left r x.compared ≡ packed_find_free list size old
-  search_met h e f = met_left old h (λ j. parts_left ((f ∙ ap (λ (x : Searched). count_line x.outcome) e) j) (e j).compared)
+      → left r x.compared ≡ packed_find_free list size old
+  search_met h e f = met_left old h (λ j. left ((f ∙ ap (λ (x : Searched). count_line x.outcome) e) j) (e j).compared)
 
   -- it is met, or it is 15
   pub search_unchanged : Unchanged search_leftovers old (packed_find_free list size old)

@@ -3,7 +3,7 @@ ghost use Rattle.std.specs.Prelude.{◌≡◌};
 ghost use Rattle.vmalloc.specs.Calls.{is_vmalloc_addr};
 ghost use Rattle.frame.specs.Found.{key_line, tally_of};
 ghost use Rattle.layout.specs.Memory.{list_parts};
-ghost use Rattle.layout.specs.Left.{parts_left, Unchanged, no_leftovers, region_leftovers};
+ghost use Rattle.layout.specs.Left.{left, Unchanged, no_leftovers, region_leftovers};
 ghost use Rattle.desk_regions.specs.Regions.{packed_vmalloc, packed_vfree, packed_vfree_found};
 
 use address::{Frame, VirtAddr};
@@ -20,10 +20,10 @@ pub extern "C" fn gadulnos_vmalloc(
     list: &mut [u8],
     size: u64,
 ) -> Line
-    ensures list_after { parts_left result (list_parts words.new fields.new bits.new list.new)
+    ensures list_after { left result (list_parts words.new fields.new bits.new list.new)
         ≡ packed_vmalloc (list_parts words.old fields.old bits.old list.old) root size }
     ensures refused { Unchanged region_leftovers (list_parts words.old fields.old bits.old list.old)
-        (parts_left result (list_parts words.new fields.new bits.new list.new)) }
+        (left result (list_parts words.new fields.new bits.new list.new)) }
 {
     if fields.len() != parts::FIELDS_SIZE {
         return parts::broken();
@@ -51,12 +51,12 @@ pub extern "C" fn gadulnos_vfree(
     list: &mut [u8],
     addr: u64,
 ) -> TallyLine
-    ensures list_after { parts_left (key_line result) (list_parts words.new fields.new bits.new list.new)
+    ensures list_after { left (key_line result) (list_parts words.new fields.new bits.new list.new)
         ≡ packed_vfree (list_parts words.old fields.old bits.old list.old) root addr }
     ensures result_value { tally_of result
         ≡ packed_vfree_found (list_parts words.old fields.old bits.old list.old) root addr }
     ensures refused { Unchanged no_leftovers (list_parts words.old fields.old bits.old list.old)
-        (parts_left (key_line result) (list_parts words.new fields.new bits.new list.new)) }
+        (left (key_line result) (list_parts words.new fields.new bits.new list.new)) }
 {
     if fields.len() != parts::FIELDS_SIZE {
         return parts::broken_tally();

@@ -2,7 +2,7 @@
 ghost use Rattle.std.specs.Prelude.{◌≡◌};
 ghost use Rattle.mmap.specs.Packed.{opt_addr};
 ghost use Rattle.frame.specs.Found.{key_line, tally_of};
-ghost use Rattle.layout.specs.Left.{parts_left, Unchanged, no_leftovers, region_leftovers};
+ghost use Rattle.layout.specs.Left.{left, Unchanged, no_leftovers, region_leftovers};
 ghost use Rattle.layout.specs.Memory.{list_parts};
 ghost use Rattle.desk_regions.specs.Regions.{packed_mmap, packed_munmap, packed_munmap_found, packed_find_free, search_leftovers, protect_parts, packed_mprotect};
 
@@ -24,10 +24,10 @@ pub extern "C" fn gadulnos_mmap(
     prot: i32,
     flags: i32,
 ) -> Line
-    ensures list_after { parts_left result (list_parts words.new fields.new bits.new list.new)
+    ensures list_after { left result (list_parts words.new fields.new bits.new list.new)
         ≡ packed_mmap (list_parts words.old fields.old bits.old list.old) root (opt_addr given addr) size prot flags }
     ensures refused { Unchanged region_leftovers (list_parts words.old fields.old bits.old list.old)
-        (parts_left result (list_parts words.new fields.new bits.new list.new)) }
+        (left result (list_parts words.new fields.new bits.new list.new)) }
 {
     if fields.len() != parts::FIELDS_SIZE {
         return parts::broken();
@@ -60,12 +60,12 @@ pub extern "C" fn gadulnos_munmap(
     addr: u64,
     size: u64,
 ) -> TallyLine
-    ensures list_after { parts_left (key_line result) (list_parts words.new fields.new bits.new list.new)
+    ensures list_after { left (key_line result) (list_parts words.new fields.new bits.new list.new)
         ≡ packed_munmap (list_parts words.old fields.old bits.old list.old) root addr size }
     ensures result_value { tally_of result
         ≡ packed_munmap_found (list_parts words.old fields.old bits.old list.old) root addr size }
     ensures refused { Unchanged no_leftovers (list_parts words.old fields.old bits.old list.old)
-        (parts_left (key_line result) (list_parts words.new fields.new bits.new list.new)) }
+        (left (key_line result) (list_parts words.new fields.new bits.new list.new)) }
 {
     if fields.len() != parts::FIELDS_SIZE {
         return parts::broken_tally();
@@ -89,8 +89,8 @@ pub extern "C" fn gadulnos_munmap(
 // The search of mmap.rs by itself, the size as it stands.
 #[unsafe(no_mangle)]
 pub extern "C" fn gadulnos_find_free_region(list: &[u8], size: u64, compared: &mut u64) -> Line
-    ensures compared_after { parts_left result compared.new ≡ packed_find_free list.now size compared.old }
-    ensures refused { Unchanged search_leftovers compared.old (parts_left result compared.new) }
+    ensures compared_after { left result compared.new ≡ packed_find_free list.now size compared.old }
+    ensures refused { Unchanged search_leftovers compared.old (left result compared.new) }
 {
     if !mappings::list::is_sound(list) {
         return parts::broken();
@@ -114,10 +114,10 @@ pub extern "C" fn gadulnos_mprotect(
     size: u64,
     prot: i32,
 ) -> Line
-    ensures list_after { parts_left result (protect_parts words.new list.new)
+    ensures list_after { left result (protect_parts words.new list.new)
         ≡ packed_mprotect (protect_parts words.old list.old) start total levels root addr size prot }
     ensures refused { Unchanged no_leftovers (protect_parts words.old list.old)
-        (parts_left result (protect_parts words.new list.new)) }
+        (left result (protect_parts words.new list.new)) }
 {
     answer::answer_line(mprotect::mprotect(
         words,

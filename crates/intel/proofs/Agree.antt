@@ -16,7 +16,7 @@ use Rattle.paging.specs.declared.Leaf.{Leaf}
 use Rattle.paging.specs.Walk.{place, entry_at, reach, judge, leaf, address}
 use Rattle.paging.specs.Calls.{translate}
 use Rattle.paging.proofs.Walk.{no_value, present_yes, present_no, entry_out, entry_in, reach_end, reach_stop, reach_on, leaf_stop, leaf_on}
-use Rattle.intel.specs.Sdm.{Paging, fourLevel, fiveLevel, bits, PhysicalMemory, Translation, physical, notPresent, reserved, large, choose, p, ps, table_of, page_at, through_pte, through_pde, through_pdpte, through_pml4e, through_pml5e, through_cr3, linear}
+use Rattle.intel.specs.Sdm.{Paging, four_level, five_level, bits, Memory, Translation, physical, not_present, reserved, large, choose, p, ps, table_of, page_at, through_pte, through_pde, through_pdpte, through_pml4e, through_pml5e, through_cr3, linear}
 use Rattle.intel.specs.Agreement.{paging_levels, Holds, NoHuge, as_translation, Agrees, SamePages, SameAbsent, ThreeOutcomes, OffBoard}
 use Rattle.intel.proofs.Steps.{not_outside, judge_plain, entry_outcomes, leaf_plain, plain_here, plain_below, outcomes}
 use Rattle.intel.proofs.Entries.{same_table, walk_is}
@@ -27,9 +27,9 @@ use Rattle.intel.proofs.Entries.{same_table, walk_is}
 abbrev Same : Translation → Outcome → Type 0
 Same m w = (w ≡ Stop outside → ⊥) → m ≡ as_translation w
 
-module _ (mem : PhysicalMemory) (ws : List ℕ) (start total v : ℕ) (holds : Holds mem ws start total) where
+module _ (mem : Memory) (ws : List ℕ) (start total v : ℕ) (holds : Holds mem ws start total) where
   -- At entry i of table t. `through e` is the manual's outcome from an entry e on, and `on e` the one behind it where it is present.
-  step : (through on : ℕ → Translation) (t i : ℕ) (is : List ℕ) → ((e : ℕ) → through e ≡ choose (p e) (on e) notPresent) → i < 512
+  step : (through on : ℕ → Translation) (t i : ℕ) (is : List ℕ) → ((e : ℕ) → through e ≡ choose (p e) (on e) not_present) → i < 512
       → ((e : ℕ) → entry_at ws start total t i ≡ Value e → Same (on e) (address v (judge is e (leaf ws start total (frame_of e) is))))
       → Same (through (mem (t * 2 ^ 12 + i * 2 ^ 3))) (address v (leaf ws start total t (i ∷ is)))
   step through on t i is law small behind stays = by-table (inside start total t) refl
@@ -37,7 +37,7 @@ module _ (mem : PhysicalMemory) (ws : List ℕ) (start total v : ℕ) (holds : H
       w : ℕ
       w = get_or ws (place start t i) 0
 
-      by_flag : inside start total t ≡ true → (x : Bool) → flag 0 w ≡ x → choose x (on w) notPresent ≡ as_translation (address v (leaf ws start total t (i ∷ is)))
+      by_flag : inside start total t ≡ true → (x : Bool) → flag 0 w ≡ x → choose x (on w) not_present ≡ as_translation (address v (leaf ws start total t (i ∷ is)))
       by_flag h true k =
           let e : entry_at ws start total t i ≡ Value w = entry_in ws start total t i h small ∙ present_yes w k in
           let l : leaf ws start total t (i ∷ is) ≡ judge is w (leaf ws start total (frame_of w) is) = leaf_on ws start total t refl w e in
@@ -57,7 +57,7 @@ module _ (mem : PhysicalMemory) (ws : List ℕ) (start total v : ℕ) (holds : H
 
   -- a table above, n levels over a page table: an entry with bit 7 is `other`, and any other one names a table below, for which the two are the same
   above : (through below : ℕ → Translation) (other : Translation) (n t : ℕ)
-      → ((e : ℕ) → through e ≡ choose (p e) (choose (ps e) other (below (table_of e))) notPresent)
+      → ((e : ℕ) → through e ≡ choose (p e) (choose (ps e) other (below (table_of e))) not_present)
       → ((s : ℕ) → NoHuge ws start total n s → Same (below s) (address v (leaf ws start total s (indices (suc n) v))))
       → NoHuge ws start total (suc n) t
       → Same (through (mem (t * 2 ^ 12 + index (suc n) v * 2 ^ 3))) (address v (leaf ws start total t (indices (suc (suc n)) v)))
@@ -86,8 +86,8 @@ module _ (mem : PhysicalMemory) (ws : List ℕ) (start total v : ℕ) (holds : H
   -- the table that CR3 names
   first : (paging : Paging) (cr3 t : ℕ) → table_of cr3 ≡ t → NoHuge ws start total (paging_levels paging - 1) t
       → Same (through_cr3 paging mem v cr3) (address v (leaf ws start total t (indices (paging_levels paging) v)))
-  first fourLevel cr3 t e = rw e (pml4 t)
-  first fiveLevel cr3 t e = rw e (pml5 t)
+  first four_level cr3 t e = rw e (pml4 t)
+  first five_level cr3 t e = rw e (pml5 t)
 
 -- ---- a walk that leaves the board
 
@@ -163,7 +163,7 @@ same_absent paging mem cr3 ws start total root v h stays =
           (⊎_elim (λ x. x) (λ x. absurd (stays x))) (three_outcomes paging ws start total root v h.whole),
     )
   where
-    mapped : (a : ℕ) → physical a ≡ notPresent → ⊥
+    mapped : (a : ℕ) → physical a ≡ not_present → ⊥
     mapped a e = let z : ◌≡◌ {A = ℕ} 0 1 = cc in omega arith
 
 pub off_board : OffBoard
@@ -172,5 +172,5 @@ off_board paging ws start total root v h n = rw (walk_is paging ws start total r
     exactly : (paging : Paging) → NoHuge ws start total (paging_levels paging - 1) root
         → (address v (leaf ws start total root (indices (paging_levels paging) v)) ≡ Stop outside)
         ↔ ((k : ℕ) × (t : ℕ) × (k < paging_levels paging) × (reach ws start total root (take k (indices (paging_levels paging) v)) ≡ Value t) × (inside start total t ≡ false))
-    exactly fourLevel = off ws start total v (index 3 v) (indices 3 v) root
-    exactly fiveLevel = off ws start total v (index 4 v) (indices 4 v) root
+    exactly four_level = off ws start total v (index 3 v) (indices 3 v) root
+    exactly five_level = off ws start total v (index 4 v) (indices 4 v) root

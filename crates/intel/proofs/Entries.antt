@@ -16,7 +16,7 @@ use Rattle.paging.specs.Walk.{place, entry_at, judge, leaf, address, may_walk}
 use Rattle.paging.specs.Calls.{lent_walk, translate}
 use Rattle.paging.proofs.Walk.{no_value, present_yes, present_no, entry_out, entry_in, leaf_stop, leaf_on}
 use Rattle.paging.proofs.Calls.{walk_by_lent, translate_is}
-use Rattle.intel.specs.Sdm.{Paging, fourLevel, fiveLevel, bits, PhysicalMemory, choose, p, ps, table_of, reading, read_pte, read_pde, read_pdpte, read_pml4e, read_pml5e, read_cr3, entries_read}
+use Rattle.intel.specs.Sdm.{Paging, four_level, five_level, bits, Memory, choose, p, ps, table_of, reading, read_pte, read_pde, read_pdpte, read_pml4e, read_pml5e, read_cr3, entries_read}
 use Rattle.intel.specs.Agreement.{paging_levels, Holds, NoHuge, ReadsOff}
 use Rattle.intel.proofs.Steps.{not_outside, judge_plain, plain_here, plain_below}
 
@@ -30,8 +30,8 @@ pub lent_is : (paging : Paging) (ws : List ℕ) (start total root : ℕ) → may
 lent_is paging ws start total root h = walk_by_lent (paging_levels paging) (length ws) start total root (known paging) ∙ h
   where
     known : (p : Paging) → is_levels (paging_levels p) ≡ true
-    known fourLevel = refl
-    known fiveLevel = refl
+    known four_level = refl
+    known five_level = refl
 
 -- the walk that a translation is there
 pub walk_is : (paging : Paging) (ws : List ℕ) (start total root v : ℕ) → may_walk (length ws) start total root ≡ true
@@ -42,7 +42,7 @@ walk_is paging ws start total root v h = translate_is (paging_levels paging) ws 
 abbrev pub at : ℕ → ℕ → ℕ
 at t i = t * 2 ^ 12 + i * 2 ^ 3
 
-module _ (mem : PhysicalMemory) (ws : List ℕ) (start total v : ℕ) (holds : Holds mem ws start total) where
+module _ (mem : Memory) (ws : List ℕ) (start total v : ℕ) (holds : Holds mem ws start total) where
   -- one of the addresses lies outside
   abbrev Off : List ℕ → Type 0
   Off rs = (a : ℕ) × Memᴰ a rs × (inside start total (a / 2 ^ 12) ≡ false)
@@ -129,8 +129,8 @@ module _ (mem : PhysicalMemory) (ws : List ℕ) (start total v : ℕ) (holds : H
   -- the table that CR3 names
   first : (paging : Paging) (cr3 t : ℕ) → table_of cr3 ≡ t → NoHuge ws start total (paging_levels paging - 1) t
       → Leaves t (indices (paging_levels paging) v) (read_cr3 paging mem v cr3)
-  first fourLevel cr3 t e = rw e (pml4 t)
-  first fiveLevel cr3 t e = rw e (pml5 t)
+  first four_level cr3 t e = rw e (pml4 t)
+  first five_level cr3 t e = rw e (pml5 t)
 
 pub reads_off : ReadsOff
 unfolding entries_read

@@ -19,16 +19,16 @@ use Rattle.paging.specs.Calls.{lent_walk, translate}
 use Rattle.paging.specs.Working.{verdict_of, rows_below}
 use Rattle.paging.specs.User.{user_rows, user_may}
 use Rattle.paging.proofs.Walk.{no_value}
-use Rattle.intel.specs.Sdm.{Paging, fourLevel, fiveLevel, bits, PhysicalMemory, physical, notPresent, notCanonical, width_of, or, canonical, linear}
+use Rattle.intel.specs.Sdm.{Paging, four_level, five_level, bits, Memory, physical, not_present, not_canonical, width_of, or, canonical, linear}
 use Rattle.intel.specs.Sdm.{through_pte, through_pde, through_pdpte, through_pml4e, through_pml5e, read_pte, read_pde, read_pdpte, read_pml4e, read_pml5e, entries_read}
-use Rattle.intel.specs.Sdm.{Access, dataRead, dataWrite, permitted, pageFault, generalProtection, largePage, user_access}
+use Rattle.intel.specs.Sdm.{Access, data_read, data_write, permitted, page_fault, general_protection, large_page, user_access}
 use Rattle.intel.proofs.Steps.{not_outside, entry_outcomes}
 use Rattle.intel.specs.Agreement.{paging_levels, Holds, NoHuge, Setting}
 use Rattle.intel.proofs.Agree.{same_pages, same_absent}
 use Rattle.intel.proofs.Rights.{user_yes}
 
 -- a physical memory that holds the words from frame `start` on
-abbrev pub memory_of : List ℕ → ℕ → PhysicalMemory
+abbrev pub memory_of : List ℕ → ℕ → Memory
 memory_of ws start a = get_or ws (place start (a / 2 ^ 12) (a % 2 ^ 12 / 2 ^ 3)) 0
 
 pub memory_holds : (ws : List ℕ) (start total : ℕ) → Holds (memory_of ws start) ws start total
@@ -57,20 +57,20 @@ either x a b = go (eqb x a) refl
 
 -- half of them
 abbrev pub half : Paging → ℕ
-half fourLevel = 2 ^ 47
-half fiveLevel = 2 ^ 56
+half four_level = 2 ^ 47
+half five_level = 2 ^ 56
 
 pub canonical_only : (paging : Paging) (v : ℕ) → v < 2 ^ 64 → canonical (width_of paging) v ≡ true → (v < half paging) ⊎ (2 ^ 64 - half paging ≤ v)
-canonical_only fourLevel v h c = ⊎_elim (λ (e : bits 63 47 v ≡ 0). inl (omega arith)) (λ e. inr (omega arith)) (either (bits 63 47 v) 0 (2 ^ 17 - 1) c)
-canonical_only fiveLevel v h c = ⊎_elim (λ (e : bits 63 56 v ≡ 0). inl (omega arith)) (λ e. inr (omega arith)) (either (bits 63 56 v) 0 (2 ^ 8 - 1) c)
+canonical_only four_level v h c = ⊎_elim (λ (e : bits 63 47 v ≡ 0). inl (omega arith)) (λ e. inr (omega arith)) (either (bits 63 47 v) 0 (2 ^ 17 - 1) c)
+canonical_only five_level v h c = ⊎_elim (λ (e : bits 63 56 v ≡ 0). inl (omega arith)) (λ e. inr (omega arith)) (either (bits 63 56 v) 0 (2 ^ 8 - 1) c)
 
 pub canonical_low : (paging : Paging) (v : ℕ) → v < half paging → canonical (width_of paging) v ≡ true
-canonical_low fourLevel v h = rw (eq-eqb (bits 63 47 v) 0 (omega arith))
-canonical_low fiveLevel v h = rw (eq-eqb (bits 63 56 v) 0 (omega arith))
+canonical_low four_level v h = rw (eq-eqb (bits 63 47 v) 0 (omega arith))
+canonical_low five_level v h = rw (eq-eqb (bits 63 56 v) 0 (omega arith))
 
 pub canonical_high : (paging : Paging) (v : ℕ) → 2 ^ 64 - half paging ≤ v → v < 2 ^ 64 → canonical (width_of paging) v ≡ true
-canonical_high fourLevel v l h = rw (ne_eqb (bits 63 47 v) 0 (λ e. omega arith), eq-eqb (bits 63 47 v) (2 ^ 17 - 1) (omega arith))
-canonical_high fiveLevel v l h = rw (ne_eqb (bits 63 56 v) 0 (λ e. omega arith), eq-eqb (bits 63 56 v) (2 ^ 8 - 1) (omega arith))
+canonical_high four_level v l h = rw (ne_eqb (bits 63 47 v) 0 (λ e. omega arith), eq-eqb (bits 63 47 v) (2 ^ 17 - 1) (omega arith))
+canonical_high five_level v l h = rw (ne_eqb (bits 63 56 v) 0 (λ e. omega arith), eq-eqb (bits 63 56 v) (2 ^ 8 - 1) (omega arith))
 
 -- ---- a board of one frame, 0x100, which is its own table at every level: entry 0 names the frame itself
 
@@ -107,33 +107,33 @@ setting w u paging v h = record {
 
 pub mapped : (paging : Paging) → linear paging (memory_of words 0x100) 0x10_0000 0x123 ≡ physical 0x10_0123
 unfolding translate lent_walk leaf entry_at present may_walk
-mapped fourLevel = (same_pages fourLevel _ _ _ _ _ _ _ (setting true false fourLevel 0x123 refl) no_value 0x10_0123).0 refl
-mapped fiveLevel = (same_pages fiveLevel _ _ _ _ _ _ _ (setting true false fiveLevel 0x123 refl) no_value 0x10_0123).0 refl
+mapped four_level = (same_pages four_level _ _ _ _ _ _ _ (setting true false four_level 0x123 refl) no_value 0x10_0123).0 refl
+mapped five_level = (same_pages five_level _ _ _ _ _ _ _ (setting true false five_level 0x123 refl) no_value 0x10_0123).0 refl
 
-pub absent : (paging : Paging) → linear paging (memory_of words 0x100) 0x10_0000 0x1123 ≡ notPresent
+pub absent : (paging : Paging) → linear paging (memory_of words 0x100) 0x10_0000 0x1123 ≡ not_present
 unfolding translate lent_walk leaf entry_at present may_walk
-absent fourLevel = (same_absent fourLevel _ _ _ _ _ _ _ (setting true false fourLevel 0x1123 refl) not_outside).0 refl
-absent fiveLevel = (same_absent fiveLevel _ _ _ _ _ _ _ (setting true false fiveLevel 0x1123 refl) not_outside).0 refl
+absent four_level = (same_absent four_level _ _ _ _ _ _ _ (setting true false four_level 0x1123 refl) not_outside).0 refl
+absent five_level = (same_absent five_level _ _ _ _ _ _ _ (setting true false five_level 0x1123 refl) not_outside).0 refl
 
 -- the entries that the first reads are one and the same, four times or five; the second's last is another one
 abbrev firsts : Paging → List ℕ → List ℕ
-firsts fourLevel last = 0x10_0000 ∷ 0x10_0000 ∷ 0x10_0000 ∷ last
-firsts fiveLevel last = 0x10_0000 ∷ 0x10_0000 ∷ 0x10_0000 ∷ 0x10_0000 ∷ last
+firsts four_level last = 0x10_0000 ∷ 0x10_0000 ∷ 0x10_0000 ∷ last
+firsts five_level last = 0x10_0000 ∷ 0x10_0000 ∷ 0x10_0000 ∷ 0x10_0000 ∷ last
 
 pub one_read : (paging : Paging) → entries_read paging (memory_of words 0x100) 0x10_0000 0x123 ≡ firsts paging (0x10_0000 ∷ [])
 unfolding entries_read read_pml5e read_pml4e read_pdpte read_pde read_pte
-one_read fourLevel = refl
-one_read fiveLevel = refl
+one_read four_level = refl
+one_read five_level = refl
 
 pub last_other : (paging : Paging) → entries_read paging (memory_of words 0x100) 0x10_0000 0x1123 ≡ firsts paging (0x10_0008 ∷ [])
 unfolding entries_read read_pml5e read_pml4e read_pdpte read_pde read_pte
-last_other fourLevel = refl
-last_other fiveLevel = refl
+last_other four_level = refl
+last_other five_level = refl
 
 -- bit 48 chooses among the entries of the first table with five levels; with four it makes an address that is not canonical
 pub first_other :
-    (entries_read fiveLevel (memory_of words 0x100) 0x10_0000 (2 ^ 48) ≡ 0x10_0008 ∷ [])
-    × (linear fourLevel (memory_of words 0x100) 0x10_0000 (2 ^ 48) ≡ notCanonical)
+    (entries_read five_level (memory_of words 0x100) 0x10_0000 (2 ^ 48) ≡ 0x10_0008 ∷ [])
+    × (linear four_level (memory_of words 0x100) 0x10_0000 (2 ^ 48) ≡ not_canonical)
 unfolding entries_read read_pml5e linear
 first_other = (refl, refl)
 
@@ -142,39 +142,39 @@ first_other = (refl, refl)
 -- the user's, and writable: permitted where our answer is yes
 pub writable : (access : Access) (paging : Paging) → user_access access paging (memory_of (words_of true true) 0x100) 0x10_0000 0x123 ≡ permitted
 unfolding lent_walk may_walk user_may user_rows rows_below verdict_of
-writable dataRead fourLevel = user_yes dataRead fourLevel _ _ _ _ _ _ _ (setting true true fourLevel 0x123 refl) refl
-writable dataRead fiveLevel = user_yes dataRead fiveLevel _ _ _ _ _ _ _ (setting true true fiveLevel 0x123 refl) refl
-writable dataWrite fourLevel = user_yes dataWrite fourLevel _ _ _ _ _ _ _ (setting true true fourLevel 0x123 refl) refl
-writable dataWrite fiveLevel = user_yes dataWrite fiveLevel _ _ _ _ _ _ _ (setting true true fiveLevel 0x123 refl) refl
+writable data_read four_level = user_yes data_read four_level _ _ _ _ _ _ _ (setting true true four_level 0x123 refl) refl
+writable data_read five_level = user_yes data_read five_level _ _ _ _ _ _ _ (setting true true five_level 0x123 refl) refl
+writable data_write four_level = user_yes data_write four_level _ _ _ _ _ _ _ (setting true true four_level 0x123 refl) refl
+writable data_write five_level = user_yes data_write five_level _ _ _ _ _ _ _ (setting true true five_level 0x123 refl) refl
 
 -- the user's, and not writable
 pub read_only : (paging : Paging) → let mem = memory_of (words_of false true) 0x100 in
-    (user_access dataRead paging mem 0x10_0000 0x123 ≡ permitted) × (user_access dataWrite paging mem 0x10_0000 0x123 ≡ pageFault)
+    (user_access data_read paging mem 0x10_0000 0x123 ≡ permitted) × (user_access data_write paging mem 0x10_0000 0x123 ≡ page_fault)
 unfolding user_access linear through_pml5e through_pml4e through_pdpte through_pde through_pte entries_read read_pml5e read_pml4e read_pdpte read_pde read_pte
-read_only fourLevel = (refl, refl)
-read_only fiveLevel = (refl, refl)
+read_only four_level = (refl, refl)
+read_only five_level = (refl, refl)
 
 -- a supervisor's
-pub supervisor : (access : Access) (paging : Paging) → user_access access paging (memory_of words 0x100) 0x10_0000 0x123 ≡ pageFault
+pub supervisor : (access : Access) (paging : Paging) → user_access access paging (memory_of words 0x100) 0x10_0000 0x123 ≡ page_fault
 unfolding user_access linear through_pml5e through_pml4e through_pdpte through_pde through_pte entries_read read_pml5e read_pml4e read_pdpte read_pde read_pte
-supervisor dataRead fourLevel = refl
-supervisor dataRead fiveLevel = refl
-supervisor dataWrite fourLevel = refl
-supervisor dataWrite fiveLevel = refl
+supervisor data_read four_level = refl
+supervisor data_read five_level = refl
+supervisor data_write four_level = refl
+supervisor data_write five_level = refl
 
 -- and the next page, which no entry maps
-pub unmapped : (access : Access) (paging : Paging) → user_access access paging (memory_of (words_of true true) 0x100) 0x10_0000 0x1123 ≡ pageFault
+pub unmapped : (access : Access) (paging : Paging) → user_access access paging (memory_of (words_of true true) 0x100) 0x10_0000 0x1123 ≡ page_fault
 unfolding user_access linear through_pml5e through_pml4e through_pdpte through_pde through_pte
-unmapped access fourLevel = refl
-unmapped access fiveLevel = refl
+unmapped access four_level = refl
+unmapped access five_level = refl
 
 -- and what the statements leave aside: an address that is not canonical, and a large page, by the second entry
-pub not_canonical : (access : Access) → user_access access fourLevel (memory_of words 0x100) 0x10_0000 (2 ^ 48) ≡ generalProtection
+pub not_canonical_lem : (access : Access) → user_access access four_level (memory_of words 0x100) 0x10_0000 (2 ^ 48) ≡ general_protection
 unfolding user_access linear
-not_canonical access = refl
+not_canonical_lem access = refl
 
-pub large_page : (access : Access) (paging : Paging)
-    → user_access access paging (memory_of (entry_of 0x10_0000 true true ∷ huge_entry_of 0x10_0000 true true ∷ replicate 510 0) 0x100) 0x10_0000 (2 ^ 21) ≡ largePage
+pub large_page_lem : (access : Access) (paging : Paging)
+    → user_access access paging (memory_of (entry_of 0x10_0000 true true ∷ huge_entry_of 0x10_0000 true true ∷ replicate 510 0) 0x100) 0x10_0000 (2 ^ 21) ≡ large_page
 unfolding user_access linear through_pml5e through_pml4e through_pdpte through_pde
-large_page access fourLevel = refl
-large_page access fiveLevel = refl
+large_page_lem access four_level = refl
+large_page_lem access five_level = refl

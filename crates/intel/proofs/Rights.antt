@@ -19,10 +19,10 @@ use Rattle.paging.specs.Working.{rows_below}
 use Rattle.paging.specs.User.{user_entry, user_rows, user_may}
 use Rattle.paging.proofs.Walk.{no_value, present_yes, entry_out, entry_in, leaf_stop}
 use Rattle.paging.proofs.User.{user_absent, user_none, user_last, user_on, may_is, user_rule}
-use Rattle.intel.specs.Sdm.{Paging, fourLevel, fiveLevel, bits, PhysicalMemory, Translation, physical, notPresent, reserved, large, notCanonical, choose, p, ps, table_of}
+use Rattle.intel.specs.Sdm.{Paging, four_level, five_level, bits, Memory, Translation, physical, not_present, reserved, large, not_canonical, choose, p, ps, table_of}
 use Rattle.intel.specs.Sdm.{through_pte, through_pde, through_pdpte, through_pml4e, through_pml5e, through_cr3, linear}
 use Rattle.intel.specs.Sdm.{reading, read_pte, read_pde, read_pdpte, read_pml4e, read_pml5e, read_cr3, entries_read}
-use Rattle.intel.specs.Sdm.{Access, dataRead, dataWrite, user_supervisor, read_write, in_every, permits, Accessed, permitted, pageFault, generalProtection, largePage, access_to, user_access}
+use Rattle.intel.specs.Sdm.{Access, data_read, data_write, user_supervisor, read_write, in_every, permits, Accessed, permitted, page_fault, general_protection, large_page, access_to, user_access}
 use Rattle.intel.specs.Agreement.{paging_levels, Holds, NoHuge, asks_write, is_permitted, UserAgrees, UserYes}
 use Rattle.intel.proofs.Steps.{leaf_plain, plain_here, plain_below}
 use Rattle.intel.proofs.Entries.{same_table, lent_is, walk_is, at}
@@ -31,12 +31,12 @@ use Rattle.intel.proofs.Entries.{same_table, lent_is, walk_is, at}
 
 -- the manual asks for one flag in every entry and then for the other, and we ask each entry for both
 permits_more : (access : Access) (e : ℕ) (es : List ℕ) → permits access (e ∷ es) ≡ both (user_entry (asks_write access) e) (permits access es)
-permits_more dataRead e es = one (user_supervisor e)
+permits_more data_read e es = one (user_supervisor e)
   where
     one : (u : Bool) → choose u (in_every user_supervisor es) false ≡ both (both u true) (in_every user_supervisor es)
     one true = refl
     one false = refl
-permits_more dataWrite e es = two (user_supervisor e) (read_write e) (in_every user_supervisor es) (in_every read_write es)
+permits_more data_write e es = two (user_supervisor e) (read_write e) (in_every user_supervisor es) (in_every read_write es)
   where
     two : (u w us ws : Bool) → choose (choose u us false) (choose w ws false) false ≡ both (both u w) (choose us ws false)
     two true true us ws = refl
@@ -45,21 +45,21 @@ permits_more dataWrite e es = two (user_supervisor e) (read_write e) (in_every u
     two false w us ws = refl
 
 permits_none : (access : Access) → permits access [] ≡ true
-permits_none dataRead = refl
-permits_none dataWrite = refl
+permits_none data_read = refl
+permits_none data_write = refl
 
 -- no translation permits what one of its entries does not
 may_both : (m : Translation) (a b : Bool) → is_permitted (access_to m (both a b)) ≡ both a (is_permitted (access_to m b))
 may_both m true b = refl
 may_both (physical x) false b = refl
-may_both notPresent false b = refl
+may_both not_present false b = refl
 may_both reserved false b = refl
 may_both large false b = refl
-may_both notCanonical false b = refl
+may_both not_canonical false b = refl
 
 -- ---- one table after the other, from the last level up
 
-module _ (access : Access) (mem : PhysicalMemory) (ws : List ℕ) (start total v : ℕ) (holds : Holds mem ws start total) where
+module _ (access : Access) (mem : Memory) (ws : List ℕ) (start total v : ℕ) (holds : Holds mem ws start total) where
   -- what the manual says, with a translation and the entries that it reads
   abbrev May : Translation → List ℕ → Bool
   May m rs = is_permitted (access_to m (permits access (map mem rs)))
@@ -86,7 +86,7 @@ module _ (access : Access) (mem : PhysicalMemory) (ws : List ℕ) (start total v
 
   -- At entry i of table t. `through e` is the manual's outcome from an entry e on, and `rest e` the addresses that are read behind it. `next` is the case of an entry
   -- that is present and permits the access.
-  step : (through : ℕ → Translation) (rest : ℕ → List ℕ) (t i : ℕ) (is : List ℕ) → i < 512 → ((e : ℕ) → p e ≡ false → through e ≡ notPresent)
+  step : (through : ℕ → Translation) (rest : ℕ → List ℕ) (t i : ℕ) (is : List ℕ) → i < 512 → ((e : ℕ) → p e ≡ false → through e ≡ not_present)
       → (flag 0 (word t i) ≡ true → entry_at ws start total t i ≡ Value (word t i) → user_entry (asks_write access) (word t i) ≡ true
       → Ours t (i ∷ is) ≡ May (through (word t i)) (rest (word t i)))
       → Stays t (i ∷ is) → Ours t (i ∷ is) ≡ May (through (mem (at t i))) (at t i ∷ rest (mem (at t i)))
@@ -116,7 +116,7 @@ module _ (access : Access) (mem : PhysicalMemory) (ws : List ℕ) (start total v
 
   -- a table above, n levels over a page table: an entry with bit 7 is `other`, and any other one names a table below, where the two are the same
   above : (through below : ℕ → Translation) (other : Translation) (behind : ℕ → List ℕ) (n t : ℕ)
-      → ((e : ℕ) → through e ≡ choose (p e) (choose (ps e) other (below (table_of e))) notPresent)
+      → ((e : ℕ) → through e ≡ choose (p e) (choose (ps e) other (below (table_of e))) not_present)
       → ((s : ℕ) → NoHuge ws start total n s → Stays s (indices (suc n) v) → Ours s (indices (suc n) v) ≡ May (below s) (behind s))
       → NoHuge ws start total (suc n) t → Stays t (indices (suc (suc n)) v)
       → Ours t (indices (suc (suc n)) v)
@@ -159,8 +159,8 @@ module _ (access : Access) (mem : PhysicalMemory) (ws : List ℕ) (start total v
   -- the table that CR3 names
   first : (paging : Paging) (cr3 t : ℕ) → table_of cr3 ≡ t → NoHuge ws start total (paging_levels paging - 1) t → Stays t (indices (paging_levels paging) v)
       → Ours t (indices (paging_levels paging) v) ≡ May (through_cr3 paging mem v cr3) (read_cr3 paging mem v cr3)
-  first fourLevel cr3 t e = rw e (pml4 t)
-  first fiveLevel cr3 t e = rw e (pml5 t)
+  first four_level cr3 t e = rw e (pml4 t)
+  first five_level cr3 t e = rw e (pml5 t)
 
 pub user_agrees : UserAgrees
 unfolding user_access linear entries_read
@@ -178,8 +178,8 @@ yes_stays access paging ws start total root v h may z =
     no_value (sym (walk_is paging ws start total root v h ∙ ap (address v) page.1) ∙ z)
   where
     reads : (a : Access) → user_may (paging_levels paging) ws start total root v (asks_write a) ≡ Flag true → user_may (paging_levels paging) ws start total root v false ≡ Flag true
-    reads dataRead e = e
-    reads dataWrite e = ((user_rule.write (paging_levels paging) ws start total root v (lent_is paging ws start total root h)).0 e).0
+    reads data_read e = e
+    reads data_write e = ((user_rule.write (paging_levels paging) ws start total root v (lent_is paging ws start total root h)).0 e).0
 
 pub user_yes : UserYes
 user_yes access paging mem cr3 ws start total root v h may =
@@ -189,6 +189,6 @@ user_yes access paging mem cr3 ws start total root v h may =
   where
     only : (x : Accessed) → is_permitted x ≡ true → x ≡ permitted
     only permitted e = refl
-    only pageFault e = absurd (false≢true e)
-    only generalProtection e = absurd (false≢true e)
-    only largePage e = absurd (false≢true e)
+    only page_fault e = absurd (false≢true e)
+    only general_protection e = absurd (false≢true e)
+    only large_page e = absurd (false≢true e)

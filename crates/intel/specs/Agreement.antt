@@ -14,18 +14,18 @@ use Rattle.answer.specs.declared.FlagAnswer.TheVariants.{Flag}
 use Rattle.paging.specs.Walk.{place, entry_at, reach, may_walk}
 use Rattle.paging.specs.Calls.{translate}
 use Rattle.paging.specs.User.{user_may}
-use Rattle.intel.specs.Sdm.{Paging, fourLevel, fiveLevel, PhysicalMemory, Translation, physical, notPresent, table_of, width_of, canonical, linear, entries_read}
-use Rattle.intel.specs.Sdm.{Access, dataRead, dataWrite, Accessed, permitted, pageFault, generalProtection, largePage, user_access}
+use Rattle.intel.specs.Sdm.{Paging, four_level, five_level, Memory, Translation, physical, not_present, table_of, width_of, canonical, linear, entries_read}
+use Rattle.intel.specs.Sdm.{Access, data_read, data_write, Accessed, permitted, page_fault, general_protection, large_page, user_access}
 
 -- ---- what the statements name
 
 -- the levels of tables, counted as our boards count them
 abbrev pub paging_levels : Paging → ℕ
-paging_levels fourLevel = 4
-paging_levels fiveLevel = 5
+paging_levels four_level = 4
+paging_levels five_level = 5
 
 -- Physical memory holds the lent words: entry i of lent frame t stands at address t × 4096 + i × 8.
-pub record Holds (mem : PhysicalMemory) (ws : List ℕ) (start total : ℕ) : Type 0 where
+pub record Holds (mem : Memory) (ws : List ℕ) (start total : ℕ) : Type 0 where
   pub word : (t i : ℕ) → inside start total t ≡ true → i < 512 → mem (t * 2 ^ 12 + i * 2 ^ 3) ≡ get_or ws (place start t i) 0
 
 -- No HUGE entry: a table to which fewer than `up` indices lead from the root has no present entry with bit 7. With one less than the levels of
@@ -36,21 +36,21 @@ pub record NoHuge (ws : List ℕ) (start total up root : ℕ) : Type 0 where
 -- The manual's word for our answer.
 abbrev pub as_translation : Outcome → Translation
 as_translation (Value a) = physical a
-as_translation (Stop n) = notPresent
+as_translation (Stop n) = not_present
 
 -- The question that an access is, and its answer: yes where the access is permitted.
 abbrev pub asks_write : Access → Bool
-asks_write dataRead = false
-asks_write dataWrite = true
+asks_write data_read = false
+asks_write data_write = true
 
 abbrev pub is_permitted : Accessed → Bool
 is_permitted permitted = true
-is_permitted pageFault = false
-is_permitted generalProtection = false
-is_permitted largePage = false
+is_permitted page_fault = false
+is_permitted general_protection = false
+is_permitted large_page = false
 
 -- What the statements ask: a record that is not broken (10), CR3 that names the root, memory that holds the words, no HUGE entry, and a canonical address.
-pub record Setting (paging : Paging) (mem : PhysicalMemory) (cr3 : ℕ) (ws : List ℕ) (start total root v : ℕ) : Type 0 where
+pub record Setting (paging : Paging) (mem : Memory) (cr3 : ℕ) (ws : List ℕ) (start total root v : ℕ) : Type 0 where
   pub whole : may_walk (length ws) start total root ≡ true
   pub base : table_of cr3 ≡ root
   pub holds : Holds mem ws start total
@@ -62,23 +62,23 @@ pub record Setting (paging : Paging) (mem : PhysicalMemory) (cr3 : ℕ) (ws : Li
 -- While the walk stays in lent frames, the manual's outcome is ours.
 abbrev pub Agrees : Type 0
 Agrees =
-    (paging : Paging) (mem : PhysicalMemory) (cr3 : ℕ) (ws : List ℕ) (start total root v : ℕ) → Setting paging mem cr3 ws start total root v
+    (paging : Paging) (mem : Memory) (cr3 : ℕ) (ws : List ℕ) (start total root v : ℕ) → Setting paging mem cr3 ws start total root v
     → (translate (paging_levels paging) ws start total root v ≡ Stop outside → ⊥)
     → linear paging mem cr3 v ≡ as_translation (translate (paging_levels paging) ws start total root v)
 
 -- So there we give an address exactly where the manual does, and the same one,
 abbrev pub SamePages : Type 0
 SamePages =
-    (paging : Paging) (mem : PhysicalMemory) (cr3 : ℕ) (ws : List ℕ) (start total root v : ℕ) → Setting paging mem cr3 ws start total root v
+    (paging : Paging) (mem : Memory) (cr3 : ℕ) (ws : List ℕ) (start total root v : ℕ) → Setting paging mem cr3 ws start total root v
     → (translate (paging_levels paging) ws start total root v ≡ Stop outside → ⊥)
     → (a : ℕ) → (translate (paging_levels paging) ws start total root v ≡ Value a) ↔ (linear paging mem cr3 v ≡ physical a)
 
 -- and 14, not mapped, exactly where the manual says that an entry is not present.
 abbrev pub SameAbsent : Type 0
 SameAbsent =
-    (paging : Paging) (mem : PhysicalMemory) (cr3 : ℕ) (ws : List ℕ) (start total root v : ℕ) → Setting paging mem cr3 ws start total root v
+    (paging : Paging) (mem : Memory) (cr3 : ℕ) (ws : List ℕ) (start total root v : ℕ) → Setting paging mem cr3 ws start total root v
     → (translate (paging_levels paging) ws start total root v ≡ Stop outside → ⊥)
-    → (translate (paging_levels paging) ws start total root v ≡ Stop not_mapped) ↔ (linear paging mem cr3 v ≡ notPresent)
+    → (translate (paging_levels paging) ws start total root v ≡ Stop not_mapped) ↔ (linear paging mem cr3 v ≡ not_present)
 
 -- No other number occurs: on a record that is not broken the answer is an address, 14 or 19, whatever the words are.
 abbrev pub ThreeOutcomes : Type 0
@@ -98,19 +98,19 @@ OffBoard =
 -- In the manual's terms: exactly where one of the entries that its translation reads stands outside the lent frames.
 abbrev pub ReadsOff : Type 0
 ReadsOff =
-    (paging : Paging) (mem : PhysicalMemory) (cr3 : ℕ) (ws : List ℕ) (start total root v : ℕ) → Setting paging mem cr3 ws start total root v
+    (paging : Paging) (mem : Memory) (cr3 : ℕ) (ws : List ℕ) (start total root v : ℕ) → Setting paging mem cr3 ws start total root v
     → (translate (paging_levels paging) ws start total root v ≡ Stop outside)
     ↔ ((a : ℕ) × Memᴰ a (entries_read paging mem cr3 v) × (inside start total (a / 2 ^ 12) ≡ false))
 
 -- ---- the user question: while the walk stays in lent frames, it is yes exactly where the manual permits the access
 abbrev pub UserAgrees : Type 0
 UserAgrees =
-    (access : Access) (paging : Paging) (mem : PhysicalMemory) (cr3 : ℕ) (ws : List ℕ) (start total root v : ℕ) → Setting paging mem cr3 ws start total root v
+    (access : Access) (paging : Paging) (mem : Memory) (cr3 : ℕ) (ws : List ℕ) (start total root v : ℕ) → Setting paging mem cr3 ws start total root v
     → (translate (paging_levels paging) ws start total root v ≡ Stop outside → ⊥)
     → user_may (paging_levels paging) ws start total root v (asks_write access) ≡ Flag (is_permitted (user_access access paging mem cr3 v))
 
 -- .. and wherever the walk goes, yes only where the manual permits the access.
 abbrev pub UserYes : Type 0
 UserYes =
-    (access : Access) (paging : Paging) (mem : PhysicalMemory) (cr3 : ℕ) (ws : List ℕ) (start total root v : ℕ) → Setting paging mem cr3 ws start total root v
+    (access : Access) (paging : Paging) (mem : Memory) (cr3 : ℕ) (ws : List ℕ) (start total root v : ℕ) → Setting paging mem cr3 ws start total root v
     → user_may (paging_levels paging) ws start total root v (asks_write access) ≡ Flag true → user_access access paging mem cr3 v ≡ permitted

@@ -21,15 +21,15 @@ use Rattle.paging.specs.Map.{Memory, Out}
 use Rattle.paging.specs.Calls.{as_changed}
 use Rattle.paging.specs.Kept.{Kept, kept, lent_memory}
 use Rattle.layout.specs.Parts.{fields_size, fields_in, fields_out, fields_fit}
-use Rattle.layout.specs.Left.{PartsLeft, parts_left, broken_line, unless_fit, IsRefusal, Unchanged}
+use Rattle.layout.specs.Left.{Left, left, broken_line, unless_fit, IsRefusal, Unchanged}
 use Rattle.layout.specs.Memory.{plain_line, MemoryParts, memory_parts, memory_in, memory_packed, ListParts, list_parts, list_packed, on_memory}
 use Rattle.layout.proofs.RoundTrip.{fields_back}
 
 -- the two ways of the test, for parts of any kind
-pub broken_left : {P : Type 0} {ok : Bool} (p : P) (did : PartsLeft P) {r : Line} → ok ≡ false → r ≡ broken_line → parts_left r p ≡ unless_fit ok p did
+pub broken_left : {P : Type 0} {ok : Bool} (p : P) (did : Left P) {r : Line} → ok ≡ false → r ≡ broken_line → left r p ≡ unless_fit ok p did
 broken_left p did h e = rw (h, e) refl
 
-pub met_left : {P : Type 0} {ok : Bool} (p : P) {did did' : PartsLeft P} → ok ≡ true → did ≡ did' → did ≡ unless_fit ok p did'
+pub met_left : {P : Type 0} {ok : Bool} (p : P) {did did' : Left P} → ok ≡ true → did ≡ did' → did ≡ unless_fit ok p did'
 met_left p h e = rw h e
 
 -- .. of a call that only answers
@@ -40,17 +40,17 @@ pub met_line_lem : {ok : Bool} {r l : Line} → ok ≡ true → r ≡ l → r �
 met_line_lem h e = rw h e
 
 -- a refusal leaves the parts as they were where they do not fit, and where the call does
-pub unchanged_left : {P : Type 0} (leftovers : List ℕ) (ok : Bool) (p : P) (did : PartsLeft P) → (ok ≡ true → Unchanged leftovers p did) → Unchanged leftovers p (unless_fit ok p did)
-unchanged_left {P} leftovers ok p did law = pick_cases (λ (d : PartsLeft P). Unchanged leftovers p d) ok did (parts_left broken_line p) law (λ _ _. refl)
+pub unchanged_left : {P : Type 0} (leftovers : List ℕ) (ok : Bool) (p : P) (did : Left P) → (ok ≡ true → Unchanged leftovers p did) → Unchanged leftovers p (unless_fit ok p did)
+unchanged_left {P} leftovers ok p did law = pick_cases (λ (d : Left P). Unchanged leftovers p d) ok did (left broken_line p) law (λ _ _. refl)
 
 -- the whole contract of a C function that writes: the one equation, and the clause of a refusal, by the law of its definition
-pub contract_met : {P : Type 0} (leftovers : List ℕ) {r : Line} {p q : P} {d : PartsLeft P} → parts_left r q ≡ d → Unchanged leftovers p d
-    → (parts_left r q ≡ d) × Unchanged leftovers p (parts_left r q)
+pub contract_met : {P : Type 0} (leftovers : List ℕ) {r : Line} {p q : P} {d : Left P} → left r q ≡ d → Unchanged leftovers p d
+    → (left r q ≡ d) × Unchanged leftovers p (left r q)
 contract_met {P} leftovers e h =
-    (e, λ n. ap (λ (d : PartsLeft P). d.parts) e ∙ h (subst (λ (d : PartsLeft P). IsRefusal leftovers d.line.number) e n))
+    (e, λ n. ap (λ (d : Left P). d.parts) e ∙ h (subst (λ (d : Left P). IsRefusal leftovers d.line.number) e n))
 
 -- .. where it has changed nothing
-pub contract_broken : {P : Type 0} (leftovers : List ℕ) {r : Line} {p : P} {d : PartsLeft P} → parts_left r p ≡ d → (parts_left r p ≡ d) × Unchanged leftovers p (parts_left r p)
+pub contract_broken : {P : Type 0} (leftovers : List ℕ) {r : Line} {p : P} {d : Left P} → left r p ≡ d → (left r p ≡ d) × Unchanged leftovers p (left r p)
 contract_broken leftovers e = (e, λ _. refl)
 
 -- the line of a call that frees, beside its tally
@@ -69,13 +69,13 @@ module _ (call : Memory → Out) (words fields bits : List ℕ) where
   abbrev lent : MemoryParts
   lent = memory_parts words fields bits
 
-  pub memory_broken : {r : Line} → fields_fit fields ≡ false → r ≡ broken_line → parts_left r lent ≡ on_memory call lent
+  pub memory_broken : {r : Line} → fields_fit fields ≡ false → r ≡ broken_line → left r lent ≡ on_memory call lent
   unfolding on_memory
   memory_broken h e = broken_left lent _ h e
 
   pub memory_met : {ws fs : List ℕ} (bs : List ℕ) {f : FrameAllocator} {x : Changed} {r : Line} → fields_fit fields ≡ true → f ≡ fields_in fields
       → let d = call (lent_memory words bits f) in (x ≡ as_changed d) × ((ws ≡ d.mem.words) × (marks_in bs ≡ d.mem.frames.bits))
-      → r ≡ answer_line x.answer → fs ≡ fields_out x.frames → parts_left r (memory_parts ws fs bs) ≡ on_memory call lent
+      → r ≡ answer_line x.answer → fs ≡ fields_out x.frames → left r (memory_parts ws fs bs) ≡ on_memory call lent
   unfolding on_memory
   memory_met bs h f (x, (w, y)) r fs =
       let same : ◌≡◌ {A = Out} (call (lent_memory words bits _)) (call (memory_in lent)) = λ j. call (lent_memory words bits (f j)) in
@@ -84,7 +84,7 @@ module _ (call : Memory → Out) (words fields bits : List ℕ) where
       let ws = w ∙ ap (λ (d : Out). d.mem.words) same in
       let fs = fs ∙ ap (λ (x : Changed). fields_out x.frames) p in
       let bs = y ∙ ap (λ (d : Out). d.mem.frames.bits) same in
-      met_left lent h (λ j. parts_left (l j) (record { words = ws j; fields = fs j; marks = bs j }))
+      met_left lent h (λ j. left (l j) (record { words = ws j; fields = fs j; marks = bs j }))
 
   pub memory_unchanged : (leftovers : List ℕ) → Bytes fields → ((m : Memory) → IsRefusal leftovers (plain_line (call m).walked).number → (call m).mem ≡ m)
       → Unchanged leftovers lent (on_memory call lent)
@@ -96,8 +96,8 @@ module _ (call : Memory → Out) (words fields bits : List ℕ) where
 
 module _ {A : Type 0} (line : A → Line) where
   -- what the call leaves, the frame record packed again
-  abbrev keptLeft : Kept A → PartsLeft ListParts
-  keptLeft k = parts_left (line k.answer) (list_packed k.mem k.list)
+  abbrev kept_left : Kept A → Left ListParts
+  kept_left k = left (line k.answer) (list_packed k.mem k.list)
 
   module _ (words fields bits list : List ℕ) (call : Memory → Kept A) where
     abbrev given : Memory
@@ -105,16 +105,16 @@ module _ {A : Type 0} (line : A → Line) where
 
     -- 10 of the list's own test is 10 of parts that do not fit
     list-tested : (ok : Bool) (refusal : A) (did : Kept A) → fields_fit fields ≡ true → Bytes fields → line refusal ≡ broken_line
-        → keptLeft (unless ok (kept refusal given list) did) ≡ unless_fit (both (fields_fit fields) ok) (list_parts words fields bits list) (keptLeft did)
+        → kept_left (unless ok (kept refusal given list) did) ≡ unless_fit (both (fields_fit fields) ok) (list_parts words fields bits list) (kept_left did)
     list-tested true refusal did fit b e = rw fit refl
     list-tested false refusal did fit b e =
         let f = fields_same fields fit b in
-        rw fit (λ j. parts_left (e j) (list_parts words (f j) bits list))
+        rw fit (λ j. left (e j) (list_parts words (f j) bits list))
 
     pub list_met : (ok : Bool) (refusal : A) (did : Kept A) → line refusal ≡ broken_line → call given ≡ unless ok (kept refusal given list) did
         → {ws fs ls : List ℕ} (bs : List ℕ) {f g : FrameAllocator} {x : A} {r : Line}
         → fields_fit fields ≡ true → Bytes fields → f ≡ fields_in fields → kept x (lent_memory ws bs g) ls ≡ call (lent_memory words bits f)
         → r ≡ line x → fs ≡ fields_out g
-        → parts_left r (list_parts ws fs bs ls) ≡ unless_fit (both (fields_fit fields) ok) (list_parts words fields bits list) (keptLeft did)
+        → left r (list_parts ws fs bs ls) ≡ unless_fit (both (fields_fit fields) ok) (list_parts words fields bits list) (kept_left did)
     list_met ok refusal did e c {ws = ws} {ls = ls} bs fit t f k r fs =
-        (λ j. parts_left (r j) (list_parts ws (fs j) bs ls)) ∙ ap keptLeft (k ∙ (λ j. call (lent_memory words bits (f j))) ∙ c) ∙ list-tested ok refusal did fit t e
+        (λ j. left (r j) (list_parts ws (fs j) bs ls)) ∙ ap kept_left (k ∙ (λ j. call (lent_memory words bits (f j))) ∙ c) ∙ list-tested ok refusal did fit t e

@@ -7,20 +7,20 @@ use Rattle.answer.specs.declared.Answer.TheVariants.{Refused}
 use Rattle.answer.specs.declared.Line.{Line}
 
 -- a line, and the parts afterwards
-pub record PartsLeft (Parts : Type 0) : Type 0 where
+pub record Left (Parts : Type 0) : Type 0 where
   pub line : Line
   pub parts : Parts
 
-abbrev pub parts_left : {Parts : Type 0} → Line → Parts → PartsLeft Parts
-parts_left l p = record { line = l; parts = p }
+abbrev pub left : {Parts : Type 0} → Line → Parts → Left Parts
+left l p = record { line = l; parts = p }
 
 -- what is told of parts that do not fit
 abbrev pub broken_line : Line
 broken_line = answer_line (Refused broken_record)
 
 -- 10 and nothing changed, unless the parts fit
-abbrev pub unless_fit : {Parts : Type 0} → Bool → Parts → PartsLeft Parts → PartsLeft Parts
-unless_fit fit p did = unless fit (parts_left broken_line p) did
+abbrev pub unless_fit : {Parts : Type 0} → Bool → Parts → Left Parts → Left Parts
+unless_fit fit p did = unless fit (left broken_line p) did
 
 -- ---- 'Leftovers; otherwise a refusal changes nothing'
 
@@ -30,7 +30,7 @@ IsRefusal [] n = n ≡ 0 → ⊥
 IsRefusal (k ∷ leftovers) n = (n ≡ k → ⊥) × IsRefusal leftovers n
 
 -- every part as it was, at such a number
-abbrev pub Unchanged : {Parts : Type 0} → List ℕ → Parts → PartsLeft Parts → Type 0
+abbrev pub Unchanged : {Parts : Type 0} → List ℕ → Parts → Left Parts → Type 0
 Unchanged leftovers p d = IsRefusal leftovers d.line.number → d.parts ≡ p
 
 -- no refusal of init, the start, mark_allocated, allocate_frame, deallocate_frame, unmap_page, vfree, munmap, mprotect, mark_cow and unmark_cow is listed under the leftovers

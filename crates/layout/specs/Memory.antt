@@ -7,7 +7,7 @@ use Rattle.bitmap.specs.Bitmap.{marks_in}
 use Rattle.answer.specs.declared.Outcome.{Outcome}
 use Rattle.paging.specs.Map.{Memory, memory, Out}
 use Rattle.layout.specs.Parts.{frames_in, fields_fit, fields_out}
-use Rattle.layout.specs.Left.{PartsLeft, parts_left, unless_fit}
+use Rattle.layout.specs.Left.{Left, left, unless_fit}
 
 -- the number and value of a walk's answer, for a call that hands back nothing
 abbrev pub plain_line : Outcome → Line
@@ -45,5 +45,5 @@ abbrev pub list_packed : Memory → List ℕ → ListParts
 list_packed m l = record { words = m.words; fields = fields_out m.frames.fa; marks = m.frames.bits; list = l }
 
 -- a call on the parts unpacked, and what it leaves packed again
-unfoldable pub on_memory : (Memory → Out) → MemoryParts → PartsLeft MemoryParts
-on_memory call p = unless_fit (fields_fit p.fields) p (parts_left (plain_line (call (memory_in p)).walked) (memory_packed (call (memory_in p)).mem))
+unfoldable pub on_memory : (Memory → Out) → MemoryParts → Left MemoryParts
+on_memory call p = unless_fit (fields_fit p.fields) p (left (plain_line (call (memory_in p)).walked) (memory_packed (call (memory_in p)).mem))

@@ -18,7 +18,7 @@ use paging::Entered;
 
 // How far a run of pages came: `done` of them are mapped.
 #[derive(Clone, Copy)]
-pub struct PagesRun {
+pub struct Run {
     pub walked: Outcome,
     pub done: u64,
     pub frames: FrameAllocator,
@@ -98,7 +98,7 @@ pub fn map_pages(
     n: u64,
     writable: bool,
     user: bool,
-) -> PagesRun
+) -> Run
     requires room_to_take { RoomToTake (lent_memory words.old bitmap.old frames) (n * most_levels) }
     requires n_bound { virt.0 + n * 4096 < 2 ^ 64 }
     requires up_le_most_above { up ≤ most_above }
@@ -121,7 +121,7 @@ pub fn map_pages(
         left = r.frames;
         match walked {
             Outcome::Stop(a) => {
-                return PagesRun {
+                return Run {
                     walked: Outcome::Stop(a),
                     done: i,
                     frames: left,
@@ -130,7 +130,7 @@ pub fn map_pages(
             Outcome::Value(_) => {}
         }
     }
-    PagesRun {
+    Run {
         walked: Outcome::Value(0),
         done: n,
         frames: left,

@@ -167,10 +167,10 @@ then_walked (Stop n) k j h = refl
 
 module _ (ws : List ℕ) (start total t i : ℕ) where
   -- what was read of an entry
-  abbrev readAt : Read
-  readAt = record { table = t; index = i; word = word_at ws start t i }
+  abbrev read_at : Read
+  read_at = record { table = t; index = i; word = word_at ws start t i }
 
-  entry_logged_in : inside start total t ≡ true → i < 512 → entry_logged ws start total t i ≡ logged (present (word_at ws start t i)) (readAt ∷ [])
+  entry_logged_in : inside start total t ≡ true → i < 512 → entry_logged ws start total t i ≡ logged (present (word_at ws start t i)) (read_at ∷ [])
   unfolding entry_logged
   entry_logged_in h k = rw (h, lt-ltb i 512 k)
 
@@ -181,7 +181,7 @@ module _ (ws : List ℕ) (start total t i : ℕ) where
   entry_walked : (entry_logged ws start total t i).walked ≡ entry_at ws start total t i
   unfolding entry_logged entry_at
   entry_walked =
-      let read : Logged Outcome = logged (present (word_at ws start t i)) (readAt ∷ []) in
+      let read : Logged Outcome = logged (present (word_at ws start t i)) (read_at ∷ []) in
       pick_walked (inside start total t) (pick (ltb i 512) read (logged (Stop not_mapped) [])) (logged (Stop outside) [])
       ∙ ap (λ (o : Outcome). pick (inside start total t) o (Stop outside)) (pick_walked (ltb i 512) read (logged (Stop not_mapped) []))
 
@@ -236,12 +236,12 @@ module _ (ws : List ℕ) (start total t i : ℕ) (is : List ℕ) (h : inside sta
   value : flag 0 here ≡ true → entry_at ws start total t i ≡ Value here
   value f = entry_in ws start total t i h k ∙ present_yes here f
 
-  value_logged : flag 0 here ≡ true → entry_logged ws start total t i ≡ logged (Value here) (readAt ws start total t i ∷ [])
-  value_logged f = entry_logged_in ws start total t i h k ∙ ap (λ o. logged o (readAt ws start total t i ∷ [])) (present_yes here f)
+  value_logged : flag 0 here ≡ true → entry_logged ws start total t i ≡ logged (Value here) (read_at ws start total t i ∷ [])
+  value_logged f = entry_logged_in ws start total t i h k ∙ ap (λ o. logged o (read_at ws start total t i ∷ [])) (present_yes here f)
 
   -- a row that is the last of all
   right_end : (v : Verdict) → verdict_of start total below here ≡ v → goes_on v ≡ false → by_verdict v here ≡ leaf ws start total t (i ∷ is)
-      → (leaf_logged ws start total t (i ∷ is)).reads ≡ readAt ws start total t i ∷ [] → Right ws start total t (i ∷ is)
+      → (leaf_logged ws start total t (i ∷ is)).reads ≡ read_at ws start total t i ∷ [] → Right ws start total t (i ∷ is)
   right_end v j g l r =
       let w = rows_end ws start total t refl (ap goes_on j ∙ g) in
       record {
@@ -264,8 +264,8 @@ module _ (ws : List ℕ) (start total t i : ℕ) (is : List ℕ) (h : inside sta
       record {
         ends = ap end_of w ∙ end_more row rest r.least ∙ r.ends ∙ sym (leaf_on ws start total t refl here (value n.0) ∙ judge_names is here _ n);
         reads =
-            ap (map read_of) w ∙ ap (λ rs. readAt ws start total t i ∷ rs) r.reads
-            ∙ sym (logged_on ws start total t refl here (value_logged n.0) ∙ ap (λ (l : Logged Leaf). readAt ws start total t i ∷ l.reads) (judge_logged_names is here _ n));
+            ap (map read_of) w ∙ ap (λ rs. read_at ws start total t i ∷ rs) r.reads
+            ∙ sym (logged_on ws start total t refl here (value_logged n.0) ∙ ap (λ (l : Logged Leaf). read_at ws start total t i ∷ l.reads) (judge_logged_names is here _ n));
         down = rw w (ap (λ ls. suc below ∷ ls) r.down);
         verdicts =
             rw w
@@ -284,8 +284,8 @@ module _ (ws : List ℕ) (start total t i : ℕ) (is : List ℕ) (h : inside sta
       right_end Outside (verdict_outside start total below here n j) refl
       (sym (leaf_on ws start total t refl here (value n.0) ∙ judge_names is here _ n ∙ leaf_out ws start total (frame_of here) j is n.1))
       (logged_on ws start total t refl here (value_logged n.0)
-      ∙ ap (λ (l : Logged Leaf). readAt ws start total t i ∷ l.reads) (judge_logged_names is here _ n)
-      ∙ ap (λ rs. readAt ws start total t i ∷ rs) (logged_out ws start total (frame_of here) j is n.1))
+      ∙ ap (λ (l : Logged Leaf). read_at ws start total t i ∷ l.reads) (judge_logged_names is here _ n)
+      ∙ ap (λ rs. read_at ws start total t i ∷ rs) (logged_out ws start total (frame_of here) j is n.1))
 
   right_by : (0 < below → inside start total (frame_of here) ≡ true → Right ws start total (frame_of here) is) → Right ws start total t (i ∷ is)
   right_by on = by (case below here)
@@ -298,13 +298,13 @@ module _ (ws : List ℕ) (start total t i : ℕ) (is : List ℕ) (h : inside sta
       by (absent f) =
           right_end Absent (verdict_absent start total below here f) refl
           (sym (leaf_stop ws start total t refl not_mapped (entry_in ws start total t i h k ∙ present_no here f)))
-          (logged_stop ws start total t refl not_mapped (entry_logged_in ws start total t i h k ∙ ap (λ o. logged o (readAt ws start total t i ∷ [])) (present_no here f)))
+          (logged_stop ws start total t refl not_mapped (entry_logged_in ws start total t i h k ∙ ap (λ o. logged o (read_at ws start total t i ∷ [])) (present_no here f)))
       by (last f z) =
           right_end Last (verdict_last start total below here f z) refl (sym (leaf_on ws start total t refl here (value f) ∙ judge_last is here _ z))
-          (logged_on ws start total t refl here (value_logged f) ∙ ap (λ (l : Logged Leaf). readAt ws start total t i ∷ l.reads) (judge_logged_last is here _ z))
+          (logged_on ws start total t refl here (value_logged f) ∙ ap (λ (l : Logged Leaf). read_at ws start total t i ∷ l.reads) (judge_logged_last is here _ z))
       by (large f o g) =
           right_end LargePage (verdict_large start total below here f o g) refl (sym (leaf_on ws start total t refl here (value f) ∙ judge_one is here _ o ∙ rw g))
-          (logged_on ws start total t refl here (value_logged f) ∙ ap (λ (l : Logged Leaf). readAt ws start total t i ∷ l.reads) (judge_logged_large is here _ o g))
+          (logged_on ws start total t refl here (value_logged f) ∙ ap (λ (l : Logged Leaf). read_at ws start total t i ∷ l.reads) (judge_logged_large is here _ o g))
       by (names n) = follow n (inside start total (frame_of here)) refl
 
 pub right : (ws : List ℕ) (start total v n t : ℕ) → inside start total t ≡ true → Right ws start total t (indices (suc n) v)

@@ -4,7 +4,7 @@ use Rattle.answer.specs.declared.Line.{Line}
 use Rattle.mmap.specs.Packed.{opt_addr}
 use Rattle.board.specs.Board.{Board}
 use Rattle.release.specs.Calls.{vmalloc_call, vfree_call, mmap_call, munmap_call}
-use Rattle.trace.specs.Trace.{AnyCall, region_call, faultCall, translateCall}
+use Rattle.trace.specs.Trace.{AnyCall, region_call, fault_call, translate_call}
 use Rattle.trace.specs.Trace.{play as play_any}
 use Rattle.tape.specs.declared.Call.{Call}
 use Rattle.tape.specs.declared.Call.TheVariants.{Vmalloc, Vfree, Mmap, Munmap, Fault, Translate}
@@ -24,8 +24,8 @@ any_call (Vmalloc n) = region_call (vmalloc_call n)
 any_call (Vfree a) = region_call (vfree_call a)
 any_call (Mmap c) = region_call (mmap_call (opt_addr c.given c.addr) c.size c.prot c.flags)
 any_call (Munmap c) = region_call (munmap_call c.addr c.size)
-any_call (Fault c) = faultCall c.addr c.code
-any_call (Translate a) = translateCall a
+any_call (Fault c) = fault_call c.addr c.code
+any_call (Translate a) = translate_call a
 
 abbrev pub play : Board → Call → Turn
 play b c = turn (kind_of c) (play_any b (any_call c)).line (play_any b (any_call c)).board

@@ -14,10 +14,10 @@ use Rattle.bits.specs.Bit.{pick, unless}
 use Rattle.board.specs.Board.{Board}
 use Rattle.streams.specs.declared.Source.TheVariants.{Open, Closed}
 use Rattle.streams.specs.declared.Input.{Input}
-use Rattle.streams.specs.Streams.{left_of, Refilled, kept_text, readable}
+use Rattle.streams.specs.Streams.{left_of, Refilled, kept, readable}
 use Rattle.turn.specs.declared.Stage.{Stage}
 use Rattle.turn.specs.declared.Stage.TheVariants.{Going, Unread, Unwritten, TooLong}
-use Rattle.turn.specs.Run.{Run, run, step, goes, step_if_going}
+use Rattle.turn.specs.Run.{Run, run, step, goes, turn}
 use Rattle.runner.specs.Loop.{stage_of, Turned, TurnedBy}
 
 -- ---- what a refill takes from the reader
@@ -44,12 +44,12 @@ module _ (old new : List ℕ) (i r : Input) (b : Board) (text : List ℕ) (s : S
   joined : left_of new r ≡ left_of old i ++ rest
   joined = sym (take-append-drop (i.filled - i.at) (left_of new r)) ∙ ap (λ (x : List ℕ). x ++ rest) ok.front
 
-  pub turned : (put : List ℕ) (read written : Bool) (stage : Stage) (after : Run) → put ≡ kept_text text → read ≡ readable r.source → stage ≡ stage_of read written r.offset
-      → after ≡ step_if_going (run (left_of new r) r.offset b put stage) → Turned i.source (run (left_of old i) i.offset b text s) r.source after
+  pub turned : (put : List ℕ) (read written : Bool) (stage : Stage) (after : Run) → put ≡ kept text → read ≡ readable r.source → stage ≡ stage_of read written r.offset
+      → after ≡ turn (run (left_of new r) r.offset b put stage) → Turned i.source (run (left_of old i) i.offset b text s) r.source after
   turned put read written stage after e f g h = record {
     more = rest;
     written = written;
-    stepped = h ∙ (λ j. step_if_going (run (joined j) (ok.offset j) b (e j) ((g ∙ (λ k. stage_of (f k) written (ok.offset k))) j)));
+    stepped = h ∙ (λ j. turn (run (joined j) (ok.offset j) b (e j) ((g ∙ (λ k. stage_of (f k) written (ok.offset k))) j)));
     enough = λ o. omega (arith, ok.enough o, ap length joined);
     closed = λ o. (none o, (ok.closed o).1);
   }
@@ -57,8 +57,8 @@ module _ (old new : List ℕ) (i r : Input) (b : Board) (text : List ℕ) (s : S
       none : (i.source ≡ Open → ⊥) → rest ≡ []
       none o = empty rest (omega (arith, ap length joined, ap length (ok.closed o).0, length-append (left_of old i) rest))
 
-  pub turned_by : (put : List ℕ) (read written : Bool) (stage : Stage) (after : Run) → put ≡ kept_text text → read ≡ readable r.source → stage ≡ stage_of read written r.offset
-      → after ≡ step_if_going (run (left_of new r) r.offset b put stage) → (had has held got : Option (List ℕ))
+  pub turned_by : (put : List ℕ) (read written : Bool) (stage : Stage) (after : Run) → put ≡ kept text → read ≡ readable r.source → stage ≡ stage_of read written r.offset
+      → after ≡ turn (run (left_of new r) r.offset b put stage) → (had has held got : Option (List ℕ))
       → Keeps (prepend_known (left_of old i) had) (prepend_known (left_of new r) has) → ((i.source ≡ Closed → IsAtEnd had) → r.source ≡ Closed → IsAtEnd has)
       → (written ≡ true → Keeps (append_known held text) (append_known got put))
       → TurnedBy i.source (run (left_of old i) i.offset b text s) r.source after had has held got
@@ -70,15 +70,15 @@ module _ (old new : List ℕ) (i r : Input) (b : Board) (text : List ℕ) (s : S
     put = λ w. subst (λ (t : List ℕ). Keeps (append_known held text) (append_known got t)) e (wrote w);
   }
 
-pub turn_stays : (r : Run) → goes r.stage ≡ false → r ≡ step_if_going r
-unfolding step_if_going
+pub turn_stays : (r : Run) → goes r.stage ≡ false → r ≡ turn r
+unfolding turn
 turn_stays r e = sym (ap (λ (t : Bool). pick t (step r) r) e)
 
-pub turn_steps : (r : Run) → goes r.stage ≡ true → step r ≡ step_if_going r
-unfolding step_if_going
+pub turn_steps : (r : Run) → goes r.stage ≡ true → step r ≡ turn r
+unfolding turn
 turn_steps r e = sym (ap (λ (t : Bool). pick t (step r) r) e)
 
-pub stepped_to : (after r : Run) → after ≡ step r → goes r.stage ≡ true → after ≡ step_if_going r
+pub stepped_to : (after r : Run) → after ≡ step r → goes r.stage ≡ true → after ≡ turn r
 stepped_to after r e g = e ∙ turn_steps r g
 
 -- a turn is played behind 2^63 bytes at most

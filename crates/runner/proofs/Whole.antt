@@ -23,9 +23,9 @@ use Rattle.streams.specs.declared.Source.{Source}
 use Rattle.streams.specs.declared.Source.TheVariants.{Open, Closed, Failed}
 use Rattle.turn.specs.declared.Stage.{Stage}
 use Rattle.turn.specs.declared.Stage.TheVariants.{Going, Ended, Unread, Unwritten, TooLong}
-use Rattle.turn.specs.Run.{Run, run, tape_word, with_turn, step_by, step, goes, step_if_going, tape_begun, turns}
-use Rattle.streams.specs.Streams.{kept_text, readable}
-use Rattle.runner.specs.Loop.{stage_of, Turned, told, LoopEnd, TurnedBy, StandsAt, LoopEndBy}
+use Rattle.turn.specs.Run.{Run, run, tape_word, played, step_by, step, goes, turn, begun, turns}
+use Rattle.streams.specs.Streams.{kept, readable}
+use Rattle.runner.specs.Loop.{stage_of, Turned, told, Ran, TurnedBy, StandsAt, LoopEndBy}
 use Rattle.streams.proofs.Buffers.{shut, broken}
 use Rattle.runner.proofs.Steps.{turn_stays, turn_steps, short, no}
 
@@ -41,7 +41,7 @@ step_behind : (r : Run) (m : List ℕ) → next (r.left ++ m) ≡ next r.left �
 unfolding step
 step_behind r m e = ap (step_by (behind r m)) e ∙ by (next r.left) refl
   where
-    bytes : (t : Turn) (size : ℕ) → size ≤ length r.left → with_turn (behind r m) size t ≡ behind (with_turn r size t) m
+    bytes : (t : Turn) (size : ℕ) → size ≤ length r.left → played (behind r m) size t ≡ behind (played r size t) m
     bytes t size h =
         ap (λ (l : List ℕ). run l (r.offset + size) t.board (r.text ++ line_text t.kind t.line) Going) (drop-append-le size r.left m h)
 
@@ -54,7 +54,7 @@ step_front : (w : List ℕ) (r : Run) → step (in_front w r) ≡ in_front w (st
 unfolding step
 step_front w r = by (next r.left)
   where
-    lines : (t : Turn) (size : ℕ) → with_turn (in_front w r) size t ≡ in_front w (with_turn r size t)
+    lines : (t : Turn) (size : ℕ) → played (in_front w r) size t ≡ in_front w (played r size t)
     lines t size =
         ap (λ (x : List ℕ). run (drop size r.left) (r.offset + size) t.board x Going) (append_assoc w r.text (line_text t.kind t.line))
 
@@ -113,19 +113,19 @@ pub record Held (b : Board) (s : Source) (now : Run) : Type 0 where
   pub text : List ℕ
   pub count : ℕ
   pub stands : (m : List ℕ) → ((s ≡ Open → ⊥) → m ≡ [])
-      → turns count (tape_begun b (tape ++ m)) ≡ run (now.left ++ m) now.offset now.board (text ++ now.text) (told now.stage)
+      → turns count (begun b (tape ++ m)) ≡ run (now.left ++ m) now.offset now.board (text ++ now.text) (told now.stage)
 
 pub held_none : (b : Board) → Held b Open (run [] 0 b [] Going)
 unfolding turns
 held_none b = record { tape = []; text = []; count = 0; stands = λ m _. refl }
 
-pub held_ran : (b : Board) (s : Source) (now : Run) → Held b s now → LoopEnd b now
+pub held_ran : (b : Board) (s : Source) (now : Run) → Held b s now → Ran b now
 held_ran b s now h = record {
   tape = h.tape;
   text = h.text;
   count = h.count;
   stands =
-      ap (λ (l : List ℕ). turns h.count (tape_begun b l)) (sym (append-nil h.tape)) ∙ h.stands [] (λ _. refl)
+      ap (λ (l : List ℕ). turns h.count (begun b l)) (sym (append-nil h.tape)) ∙ h.stands [] (λ _. refl)
       ∙ ap (λ (l : List ℕ). run l now.offset now.board (h.text ++ now.text) (told now.stage)) (append-nil now.left);
 }
 
@@ -133,7 +133,7 @@ held_ran b s now h = record {
 abbrev gone_text : List ℕ → List ℕ
 gone_text t = pick (leb (length t) 65472) [] t
 
-gone_kept : (t : List ℕ) → t ≡ gone_text t ++ kept_text t
+gone_kept : (t : List ℕ) → t ≡ gone_text t ++ kept t
 gone_kept t = by (leb (length t) 65472)
   where
     by : (x : Bool) → t ≡ pick x [] t ++ pick x t []
@@ -144,7 +144,7 @@ gone_kept t = by (leb (length t) 65472)
 
 module _ (s t : Source) (now after : Run) (u : Turned s now t after) where
   abbrev ready : Stage → Run
-  ready x = run (now.left ++ u.more) now.offset now.board (kept_text now.text) x
+  ready x = run (now.left ++ u.more) now.offset now.board (kept now.text) x
 
   abbrev met : Stage
   met = stage_of (readable t) u.written now.offset
@@ -153,8 +153,8 @@ module _ (s t : Source) (now after : Run) (u : Turned s now t after) where
   abbrev Behind : List ℕ → Type 0
   Behind m = (t ≡ Open → ⊥) → m ≡ []
 
-  texts : (w : List ℕ) → w ++ now.text ≡ (w ++ gone_text now.text) ++ kept_text now.text
-  texts w = ap (λ (x : List ℕ). w ++ x) (gone_kept now.text) ∙ sym (append_assoc w (gone_text now.text) (kept_text now.text))
+  texts : (w : List ℕ) → w ++ now.text ≡ (w ++ gone_text now.text) ++ kept now.text
+  texts w = ap (λ (x : List ℕ). w ++ x) (gone_kept now.text) ∙ sym (append_assoc w (gone_text now.text) (kept now.text))
 
   same : (m : List ℕ) → Behind m → next ((now.left ++ u.more) ++ m) ≡ next (now.left ++ u.more)
   same m ok = by t refl
@@ -168,7 +168,7 @@ module _ (s t : Source) (now after : Run) (u : Turned s now t after) where
       by Failed e = all (ok (λ o. broken (sym e ∙ o)))
 
   -- the step itself
-  stepped : (w m : List ℕ) → Behind m → step_if_going (in_front w (behind (ready Going) m)) ≡ in_front w (behind (step (ready Going)) m)
+  stepped : (w m : List ℕ) → Behind m → turn (in_front w (behind (ready Going) m)) ≡ in_front w (behind (step (ready Going)) m)
   stepped w m ok =
       sym (turn_steps (in_front w (behind (ready Going) m)) refl) ∙ step_front w (behind (ready Going) m)
       ∙ ap (in_front w) (step_behind (ready Going) m (same m ok))
@@ -195,9 +195,9 @@ module _ (s t : Source) (now after : Run) (u : Turned s now t after) where
 module _ (b : Board) (s t : Source) (now after : Run) (h : Held b s now) (g : now.stage ≡ Going) (u : Turned s now t after) where
   -- the run of all that was read, before the step
   before : (m : List ℕ) → Behind s t now after u m
-      → turns h.count (tape_begun b ((h.tape ++ u.more) ++ m)) ≡ in_front (h.text ++ gone_text now.text) (behind (ready s t now after u Going) m)
+      → turns h.count (begun b ((h.tape ++ u.more) ++ m)) ≡ in_front (h.text ++ gone_text now.text) (behind (ready s t now after u Going) m)
   before m ok =
-      ap (λ (l : List ℕ). turns h.count (tape_begun b l)) (append_assoc h.tape u.more m) ∙ h.stands (u.more ++ m) none
+      ap (λ (l : List ℕ). turns h.count (begun b l)) (append_assoc h.tape u.more m) ∙ h.stands (u.more ++ m) none
       ∙ (λ j. run (sym (append_assoc now.left u.more m) j) now.offset now.board (texts s t now after u h.text j) (told (g j)))
     where
       none : (s ≡ Open → ⊥) → u.more ++ m ≡ []
@@ -215,7 +215,7 @@ module _ (b : Board) (s t : Source) (now after : Run) (h : Held b s now) (g : no
             text = h.text ++ gone_text now.text;
             count = suc h.count;
             stands = λ m ok.
-                ap step_if_going (before m ok) ∙ stepped s t now after u (h.text ++ gone_text now.text) m ok
+                ap turn (before m ok) ∙ stepped s t now after u (h.text ++ gone_text now.text) m ok
                 ∙ ap (λ (x : Stage). run (one.left ++ m) one.offset one.board ((h.text ++ gone_text now.text) ++ one.text) x) (sym (told_step (ready s t now after u Going)));
           })
       by false e =
@@ -309,14 +309,14 @@ module _ (b : Board) (s t : Source) (now after : Run) (tape rest left held got h
       by (Some x) None p k = absurd p
       by (Some x) (Some z) p k =
           let one = step (ready s t now after u Going) in
-          ap step_if_going p ∙ stepped s t now after u w z (none z k)
+          ap turn p ∙ stepped s t now after u w z (none z k)
           ∙ ap (λ (m : Stage). run (one.left ++ z) one.offset one.board (w ++ one.text) m) (sym (told_step (ready s t now after u Going)))
 
   grown : u.written ≡ true → Appends held has (h.text ++ gone_text now.text)
   grown e =
       Appends-trans held got has h.text (gone_text now.text)
       (h.written (λ w. going_not_unread (sym g ∙ w)) (λ w. going_not_unwritten (sym g ∙ w)))
-      (gone_written got has (gone_text now.text) (kept_text now.text) now.text (gone_kept now.text) (v.put e))
+      (gone_written got has (gone_text now.text) (kept now.text) now.text (gone_kept now.text) (v.put e))
 
   pub held_by_turn : HeldBy b t after tape left held has
   held_by_turn = by (goes (met s t now after u)) refl

@@ -7,13 +7,13 @@ use Rattle.board.specs.Packed.{board_of}
 use Rattle.tape.specs.Text.{count_text}
 use Rattle.streams.specs.Streams.{frames_word}
 use Rattle.turn.specs.declared.Stage.TheVariants.{Ended}
-use Rattle.turn.specs.Run.{tape_begun, turns}
+use Rattle.turn.specs.Run.{begun, turns}
 
 -- The lines of the run that the tape comes to, and the last line: 'Last line: `frames` and the counter'.
 pub record IsKey (b : Board) (tape key : List ℕ) : Type 0 where
   pub count : ℕ
-  pub ended : (turns count (tape_begun b tape)).stage ≡ Ended
-  pub lines : let r = turns count (tape_begun b tape) in key ≡ r.text ++ count_text frames_word r.board.mem.frames.fa.allocated
+  pub ended : (turns count (begun b tape)).stage ≡ Ended
+  pub lines : let r = turns count (begun b tape) in key ≡ r.text ++ count_text frames_word r.board.mem.frames.fa.allocated
 
 -- A writer that held `held` got the key of the reader's tape; nothing is claimed where the reader's bytes or the writer's are not known.
 abbrev pub WritesKey : Board → Option (List ℕ) → Option (List ℕ) → Option (List ℕ) → Type 0

@@ -9,7 +9,7 @@ ghost use Rattle.tape.specs.Text.{count_text};
 ghost use Rattle.streams.specs.Streams.{frames_word};
 ghost use Rattle.turn.specs.Run.{goes, run_of};
 ghost use Rattle.runner.specs.Key.{WritesKey, first_board};
-ghost use Rattle.runner.specs.Loop.{stage_of, Turned, TurnedBy, LoopEnd, LoopEndBy};
+ghost use Rattle.runner.specs.Loop.{stage_of, Turned, TurnedBy, Ran, LoopEndBy};
 
 use address::Frame;
 use answer::Answer;
@@ -122,7 +122,7 @@ fn run<R: Read, W: Write>(
     fresh: Records,
 ) -> State
     requires { lists_fit kernel.old user.old marked.old ≡ true }
-    ensures loop_end { LoopEnd (board_of words.old bitmap.old kernel.old user.old marked.old fresh)
+    ensures loop_end { Ran (board_of words.old bitmap.old kernel.old user.old marked.old fresh)
         (run_of words.new bitmap.new kernel.new user.new marked.new
         buf.new out.new result) }
     ensures loop_end_by { LoopEndBy (board_of words.old bitmap.old kernel.old user.old marked.old fresh)

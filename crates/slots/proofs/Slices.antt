@@ -93,10 +93,10 @@ module _ {A : Type 0} (d : A) (l : List A) where
       one_less i h = omega arith
 
   -- down, from the front: slots up to j are moved, slot j still holds what it held
-  abbrev pub downTo : ℕ → ℕ → List A
-  downTo at j = take at l ++ (slice (at + 1) (j + 1) l ++ drop j l)
+  abbrev pub down_to : ℕ → ℕ → List A
+  down_to at j = take at l ++ (slice (at + 1) (j + 1) l ++ drop j l)
 
-  pub down_start : (at : ℕ) → l ≡ downTo at at
+  pub down_start : (at : ℕ) → l ≡ down_to at at
   down_start at = rw (slice_empty (at + 1) l) (sym (take-append-drop at l))
 
   module _ (at j : ℕ) (h : at ≤ j) (small : j < length l) where
@@ -109,26 +109,26 @@ module _ {A : Type 0} (d : A) (l : List A) where
         length-append (take at l) (slice (at + 1) (j + 1) l)
         ∙ omega (arith, length-take-le at l (omega arith), length-slice (at + 1) (j + 1) l (omega arith))
 
-    down-split : downTo at j ≡ front ++ drop j l
+    down-split : down_to at j ≡ front ++ drop j l
     unfolding front
     down-split = sym (append_assoc (take at l) (slice (at + 1) (j + 1) l) (drop j l))
 
-    down-set : (a : A) → set (downTo at j) j a ≡ take at l ++ (slice (at + 1) (j + 1) l ++ (a ∷ drop (j + 1) l))
+    down-set : (a : A) → set (down_to at j) j a ≡ take at l ++ (slice (at + 1) (j + 1) l ++ (a ∷ drop (j + 1) l))
     unfolding front
     down-set a = rw (down-split, set_between front j a small j front_length) (append_assoc (take at l) (slice (at + 1) (j + 1) l) (a ∷ drop (j + 1) l))
 
-    down-read : get_or (downTo at j) (j + 1) d ≡ get_or l (j + 1) d
+    down-read : get_or (down_to at j) (j + 1) d ≡ get_or l (j + 1) d
     down-read =
         ap (λ (xs : List A). get_or xs (j + 1) d) down-split
         ∙ subst (λ (k : ℕ). get_or (front ++ drop j l) (k + 1) d ≡ get_or l (j + 1) d) front_length
         (get_or-append-add front (drop j l) 1 d ∙ get_or-drop j l 1 d)
 
-    pub down_on : j + 1 < length l → {ys : List A} → ys ≡ downTo at j → set ys j (get_or ys (j + 1) d) ≡ downTo at (j + 1)
+    pub down_on : j + 1 < length l → {ys : List A} → ys ≡ down_to at j → set ys j (get_or ys (j + 1) d) ≡ down_to at (j + 1)
     down_on more e =
         rw (e, down-read, down-set (get_or l (j + 1) d), slice_snoc (at + 1) (j + 1) (omega arith) more)
         (ap (λ (xs : List A). take at l ++ xs) (sym (append_snoc (slice (at + 1) (j + 1) l) (get_or l (j + 1) d) (drop (j + 1) l))))
 
-    pub down_end : (blank : A) (end : ℕ) → end ≡ j + 1 → {ys : List A} → ys ≡ downTo at j → set ys (end - 1) blank ≡ shifted_down blank l at end
+    pub down_end : (blank : A) (end : ℕ) → end ≡ j + 1 → {ys : List A} → ys ≡ down_to at j → set ys (end - 1) blank ≡ shifted_down blank l at end
     unfolding shifted_down
     down_end blank end g e =
         let f : end - 1 ≡ j = omega arith in

@@ -8,7 +8,7 @@ use lib.ListN.{length, get_or, set, take, drop, replicate, length-append, length
 use lib.Seq.{slice, length-take-le, get_or-take, take-take, set_split, set-append_left}
 use Rattle.slots.specs.Slots.{Slots, slotted, store}
 use Rattle.slots.specs.Shifts.{put_in, taken_out, shifted_up, shifted_down}
-use Rattle.slots.proofs.Slices.{set_last, downTo, down_end}
+use Rattle.slots.proofs.Slices.{set_last, down_to, down_end}
 
 module _ {A : Type 0} (blank : A) (m : List A) (s : Slots A) where
   pub store_count : (store blank m s).count ≡ length m
@@ -93,7 +93,7 @@ module _ {A : Type 0} (blank : A) (l : List A) (n j : ℕ) where
         let long : length (take j (take n l) ++ a ∷ drop (suc j) (take n l)) ≡ n = simp (length-append, length-take, length-drop) (omega arith) in
         rw (store_same blank (take j (take n l) ++ a ∷ drop (suc j) (take n l)) (slotted l n) long, cut_whole blank l n j h k a, append_assoc)
 
-    pub stored_out : {ys : List A} → ys ≡ downTo blank l j (n - 1) → slotted (set ys (n - 1) blank) (n - 1) ≡ store blank (taken_out j (take n l)) (slotted l n)
+    pub stored_out : {ys : List A} → ys ≡ down_to blank l j (n - 1) → slotted (set ys (n - 1) blank) (n - 1) ≡ store blank (taken_out j (take n l)) (slotted l n)
     unfolding shifted_down
     stored_out e =
         let one : n - (n - 1) ≡ 1 = omega arith in

@@ -6,7 +6,7 @@ use native.Mathlib.Omega.{arith}
 use lib.ListN.{length, get_or, set, take}
 use Rattle.slots.specs.Slots.{Slots, slotted, listed, store}
 use Rattle.slots.specs.Shifts.{put_in, taken_out, shifted_up}
-use Rattle.slots.proofs.Slices.{up_start, up_on, downTo, down_start, down_on}
+use Rattle.slots.proofs.Slices.{up_start, up_on, down_to, down_start, down_on}
 use Rattle.slots.proofs.Stored.{stored_in, stored_out}
 
 -- a slot stored, where the slots before it are known
@@ -33,11 +33,11 @@ module _ {A : Type 0} (d : A) (s₀ : Slots A) where
 
   -- ---- down, from the front: slots up to j are moved
 
-  pub down_first : (at : ℕ) → s₀ ≡ slotted (downTo d l at at) n
+  pub down_first : (at : ℕ) → s₀ ≡ slotted (down_to d l at at) n
   down_first at = λ k. slotted (down_start d l at k) n
 
-  pub down_turn : (at j : ℕ) → at ≤ j → j + 1 < length l → (s t : Slots A) (a : A) → s ≡ slotted (downTo d l at j) n
-      → a ≡ get_or s.slots (j + 1) d → t ≡ slotted (set s.slots j a) s.count → t ≡ slotted (downTo d l at (j + 1)) n
+  pub down_turn : (at j : ℕ) → at ≤ j → j + 1 < length l → (s t : Slots A) (a : A) → s ≡ slotted (down_to d l at j) n
+      → a ≡ get_or s.slots (j + 1) d → t ≡ slotted (set s.slots j a) s.count → t ≡ slotted (down_to d l at (j + 1)) n
   down_turn at j g b s t a e f z =
       stored s t j a e z (ap (set s.slots j) f ∙ down_on d l at j g (omega arith) b (ap (λ (x : Slots A). x.slots) e))
 
@@ -51,9 +51,9 @@ module _ {A : Type 0} (d : A) (s₀ : Slots A) where
         ∙ stored_in d l m at a h k (ap (λ (w : Slots A). w.slots) x ∙ ap (λ (j : ℕ). shifted_up l j m) g)
         ∙ ap (λ (k : ℕ). store d (put_in at a (take k l)) (slotted l k)) e
 
-    pub down_stored : i ≡ m - 1 → at < m → m ≤ length l → s ≡ slotted (downTo d l at i) n → t ≡ slotted (set s.slots (m - 1) d) s.count
+    pub down_stored : i ≡ m - 1 → at < m → m ≤ length l → s ≡ slotted (down_to d l at i) n → t ≡ slotted (set s.slots (m - 1) d) s.count
         → u ≡ slotted t.slots (m - 1) → u ≡ store d (taken_out at (listed s₀)) s₀
     down_stored g h k x y z =
         z ∙ ap (λ (w : Slots A). slotted w.slots (m - 1)) y
-        ∙ stored_out d l m at h k (ap (λ (w : Slots A). w.slots) x ∙ ap (λ (j : ℕ). downTo d l at j) g)
+        ∙ stored_out d l m at h k (ap (λ (w : Slots A). w.slots) x ∙ ap (λ (j : ℕ). down_to d l at j) g)
         ∙ ap (λ (k : ℕ). store d (taken_out at (take k l)) (slotted l k)) e

@@ -60,15 +60,19 @@ readable Failed = false
 -- ---- the text
 
 -- what stays of the text that is put: all while there is room for a line of 64 bytes behind it, else it is written
-abbrev pub kept_text : List ℕ → List ℕ
-kept_text t = pick (leb (length t) 65472) t []
+abbrev pub kept : List ℕ → List ℕ
+kept t = pick (leb (length t) 65472) t []
+
+-- .. and what is written of it
+abbrev pub gone : List ℕ → List ℕ
+gone t = pick (leb (length t) 65472) [] t
 
 -- 'Last line: `frames` and the counter', behind what is still to be written
 abbrev pub frames_word : List ℕ
 frames_word = 102 ∷ 114 ∷ 97 ∷ 109 ∷ 101 ∷ 115 ∷ []
 
 abbrev pub last_text : List ℕ → ℕ → List ℕ
-last_text t n = kept_text t ++ count_text frames_word n
+last_text t n = kept t ++ count_text frames_word n
 
 -- bytes that begin with a text
 abbrev pub Begins : List ℕ → List ℕ → Type 0

@@ -2,7 +2,7 @@
 ghost use Rattle.std.specs.Prelude.{◌≡◌, ◌++◌, ◌+◌, ◌≤◌, length, take, true};
 ghost use Rattle.std.specs.Io.KnownBytes.{Keeps, Appends, append_known};
 ghost use Rattle.tape.specs.Text.{count_text};
-ghost use Rattle.streams.specs.Streams.{kept_text, frames_word, last_text, Begins};
+ghost use Rattle.streams.specs.Streams.{kept, frames_word, last_text, Begins};
 
 use std::io::Write;
 
@@ -24,7 +24,7 @@ pub fn write_first<W: Write>(writer: &mut W, out: &[u8], n: usize) -> bool
 // What is put is written once there is no room for a line behind it. What the writer holds, and what is put behind it, are as they were together.
 pub fn flush<W: Write>(writer: &mut W, out: &[u8], put: usize) -> Flushed
     requires { put ≤ length out.now }
-    ensures out_value { take result.put out.now ≡ kept_text (take put out.now) }
+    ensures out_value { take result.put out.now ≡ kept (take put out.now) }
     ensures put_bound { result.put + 64 ≤ 65536 }
     ensures kept { result.written ≡ true
         → Keeps (append_known (W.contents writer.old) (take put out.now))

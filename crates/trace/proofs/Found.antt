@@ -38,7 +38,7 @@ use Rattle.fault.specs.Faults.{Faulting, faulting, FaultDid, fault_did, sound_fa
 use Rattle.board.specs.Board.{Board}
 use Rattle.release.specs.Calls.{kernel_of, user_of, vfree_call, munmap_call}
 use Rattle.release.specs.Calls.{play as play_regions}
-use Rattle.trace.specs.Trace.{deallocateCall, Played, played, with_frames, play}
+use Rattle.trace.specs.Trace.{deallocate_call, Played, played, with_frames, play}
 use Rattle.trace.specs.Levels.{ten_line}
 use Rattle.trace.specs.Found.{met_line, marked_on, OneOfThree, PagesTold, CopyTold, FoundTells}
 
@@ -82,10 +82,10 @@ module _ (b : Board) (n : ℕ) where
   abbrev printed : FramesDid FoundAnswer → Played
   printed d = played (found_line d.answer) (with_frames b d.frames)
 
-  one_of_three : sound b.mem.frames ≡ true → OneOfThree b n (play b (deallocateCall n))
+  one_of_three : sound b.mem.frames ≡ true → OneOfThree b n (play b (deallocate_call n))
   one_of_three s = subst (λ (d : FramesDid FoundAnswer). OneOfThree b n (printed d)) (sym (deallocate_whole b.mem.frames n s)) given_told
 
-  none_of_three : sound b.mem.frames ≡ false → play b (deallocateCall n) ≡ played ten_line b
+  none_of_three : sound b.mem.frames ≡ false → play b (deallocate_call n) ≡ played ten_line b
   none_of_three s = ap printed (deallocate_broken b.mem.frames n s)
 
 -- ---- runs of pages
@@ -104,11 +104,11 @@ pages_told b left a n {t} found freed =
 
 -- a vfree by its tests: whether the record is sound, whether the address is null, and the size of the used region there
 module _ (up : ℕ) (k : Kernel) (root a : ℕ) where
-  abbrev vfreeBy : Bool → Bool → Outcome → KernelDid
-  vfreeBy s z w = unless s (kernel_did (Stop broken_record) k) (pick z (kernel_did (Stop region_not_found) k) (released up k root a w))
+  abbrev vfree_by : Bool → Bool → Outcome → KernelDid
+  vfree_by s z w = unless s (kernel_did (Stop broken_record) k) (pick z (kernel_did (Stop region_not_found) k) (released up k root a w))
 
-  abbrev vfreeFoundBy : Bool → Bool → Outcome → Tally
-  vfreeFoundBy s z w = unless s none_found (pick z none_found (released_found up k root a w))
+  abbrev vfree_found_by : Bool → Bool → Outcome → Tally
+  vfree_found_by s z w = unless s none_found (pick z none_found (released_found up k root a w))
 
   -- met
   record VfreeFinds (d : KernelDid) (t : Tally) (w : Outcome) : Type 0 where
@@ -121,7 +121,7 @@ module _ (up : ℕ) (k : Kernel) (root a : ℕ) where
   unfolding vfree vfree_found
   vfree_finds_lem x = by (sound_kernel k root) (eqb a 0) (used_size a (listed k.regions))
     where
-      by : (s z : Bool) (w : Outcome) → (vfreeBy s z w).answer ≡ Value x → VfreeFinds (vfreeBy s z w) (vfreeFoundBy s z w) w
+      by : (s z : Bool) (w : Outcome) → (vfree_by s z w).answer ≡ Value x → VfreeFinds (vfree_by s z w) (vfree_found_by s z w) w
       by true false (Value n) h = record { size = n; used = refl; found = refl; freed = refl }
       by true false (Stop e) h = absurd (no_value (sym h))
       by true true w h = absurd (no_value (sym h))
@@ -131,7 +131,7 @@ module _ (up : ℕ) (k : Kernel) (root a : ℕ) where
   unfolding vfree vfree_found
   vfree_none e = by (sound_kernel k root) (eqb a 0) (used_size a (listed k.regions))
     where
-      by : (s z : Bool) (w : Outcome) → (vfreeBy s z w).answer ≡ Stop e → vfreeFoundBy s z w ≡ none_found
+      by : (s z : Bool) (w : Outcome) → (vfree_by s z w).answer ≡ Stop e → vfree_found_by s z w ≡ none_found
       by true false (Value n) h = absurd (no_value h)
       by true false (Stop e) h = refl
       by true true w h = refl
@@ -139,12 +139,12 @@ module _ (up : ℕ) (k : Kernel) (root a : ℕ) where
 
 -- a munmap by its tests: whether the record is sound, the size 0, the address aligned, the rounded size, and whether a region has both
 module _ (up : ℕ) (s : User) (root a size : ℕ) where
-  abbrev munmapBy : Bool → Bool → Bool → Outcome → UserDid
-  munmapBy t z o w =
+  abbrev munmap_by : Bool → Bool → Bool → Outcome → UserDid
+  munmap_by t z o w =
       unless t (user_did (Stop broken_record) s) (pick z (user_did (Stop size_zero) s) (unless o (user_did (Stop unaligned) s) (unmapped up s root a w)))
 
-  abbrev munmapFoundBy : Bool → Bool → Bool → Outcome → Tally
-  munmapFoundBy t z o w = unless t none_found (pick z none_found (unless o none_found (unmapped_found up s root a w)))
+  abbrev munmap_found_by : Bool → Bool → Bool → Outcome → Tally
+  munmap_found_by t z o w = unless t none_found (pick z none_found (unless o none_found (unmapped_found up s root a w)))
 
   record MunmapFinds (d : UserDid) (t : Tally) : Type 0 where
     found : t ≡ pages_found up s.mem root a (page_count size)
@@ -155,7 +155,7 @@ module _ (up : ℕ) (s : User) (root a size : ℕ) where
   munmap_finds_lem x = by (sound_user s root) (eqb size 0) (on_page a) (leb size last_page) (holds a (round_up 12 size) (listed s.regions)) refl
     where
       by : (t z o l h : Bool) → holds a (round_up 12 size) (listed s.regions) ≡ h → let w = pick l (Value (round_up 12 size)) (Stop too_large) in
-          (munmapBy t z o w).answer ≡ Value x → MunmapFinds (munmapBy t z o w) (munmapFoundBy t z o w)
+          (munmap_by t z o w).answer ≡ Value x → MunmapFinds (munmap_by t z o w) (munmap_found_by t z o w)
       by true false true true true e g = rw e (record { found = refl; freed = refl })
       by true false true true false e g = absurd (no_value (sym (rw e at g)))
       by true false true false h e g = absurd (no_value (sym g))
@@ -171,7 +171,7 @@ module _ (up : ℕ) (s : User) (root a size : ℕ) where
       held n true f = rw f (λ h. absurd (no_value h))
       held n false f = rw f (λ _. refl)
 
-      by : (t z o : Bool) (w : Outcome) → (munmapBy t z o w).answer ≡ Stop e → munmapFoundBy t z o w ≡ none_found
+      by : (t z o : Bool) (w : Outcome) → (munmap_by t z o w).answer ≡ Stop e → munmap_found_by t z o w ≡ none_found
       by true false true (Value n) h = held n (holds a n (listed s.regions)) refl h
       by true false true (Stop f) h = refl
       by true false false w h = refl
@@ -268,15 +268,15 @@ module _ (up : ℕ) (s : Faulting) (root a code : ℕ) where
   abbrev copies : Out
   copies = copy_on_write up s.mem root v (is_user code)
 
-  abbrev faultBy : Bool → Bool → Bool → Bool → Bool → FaultDid
-  faultBy t r p w k =
+  abbrev fault_by : Bool → Bool → Bool → Bool → Bool → FaultDid
+  fault_by t r p w k =
       unless t (fault_did (Stop broken_record) s)
       (pick r (fault_did (Stop reserved_bit) s)
       (pick p (pick w (unless k (fault_did (Stop write_to_read_only) s) (unmarking v s.marked copies)) (fault_did (Stop (denied code)) s))
       (of_step s.marked (demand_page up s.mem root v code))))
 
-  abbrev faultFoundBy : Bool → Bool → Bool → Bool → Bool → Tally
-  faultFoundBy t r p w k =
+  abbrev fault_found_by : Bool → Bool → Bool → Bool → Bool → Tally
+  fault_found_by t r p w k =
       unless t none_found (pick r none_found (pick p (pick w (unless k none_found (copy_found up s.mem root v (is_user code))) none_found) none_found))
 
   fault_copy : (x : ℕ) → is_present code ≡ true → (handle_fault up s root a code).answer ≡ Value x
@@ -284,8 +284,8 @@ module _ (up : ℕ) (s : Faulting) (root a code : ℕ) where
   unfolding handle_fault fault_found
   fault_copy x = by (sound_faulting s root) (is_reserved code) (is_present code) (is_write code) (has_key page_key v (listed s.marked))
     where
-      by : (t r p w k : Bool) → p ≡ true → (faultBy t r p w k).answer ≡ Value x
-          → CopyTold up root v (is_user code) s.mem (faultBy t r p w k).state.mem (faultFoundBy t r p w k)
+      by : (t r p w k : Bool) → p ≡ true → (fault_by t r p w k).answer ≡ Value x
+          → CopyTold up root v (is_user code) s.mem (fault_by t r p w k).state.mem (fault_found_by t r p w k)
       by true false true true true _ h = copy_told up root v (is_user code) s.mem x h
       by true false true true false _ h = absurd (no_value (sym h))
       by true false true false k _ h = absurd (no_value (sym h))
@@ -297,7 +297,7 @@ module _ (up : ℕ) (s : Faulting) (root a code : ℕ) where
   unfolding fault_found
   fault_demand = by (sound_faulting s root) (is_reserved code) (is_present code) (is_write code) (has_key page_key v (listed s.marked))
     where
-      by : (t r p w k : Bool) → p ≡ false → faultFoundBy t r p w k ≡ none_found
+      by : (t r p w k : Bool) → p ≡ false → fault_found_by t r p w k ≡ none_found
       by true false true w k e = absurd (true≢false e)
       by true false false w k e = refl
       by true true p w k e = refl
@@ -307,7 +307,7 @@ module _ (up : ℕ) (s : Faulting) (root a code : ℕ) where
   unfolding handle_fault fault_found
   fault_none e = by (sound_faulting s root) (is_reserved code) (is_present code) (is_write code) (has_key page_key v (listed s.marked))
     where
-      by : (t r p w k : Bool) → (faultBy t r p w k).answer ≡ Stop e → faultFoundBy t r p w k ≡ none_found
+      by : (t r p w k : Bool) → (fault_by t r p w k).answer ≡ Stop e → fault_found_by t r p w k ≡ none_found
       by true false true true true h = copy_refused up root v (is_user code) s.mem e h
       by true false true true false h = refl
       by true false true false k h = refl

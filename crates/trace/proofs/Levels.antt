@@ -29,7 +29,7 @@ use Rattle.board.specs.Board.{Board, BoardDid}
 use Rattle.board.proofs.Outcomes.{unmarked, may_other, may_met, start_refused, start_met, start_cases}
 use Rattle.release.specs.Calls.{Call, vmalloc_call, vfree_call, mmap_call, munmap_call, user_of}
 use Rattle.release.specs.Calls.{play as play_regions}
-use Rattle.trace.specs.Trace.{region_call, mprotect_call, faultCall, secondFaultCall, markCowCall, unmarkCowCall, isCowCall, map_page_call, map_huge_call, unmapPageCall, translateCall, show_translate_call, user_may_call, allocate_call, deallocateCall, markAllocatedCall, isAllocatedCall, freeFramesCall, allocatedFramesCall, totalFramesCall, init_call, start_call, played, by_regions, by_board}
+use Rattle.trace.specs.Trace.{region_call, mprotect_call, fault_call, second_fault_call, mark_cow_call, unmark_cow_call, is_cow_call, map_page_call, map_huge_call, unmap_page_call, translate_call, show_translate_call, user_may_call, allocate_call, deallocate_call, mark_allocated_call, is_allocated_call, free_frames_call, allocated_frames_call, total_frames_call, init_call, start_call, played, by_regions, by_board}
 use Rattle.trace.specs.Levels.{reads, names, none, ten_line, OtherLevels, LevelsKept, LevelsNamed}
 use Rattle.trace.proofs.Faults.{stays_fault, stays_second}
 use Rattle.trace.proofs.Theorem.{stays_map_page, stays_map_huge, stays_regions, stays_mprotect}
@@ -69,24 +69,24 @@ pub other_levels : OtherLevels
 unfolding mprotect handle_fault handle_fault_second map_page map_huge unmap_page translate show_translate user_may allocate deallocate mark_allocated is_allocated counted
 other_levels b (region_call c) r o = other_regions b o c
 other_levels b (mprotect_call a size prot) r o = rw (no_walk b o)
-other_levels b (faultCall a code) r o = rw (other_whole b.mem b.root o)
-other_levels b (secondFaultCall a code) r o = rw (other_whole b.mem b.root o)
-other_levels b (markCowCall a) r o = absurd (unlent r)
-other_levels b (unmarkCowCall a) r o = absurd (unlent r)
-other_levels b (isCowCall a) r o = absurd (unlent r)
+other_levels b (fault_call a code) r o = rw (other_whole b.mem b.root o)
+other_levels b (second_fault_call a code) r o = rw (other_whole b.mem b.root o)
+other_levels b (mark_cow_call a) r o = absurd (unlent r)
+other_levels b (unmark_cow_call a) r o = absurd (unlent r)
+other_levels b (is_cow_call a) r o = absurd (unlent r)
 other_levels b (map_page_call v p w u) r o = rw (other_whole b.mem b.root o)
 other_levels b (map_huge_call v p size w u) r o = rw (other_whole b.mem b.root o)
-other_levels b (unmapPageCall v) r o = rw (no_walk b o)
-other_levels b (translateCall v) r o = rw (no_walk b o)
+other_levels b (unmap_page_call v) r o = rw (no_walk b o)
+other_levels b (translate_call v) r o = rw (no_walk b o)
 other_levels b (show_translate_call v) r o = rw (no_walk b o)
 other_levels b (user_may_call v write) r o = rw (no_walk b o)
 other_levels b allocate_call r o = rw (other_sound b.mem.frames o)
-other_levels b (deallocateCall n) r o = rw (other_sound b.mem.frames o)
-other_levels b (markAllocatedCall n) r o = rw (other_sound b.mem.frames o)
-other_levels b (isAllocatedCall n) r o = rw (other_sound b.mem.frames o)
-other_levels b freeFramesCall r o = rw (other_sound b.mem.frames o)
-other_levels b allocatedFramesCall r o = rw (other_sound b.mem.frames o)
-other_levels b totalFramesCall r o = rw (other_sound b.mem.frames o)
+other_levels b (deallocate_call n) r o = rw (other_sound b.mem.frames o)
+other_levels b (mark_allocated_call n) r o = rw (other_sound b.mem.frames o)
+other_levels b (is_allocated_call n) r o = rw (other_sound b.mem.frames o)
+other_levels b free_frames_call r o = rw (other_sound b.mem.frames o)
+other_levels b allocated_frames_call r o = rw (other_sound b.mem.frames o)
+other_levels b total_frames_call r o = rw (other_sound b.mem.frames o)
 other_levels b (init_call from to) r o = absurd (naming r)
 other_levels b (start_call from to levels) r o = absurd (naming r)
 
@@ -108,24 +108,24 @@ module _ (fr : Frames) where
 pub levels_kept : LevelsKept
 levels_kept b (region_call c) n = (stays_regions b c).levels
 levels_kept b (mprotect_call a size prot) n = (stays_mprotect (user_of b) b.root a size prot).levels
-levels_kept b (faultCall a code) n = (stays_fault _ _ b.root a code).levels
-levels_kept b (secondFaultCall a code) n = (stays_second _ b.mem b.root a code).levels
-levels_kept b (markCowCall a) n = refl
-levels_kept b (unmarkCowCall a) n = refl
-levels_kept b (isCowCall a) n = refl
+levels_kept b (fault_call a code) n = (stays_fault _ _ b.root a code).levels
+levels_kept b (second_fault_call a code) n = (stays_second _ b.mem b.root a code).levels
+levels_kept b (mark_cow_call a) n = refl
+levels_kept b (unmark_cow_call a) n = refl
+levels_kept b (is_cow_call a) n = refl
 levels_kept b (map_page_call v p w u) n = (stays_map_page _ b.mem b.root v p w u).levels
 levels_kept b (map_huge_call v p size w u) n = (stays_map_huge _ b.mem b.root v p size w u).levels
-levels_kept b (unmapPageCall v) n = refl
-levels_kept b (translateCall v) n = refl
+levels_kept b (unmap_page_call v) n = refl
+levels_kept b (translate_call v) n = refl
 levels_kept b (show_translate_call v) n = refl
 levels_kept b (user_may_call v write) n = refl
 levels_kept b allocate_call n = kept_allocate b.mem.frames
-levels_kept b (deallocateCall f) n = kept_deallocate b.mem.frames f
-levels_kept b (markAllocatedCall f) n = kept_mark b.mem.frames f
-levels_kept b (isAllocatedCall f) n = refl
-levels_kept b freeFramesCall n = refl
-levels_kept b allocatedFramesCall n = refl
-levels_kept b totalFramesCall n = refl
+levels_kept b (deallocate_call f) n = kept_deallocate b.mem.frames f
+levels_kept b (mark_allocated_call f) n = kept_mark b.mem.frames f
+levels_kept b (is_allocated_call f) n = refl
+levels_kept b free_frames_call n = refl
+levels_kept b allocated_frames_call n = refl
+levels_kept b total_frames_call n = refl
 levels_kept b (init_call from to) n =
     init_cases b.mem.frames from to (λ (d : FramesDid Answer). ((answer_line d.answer).number ≡ 0 → ⊥) → d.frames.fa.levels ≡ levels_of b.mem)
     (λ _ _ m. absurd (m refl)) (λ _. refl) (n refl)

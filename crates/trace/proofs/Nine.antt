@@ -64,7 +64,7 @@ use Rattle.board.specs.Board.{Board, BoardDid, start}
 use Rattle.board.proofs.Outcomes.{start_cases}
 use Rattle.release.specs.Calls.{Call, vmalloc_call, vfree_call, mmap_call, munmap_call, user_of}
 use Rattle.release.specs.Calls.{play as play_regions}
-use Rattle.trace.specs.Trace.{region_call, mprotect_call, faultCall, secondFaultCall, markCowCall, unmarkCowCall, isCowCall, map_page_call, map_huge_call, unmapPageCall, translateCall, show_translate_call, user_may_call, allocate_call, deallocateCall, markAllocatedCall, isAllocatedCall, freeFramesCall, allocatedFramesCall, totalFramesCall, init_call, start_call, regions_line, Played, play}
+use Rattle.trace.specs.Trace.{region_call, mprotect_call, fault_call, second_fault_call, mark_cow_call, unmark_cow_call, is_cow_call, map_page_call, map_huge_call, unmap_page_call, translate_call, show_translate_call, user_may_call, allocate_call, deallocate_call, mark_allocated_call, is_allocated_call, free_frames_call, allocated_frames_call, total_frames_call, init_call, start_call, regions_line, Played, play}
 use Rattle.trace.specs.Nine.{NoNine}
 use Rattle.trace.proofs.Shown.{shown_as_translated}
 
@@ -394,26 +394,26 @@ nine_regions b (vfree_call a) = answer_other (vfree_other _ _ b.root a)
 nine_regions b (mmap_call hint size prot flags) = virt_other (mmap_other _ _ b.root hint size prot flags)
 nine_regions b (munmap_call a size) = answer_other (munmap_other _ _ b.root a size)
 
-nine_translate : (b : Board) (v : ℕ) → (play b (translateCall v)).line.number ≡ 9 → ⊥
+nine_translate : (b : Board) (v : ℕ) → (play b (translate_call v)).line.number ≡ 9 → ⊥
 nine_translate b v = phys_other (translate_other b.mem.words (start_frame b.mem) (total_of b.mem) (levels_of b.mem) b.root v)
 
 pub no_nine : NoNine
 unfolding mark_cow unmark_cow is_cow user_may allocate deallocate mark_allocated is_allocated counted
 no_nine b (region_call c) = nine_regions b c
 no_nine b (mprotect_call a size prot) = answer_other (protect_other (mprotect_protects (user_of b) b.root a size prot).answers)
-no_nine b (faultCall a code) = answer_other (fault_other _ _ b.root a code)
-no_nine b (secondFaultCall a code) = answer_other (second_other _ b.mem b.root a code)
-no_nine b (markCowCall a) =
+no_nine b (fault_call a code) = answer_other (fault_other _ _ b.root a code)
+no_nine b (second_fault_call a code) = answer_other (second_other _ b.mem b.root a code)
+no_nine b (mark_cow_call a) =
     pick_cases (λ (d : MarkedDid). (answer_line d.answer).number ≡ 9 → ⊥) (sound_marked b.marked) _ _
     (λ _. pick_cases (λ (d : MarkedDid). (answer_line d.answer).number ≡ 9 → ⊥) (full_of_pages b.marked (page_of a)) _ _ (λ _ e. omega arith) (λ _ e. omega arith))
     (λ _ e. omega arith)
-no_nine b (unmarkCowCall a) =
+no_nine b (unmark_cow_call a) =
     pick_cases (λ (d : MarkedDid). (answer_line d.answer).number ≡ 9 → ⊥) (sound_marked b.marked) _ _ (λ _ e. omega arith) (λ _ e. omega arith)
-no_nine b (isCowCall a) = pick_cases (λ (r : FlagAnswer). (flag_line r).number ≡ 9 → ⊥) (sound_marked b.marked) _ _ (λ _ e. omega arith) (λ _ e. omega arith)
+no_nine b (is_cow_call a) = pick_cases (λ (r : FlagAnswer). (flag_line r).number ≡ 9 → ⊥) (sound_marked b.marked) _ _ (λ _ e. omega arith) (λ _ e. omega arith)
 no_nine b (map_page_call v p w u) = answer_other (map_page_other _ b.mem b.root v p w u)
 no_nine b (map_huge_call v p size w u) = answer_other (map_huge_other _ b.mem b.root v p size w u)
-no_nine b (unmapPageCall v) = frame_other (unmap_page_other b.mem.words (start_frame b.mem) (total_of b.mem) (levels_of b.mem) b.root v)
-no_nine b (translateCall v) = nine_translate b v
+no_nine b (unmap_page_call v) = frame_other (unmap_page_other b.mem.words (start_frame b.mem) (total_of b.mem) (levels_of b.mem) b.root v)
+no_nine b (translate_call v) = nine_translate b v
 no_nine b (show_translate_call v) = λ e. nine_translate b v (sym (ap (λ (p : Played). p.line.number) (shown_as_translated b v)) ∙ e)
 no_nine b (user_may_call v write) =
     pick_cases (λ (r : FlagAnswer). (flag_line r).number ≡ 9 → ⊥) (lent_walk (levels_of b.mem) (length b.mem.words) (start_frame b.mem) (total_of b.mem) b.root) _ _
@@ -421,11 +421,11 @@ no_nine b (user_may_call v write) =
 no_nine b allocate_call =
     pick_cases (λ (d : FramesDid FrameAnswer). (frame_line d.answer).number ≡ 9 → ⊥) (sound b.mem.frames) _ _
     (λ _. take_cases b.mem.frames (λ (d : FramesDid FrameAnswer). (frame_line d.answer).number ≡ 9 → ⊥) (λ _ _ _ _ e. omega arith) (λ _ e. omega arith)) (λ _ e. omega arith)
-no_nine b (deallocateCall n) = pick_cases (λ (d : FramesDid FoundAnswer). (found_line d.answer).number ≡ 9 → ⊥) (sound b.mem.frames) _ _ (λ _ e. omega arith) (λ _ e. omega arith)
-no_nine b (markAllocatedCall n) = pick_cases (λ (d : FramesDid Answer). (answer_line d.answer).number ≡ 9 → ⊥) (sound b.mem.frames) _ _ (λ _ e. omega arith) (λ _ e. omega arith)
-no_nine b (isAllocatedCall n) = pick_cases (λ (r : FlagAnswer). (flag_line r).number ≡ 9 → ⊥) (sound b.mem.frames) _ _ (λ _ e. omega arith) (λ _ e. omega arith)
-no_nine b freeFramesCall = count_other (counted_other b.mem.frames _)
-no_nine b allocatedFramesCall = count_other (counted_other b.mem.frames _)
-no_nine b totalFramesCall = count_other (counted_other b.mem.frames _)
+no_nine b (deallocate_call n) = pick_cases (λ (d : FramesDid FoundAnswer). (found_line d.answer).number ≡ 9 → ⊥) (sound b.mem.frames) _ _ (λ _ e. omega arith) (λ _ e. omega arith)
+no_nine b (mark_allocated_call n) = pick_cases (λ (d : FramesDid Answer). (answer_line d.answer).number ≡ 9 → ⊥) (sound b.mem.frames) _ _ (λ _ e. omega arith) (λ _ e. omega arith)
+no_nine b (is_allocated_call n) = pick_cases (λ (r : FlagAnswer). (flag_line r).number ≡ 9 → ⊥) (sound b.mem.frames) _ _ (λ _ e. omega arith) (λ _ e. omega arith)
+no_nine b free_frames_call = count_other (counted_other b.mem.frames _)
+no_nine b allocated_frames_call = count_other (counted_other b.mem.frames _)
+no_nine b total_frames_call = count_other (counted_other b.mem.frames _)
 no_nine b (init_call from to) = init_cases b.mem.frames from to (λ (d : FramesDid Answer). (answer_line d.answer).number ≡ 9 → ⊥) (λ _ _ e. omega arith) (λ e. omega arith)
 no_nine b (start_call from to levels) = answer_other (start_cases b from to levels (λ (d : BoardDid). Other d.answer) (λ _ _ _ _ _. met) (other refl) (other refl))

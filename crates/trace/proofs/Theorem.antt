@@ -36,7 +36,7 @@ use Rattle.mprotect.proofs.Cases.{mprotect_cases}
 use Rattle.board.specs.Board.{Board, BoardDid, start}
 use Rattle.board.proofs.Outcomes.{start_cases}
 use Rattle.release.specs.Calls.{Call, vmalloc_call, vfree_call, mmap_call, munmap_call, user_of, play as play_regions}
-use Rattle.trace.specs.Trace.{play, region_call, mprotect_call, faultCall, secondFaultCall, markCowCall, unmarkCowCall, isCowCall, map_page_call, map_huge_call, unmapPageCall, translateCall, show_translate_call, user_may_call, allocate_call, deallocateCall, markAllocatedCall, isAllocatedCall, freeFramesCall, allocatedFramesCall, totalFramesCall, init_call, start_call}
+use Rattle.trace.specs.Trace.{play, region_call, mprotect_call, fault_call, second_fault_call, mark_cow_call, unmark_cow_call, is_cow_call, map_page_call, map_huge_call, unmap_page_call, translate_call, show_translate_call, user_may_call, allocate_call, deallocate_call, mark_allocated_call, is_allocated_call, free_frames_call, allocated_frames_call, total_frames_call, init_call, start_call}
 use Rattle.trace.specs.Untouched.{Untouched, NoneTouched}
 use Rattle.trace.proofs.Faults.{stays_fault, stays_second}
 
@@ -141,26 +141,26 @@ start_untouched b from to levels =
 pub none_touched : NoneTouched
 none_touched b (region_call c) = stays_untouched b _ (stays_regions b c)
 none_touched b (mprotect_call a size prot) = stays_untouched b _ (stays_mprotect (user_of b) b.root a size prot)
-none_touched b (faultCall a code) = stays_untouched b _ (stays_fault _ _ b.root a code)
-none_touched b (secondFaultCall a code) = stays_untouched b _ (stays_second _ b.mem b.root a code)
-none_touched b (markCowCall a) = words_untouched b _ refl
-none_touched b (unmarkCowCall a) = words_untouched b _ refl
-none_touched b (isCowCall a) = words_untouched b _ refl
+none_touched b (fault_call a code) = stays_untouched b _ (stays_fault _ _ b.root a code)
+none_touched b (second_fault_call a code) = stays_untouched b _ (stays_second _ b.mem b.root a code)
+none_touched b (mark_cow_call a) = words_untouched b _ refl
+none_touched b (unmark_cow_call a) = words_untouched b _ refl
+none_touched b (is_cow_call a) = words_untouched b _ refl
 none_touched b (map_page_call v p w u) = stays_untouched b _ (stays_map_page _ b.mem b.root v p w u)
 none_touched b (map_huge_call v p size w u) = stays_untouched b _ (stays_map_huge _ b.mem b.root v p size w u)
-none_touched b (unmapPageCall v) =
-    let left = (play b (unmapPageCall v)).board in
+none_touched b (unmap_page_call v) =
+    let left = (play b (unmap_page_call v)).board in
     let p : Past (total_of b.mem * 512) b.mem.words left.mem.words = past_unmap_page _ b.mem.words (start_frame b.mem) _ b.root v in
     stays_untouched b left (stays_words b.mem _ p)
-none_touched b (translateCall v) = words_untouched b _ refl
+none_touched b (translate_call v) = words_untouched b _ refl
 none_touched b (show_translate_call v) = words_untouched b _ refl
 none_touched b (user_may_call v write) = words_untouched b _ refl
 none_touched b allocate_call = words_untouched b _ refl
-none_touched b (deallocateCall n) = words_untouched b _ refl
-none_touched b (markAllocatedCall n) = words_untouched b _ refl
-none_touched b (isAllocatedCall n) = words_untouched b _ refl
-none_touched b freeFramesCall = words_untouched b _ refl
-none_touched b allocatedFramesCall = words_untouched b _ refl
-none_touched b totalFramesCall = words_untouched b _ refl
+none_touched b (deallocate_call n) = words_untouched b _ refl
+none_touched b (mark_allocated_call n) = words_untouched b _ refl
+none_touched b (is_allocated_call n) = words_untouched b _ refl
+none_touched b free_frames_call = words_untouched b _ refl
+none_touched b allocated_frames_call = words_untouched b _ refl
+none_touched b total_frames_call = words_untouched b _ refl
 none_touched b (init_call from to) = words_untouched b _ refl
 none_touched b (start_call from to levels) = start_untouched b from to levels

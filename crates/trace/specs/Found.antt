@@ -22,7 +22,7 @@ use Rattle.fault.specs.Faults.{faulting, handle_fault_of, fault_found_of}
 use Rattle.board.specs.Board.{Board}
 use Rattle.release.specs.Calls.{vfree_call, munmap_call, kernel_of, user_of}
 use Rattle.release.specs.Calls.{play as play_regions}
-use Rattle.trace.specs.Trace.{region_call, faultCall, deallocateCall, Played, played, with_frames, play}
+use Rattle.trace.specs.Trace.{region_call, fault_call, deallocate_call, Played, played, with_frames, play}
 use Rattle.trace.specs.Levels.{ten_line}
 
 -- ---- '`deallocate_frame` answers one of three: freed, already free, not on this board'
@@ -97,8 +97,8 @@ pub record CopyTold (up root v : ℕ) (user : Bool) (m left : Memory) (t : Tally
 -- ---- the request
 
 pub record FoundTells : Type 0 where
-  pub deallocated : (b : Board) (n : ℕ) → sound b.mem.frames ≡ true → OneOfThree b n (play b (deallocateCall n))
-  pub broken : (b : Board) (n : ℕ) → sound b.mem.frames ≡ false → play b (deallocateCall n) ≡ played ten_line b
+  pub deallocated : (b : Board) (n : ℕ) → sound b.mem.frames ≡ true → OneOfThree b n (play b (deallocate_call n))
+  pub broken : (b : Board) (n : ℕ) → sound b.mem.frames ≡ false → play b (deallocate_call n) ≡ played ten_line b
   -- 'In a met call the three numbers add up to the pages that were unmapped': of a vfree, among the pages of its used region of n bytes
   pub vfree : (b : Board) (a x : ℕ) → vfree_answer b a ≡ Value x
       → (n : ℕ) × ((used_size a (listed b.kernel) ≡ Value n) × PagesTold b (play b (region_call (vfree_call a))).board a (n / 4096) (vfree_finds b a))
@@ -107,7 +107,7 @@ pub record FoundTells : Type 0 where
       → PagesTold b (play b (region_call (munmap_call a size))).board a (page_count size) (munmap_finds b a size)
   -- .. and of a met fault at a page that is present, which is a copy
   pub copy : (b : Board) (a code x : ℕ) → is_present code ≡ true → fault_answer b a code ≡ Value x
-      → CopyTold (above_last b.mem) b.root (page_of a) (is_user code) b.mem (play b (faultCall a code)).board.mem (fault_finds b a code)
+      → CopyTold (above_last b.mem) b.root (page_of a) (is_user code) b.mem (play b (fault_call a code)).board.mem (fault_finds b a code)
   -- a page on demand frees nothing
   pub demand : (b : Board) (a code : ℕ) → is_present code ≡ false → fault_finds b a code ≡ none_found
   -- a refused call returns none, a copy too whose remapping is refused with 18 after the old frame was freed
@@ -119,4 +119,4 @@ pub record FoundTells : Type 0 where
   -- 'The key program still prints value 0', of met calls and of refused ones
   pub vfree_prints : (b : Board) (a : ℕ) → (play b (region_call (vfree_call a))).line.value ≡ 0
   pub munmap_prints : (b : Board) (a size : ℕ) → (play b (region_call (munmap_call a size))).line.value ≡ 0
-  pub fault_prints : (b : Board) (a code : ℕ) → (play b (faultCall a code)).line.value ≡ 0
+  pub fault_prints : (b : Board) (a code : ℕ) → (play b (fault_call a code)).line.value ≡ 0

@@ -6,9 +6,9 @@ use Rattle.answer.specs.Numbers.{broken_record}
 use Rattle.frame.specs.Frames.{is_levels, address_end}
 use Rattle.paging.specs.Levels.{levels_of}
 use Rattle.board.specs.Board.{Board, frame_count}
-use Rattle.trace.specs.Trace.{AnyCall, region_call, mprotect_call, faultCall, secondFaultCall, markCowCall, unmarkCowCall, isCowCall, map_page_call}
-use Rattle.trace.specs.Trace.{map_huge_call, unmapPageCall, translateCall, show_translate_call, user_may_call, allocate_call, deallocateCall, markAllocatedCall}
-use Rattle.trace.specs.Trace.{isAllocatedCall, freeFramesCall, allocatedFramesCall, totalFramesCall, init_call, start_call, played, play}
+use Rattle.trace.specs.Trace.{AnyCall, region_call, mprotect_call, fault_call, second_fault_call, mark_cow_call, unmark_cow_call, is_cow_call, map_page_call}
+use Rattle.trace.specs.Trace.{map_huge_call, unmap_page_call, translate_call, show_translate_call, user_may_call, allocate_call, deallocate_call, mark_allocated_call}
+use Rattle.trace.specs.Trace.{is_allocated_call, free_frames_call, allocated_frames_call, total_frames_call, init_call, start_call, played, play}
 
 -- what a call does with the number of levels: it goes by it, names it anew, or is not lent it
 pub data Use : Type 0 where
@@ -17,24 +17,24 @@ pub data Use : Type 0 where
 abbrev pub use_of : AnyCall → Use
 use_of (region_call c) = reads
 use_of (mprotect_call a size prot) = reads
-use_of (faultCall a code) = reads
-use_of (secondFaultCall a code) = reads
-use_of (markCowCall a) = none
-use_of (unmarkCowCall a) = none
-use_of (isCowCall a) = none
+use_of (fault_call a code) = reads
+use_of (second_fault_call a code) = reads
+use_of (mark_cow_call a) = none
+use_of (unmark_cow_call a) = none
+use_of (is_cow_call a) = none
 use_of (map_page_call v p w u) = reads
 use_of (map_huge_call v p size w u) = reads
-use_of (unmapPageCall v) = reads
-use_of (translateCall v) = reads
+use_of (unmap_page_call v) = reads
+use_of (translate_call v) = reads
 use_of (show_translate_call v) = reads
 use_of (user_may_call v write) = reads
 use_of allocate_call = reads
-use_of (deallocateCall n) = reads
-use_of (markAllocatedCall n) = reads
-use_of (isAllocatedCall n) = reads
-use_of freeFramesCall = reads
-use_of allocatedFramesCall = reads
-use_of totalFramesCall = reads
+use_of (deallocate_call n) = reads
+use_of (mark_allocated_call n) = reads
+use_of (is_allocated_call n) = reads
+use_of free_frames_call = reads
+use_of allocated_frames_call = reads
+use_of total_frames_call = reads
 use_of (init_call from to) = names
 use_of (start_call from to levels) = names
 

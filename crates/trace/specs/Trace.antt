@@ -32,22 +32,22 @@ pub data AnyCall : Type 0 where
   -- mprotect: address, size, prot
   mprotect_call : ℕ → ℕ → ℤ → AnyCall
   -- both fault paths: address, error code
-  faultCall secondFaultCall : ℕ → ℕ → AnyCall
+  fault_call second_fault_call : ℕ → ℕ → AnyCall
   -- mark, unmark, is copy-on-write: address
-  markCowCall unmarkCowCall isCowCall : ℕ → AnyCall
+  mark_cow_call unmark_cow_call is_cow_call : ℕ → AnyCall
   -- map_page and map_huge_page: virtual and physical address, (size,) writable, user
   map_page_call : ℕ → ℕ → Bool → Bool → AnyCall
   map_huge_call : ℕ → ℕ → HugePageSize → Bool → Bool → AnyCall
   -- unmap_page and translate: address
-  unmapPageCall translateCall : ℕ → AnyCall
+  unmap_page_call translate_call : ℕ → AnyCall
   -- translate with its working: address
   show_translate_call : ℕ → AnyCall
   -- may user code read an address, or write it?
   user_may_call : ℕ → Bool → AnyCall
   -- the frame allocator's: a frame's number, or none
   allocate_call : AnyCall
-  deallocateCall markAllocatedCall isAllocatedCall : ℕ → AnyCall
-  freeFramesCall allocatedFramesCall totalFramesCall : AnyCall
+  deallocate_call mark_allocated_call is_allocated_call : ℕ → AnyCall
+  free_frames_call allocated_frames_call total_frames_call : AnyCall
   -- `FrameAllocator::init`: first and last address, and the board's start: these two and the number of levels
   init_call : ℕ → ℕ → AnyCall
   start_call : ℕ → ℕ → ℕ → AnyCall
@@ -107,23 +107,23 @@ by_board d = played (answer_line (as_answer d.answer)) d.board
 abbrev pub play : Board → AnyCall → Played
 play b (region_call c) = by_regions c (play_regions b c)
 play b (mprotect_call a size prot) = by_board (by_user b (mprotect_of (user_of b) b.root a size prot))
-play b (faultCall a code) = by_fault b (handle_fault_of (faulting b.mem b.marked) b.root a code)
-play b (secondFaultCall a code) = by_step b (handle_fault_second_of b.mem b.root a code)
-play b (markCowCall a) = by_mark b (mark_cow b.marked a)
-play b (unmarkCowCall a) = by_mark b (unmark_cow b.marked a)
-play b (isCowCall a) = played (flag_line (is_cow b.marked a)) b
+play b (fault_call a code) = by_fault b (handle_fault_of (faulting b.mem b.marked) b.root a code)
+play b (second_fault_call a code) = by_step b (handle_fault_second_of b.mem b.root a code)
+play b (mark_cow_call a) = by_mark b (mark_cow b.marked a)
+play b (unmark_cow_call a) = by_mark b (unmark_cow b.marked a)
+play b (is_cow_call a) = played (flag_line (is_cow b.marked a)) b
 play b (map_page_call v p w u) = by_step b (map_page_of b.mem b.root v p w u)
 play b (map_huge_call v p size w u) = by_step b (map_huge_of b.mem b.root v p size w u)
-play b (unmapPageCall v) = by_unmap b (unmap_page (levels_of b.mem) b.mem.words (start_frame b.mem) (total_of b.mem) b.root v)
-play b (translateCall v) = played (phys_line (as_phys (translate (levels_of b.mem) b.mem.words (start_frame b.mem) (total_of b.mem) b.root v))) b
+play b (unmap_page_call v) = by_unmap b (unmap_page (levels_of b.mem) b.mem.words (start_frame b.mem) (total_of b.mem) b.root v)
+play b (translate_call v) = played (phys_line (as_phys (translate (levels_of b.mem) b.mem.words (start_frame b.mem) (total_of b.mem) b.root v))) b
 play b (show_translate_call v) = played (phys_line (as_phys (show_translate (levels_of b.mem) b.mem.words (start_frame b.mem) (total_of b.mem) b.root v).answer)) b
 play b (user_may_call v write) = played (flag_line (user_may (levels_of b.mem) b.mem.words (start_frame b.mem) (total_of b.mem) b.root v write)) b
 play b allocate_call = let d = allocate b.mem.frames in played (frame_line d.answer) (with_frames b d.frames)
-play b (deallocateCall n) = let d = deallocate b.mem.frames n in played (found_line d.answer) (with_frames b d.frames)
-play b (markAllocatedCall n) = by_frames b (mark_allocated b.mem.frames n)
-play b (isAllocatedCall n) = played (flag_line (is_allocated b.mem.frames n)) b
-play b freeFramesCall = played (count_line (free_frames b.mem.frames)) b
-play b allocatedFramesCall = played (count_line (allocated_frames b.mem.frames)) b
-play b totalFramesCall = played (count_line (total_frames b.mem.frames)) b
+play b (deallocate_call n) = let d = deallocate b.mem.frames n in played (found_line d.answer) (with_frames b d.frames)
+play b (mark_allocated_call n) = by_frames b (mark_allocated b.mem.frames n)
+play b (is_allocated_call n) = played (flag_line (is_allocated b.mem.frames n)) b
+play b free_frames_call = played (count_line (free_frames b.mem.frames)) b
+play b allocated_frames_call = played (count_line (allocated_frames b.mem.frames)) b
+play b total_frames_call = played (count_line (total_frames b.mem.frames)) b
 play b (init_call from to) = by_frames b (init b.mem.frames from to)
 play b (start_call from to levels) = by_board (start b from to levels)

@@ -12,7 +12,7 @@ use Rattle.tape.specs.Text.{line_text, count_text}
 use Rattle.tape.proofs.Sizes.{call_there}
 use Rattle.player.specs.Play.{Turn, play}
 use Rattle.turn.specs.declared.Stage.TheVariants.{Going, Ended}
-use Rattle.turn.specs.Run.{Run, run, tape_word, with_turn, step_by, step}
+use Rattle.turn.specs.Run.{Run, run, tape_word, played, step_by, step}
 
 -- ---- a step, by what stands next
 
@@ -29,7 +29,7 @@ pub step_read : (r : Run) (c : Call) (size : ℕ) (t : Turn) (left text : List �
     → text ≡ r.text ++ line_text t.kind t.line → left ≡ drop size r.left → run left (r.offset + size) t.board text Going ≡ step r
 unfolding step
 step_read r c size t left text e s p f d =
-    (λ j. run (d j) (r.offset + size) t.board (f j) Going) ∙ (λ j. with_turn r (s j) (p j)) ∙ sym (ap (step_by r) e)
+    (λ j. run (d j) (r.offset + size) t.board (f j) Going) ∙ (λ j. played r (s j) (p j)) ∙ sym (ap (step_by r) e)
 
 -- ---- the bytes behind a call
 

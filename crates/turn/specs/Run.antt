@@ -29,14 +29,14 @@ abbrev pub tape_word : List ℕ
 tape_word = 116 ∷ 97 ∷ 112 ∷ 101 ∷ []
 
 -- 'Each line: kind, answer (0 if met), value'; the bytes behind the call are left
-abbrev pub with_turn : Run → ℕ → Turn → Run
-with_turn r size t = run (drop size r.left) (r.offset + size) t.board (r.text ++ line_text t.kind t.line) Going
+abbrev pub played : Run → ℕ → Turn → Run
+played r size t = run (drop size r.left) (r.offset + size) t.board (r.text ++ line_text t.kind t.line) Going
 
 -- 'An unknown kind, short body or other first byte in kind 3 ends the run with `tape` and that kind byte's offset before the last line'
 abbrev pub step_by : Run → Next → Run
 step_by r Finished = run r.left r.offset r.board r.text Ended
 step_by r Malformed = run r.left r.offset r.board (r.text ++ count_text tape_word r.offset) Ended
-step_by r (Read c) = with_turn r (call_size c) (play r.board c)
+step_by r (Read c) = played r (call_size c) (play r.board c)
 
 unfoldable pub step : Run → Run
 step r = step_by r (next r.left)
@@ -49,16 +49,16 @@ goes Unwritten = false
 goes TooLong = false
 
 -- a run that has ended, or stopped, stays as it is
-unfoldable pub step_if_going : Run → Run
-step_if_going r = pick (goes r.stage) (step r) r
+unfoldable pub turn : Run → Run
+turn r = pick (goes r.stage) (step r) r
 
 -- a tape before its first call
-abbrev pub tape_begun : Board → List ℕ → Run
-tape_begun b tape = run tape 0 b [] Going
+abbrev pub begun : Board → List ℕ → Run
+begun b tape = run tape 0 b [] Going
 
 unfoldable pub turns : ℕ → Run → Run
 turns zero r = r
-turns (suc n) r = step_if_going (turns n r)
+turns (suc n) r = turn (turns n r)
 
 -- a run as code holds it: bytes and text in two buffers (crate streams), the board beside them
 abbrev pub run_of : List ℕ → List ℕ → List ℕ → List ℕ → List ℕ → List ℕ → List ℕ → State → Run

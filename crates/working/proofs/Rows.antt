@@ -40,53 +40,53 @@ written_none ws start total root v levels out h k l =
 
 module _ {ws : List ℕ} {start total root v levels : ℕ} {out : List ℕ} {t level at : ℕ} (u : Written ws start total root v levels out t level at) (few : levels ≤ 5) where
   -- the entry of this turn, its word and its row
-  abbrev entryHere : ℕ
-  entryHere = index (level - 1) v
+  abbrev entry_here : ℕ
+  entry_here = index (level - 1) v
 
-  abbrev wordHere : ℕ
-  wordHere = get_or ws (place start t entryHere) 0
+  abbrev word_here : ℕ
+  word_here = get_or ws (place start t entry_here) 0
 
-  abbrev rowHere : Row
-  rowHere = row_of start total (level - 1) t entryHere wordHere
+  abbrev row_here : Row
+  row_here = row_of start total (level - 1) t entry_here word_here
 
   below_here : length (indices (level - 1) v) ≡ level - 1
   below_here = length_indices (level - 1) v
 
-  ends_here : goes_on (verdict_of start total (level - 1) wordHere) ≡ false → rows_below ws start total t (indices level v) ≡ rowHere ∷ []
+  ends_here : goes_on (verdict_of start total (level - 1) word_here) ≡ false → rows_below ws start total t (indices level v) ≡ row_here ∷ []
   ends_here h =
-      rows_end ws start total t (indices_next level v u.some) (ap (λ n. goes_on (verdict_of start total n wordHere)) below_here ∙ h)
-      ∙ ap (λ n. row_of start total n t entryHere wordHere ∷ []) below_here
+      rows_end ws start total t (indices_next level v u.some) (ap (λ n. goes_on (verdict_of start total n word_here)) below_here ∙ h)
+      ∙ ap (λ n. row_of start total n t entry_here word_here ∷ []) below_here
 
-  on_here : goes_on (verdict_of start total (level - 1) wordHere) ≡ true
-      → rows_below ws start total t (indices level v) ≡ rowHere ∷ rows_below ws start total (frame_of wordHere) (indices (level - 1) v)
+  on_here : goes_on (verdict_of start total (level - 1) word_here) ≡ true
+      → rows_below ws start total t (indices level v) ≡ row_here ∷ rows_below ws start total (frame_of word_here) (indices (level - 1) v)
   on_here h =
-      rows_on ws start total t (indices_next level v u.some) (ap (λ n. goes_on (verdict_of start total n wordHere)) below_here ∙ h)
-      ∙ ap (λ n. row_of start total n t entryHere wordHere ∷ rows_below ws start total (frame_of wordHere) (indices (level - 1) v)) below_here
+      rows_on ws start total t (indices_next level v u.some) (ap (λ n. goes_on (verdict_of start total n word_here)) below_here ∙ h)
+      ∙ ap (λ n. row_of start total n t entry_here word_here ∷ rows_below ws start total (frame_of word_here) (indices (level - 1) v)) below_here
 
   -- what code has read, the index, the word's number and the verdict, and what it has written
-  module _ {i p : ℕ} {d : Verdict} {o : List ℕ} (index_is : i ≡ entryHere) (place_is : p ≡ place start t i) (verdict-is : d ≡ verdict_of start total (level - 1) (get_or ws p 0))
+  module _ {i p : ℕ} {d : Verdict} {o : List ℕ} (index_is : i ≡ entry_here) (place_is : p ≡ place start t i) (verdict-is : d ≡ verdict_of start total (level - 1) (get_or ws p 0))
       (put : o ≡ sets out (1 + at * 5) (row_numbers (record { level = level; frame = record { 0 = t }; index = i; word = get_or ws p 0; verdict = d }))) where
     abbrev rowRead : Row
     rowRead = record { level = level; frame = record { 0 = t }; index = i; word = get_or ws p 0; verdict = d }
 
     abbrev more : List Row
-    more = u.done ++ rowHere ∷ []
+    more = u.done ++ row_here ∷ []
 
-    word-is : get_or ws p 0 ≡ wordHere
+    word-is : get_or ws p 0 ≡ word_here
     word-is = ap (λ n. get_or ws n 0) (place_is ∙ ap (place start t) index_is)
 
-    verdict-here : d ≡ verdict_of start total (level - 1) wordHere
+    verdict-here : d ≡ verdict_of start total (level - 1) word_here
     verdict-here = verdict-is ∙ ap (verdict_of start total (level - 1)) word-is
 
-    row_is : rowRead ≡ rowHere
+    row_is : rowRead ≡ row_here
     row_is = let e : level ≡ suc (level - 1) = omega (arith, u.some) in cc
 
     stands : o ≡ unfinished more
     stands =
         put
         ∙ ap (λ (r : Row). sets out (1 + at * 5) (row_numbers r)) row_is
-        ∙ ap (λ ns. sets ns (1 + at * 5) (row_numbers rowHere)) u.numbers
-        ∙ row_put u.done rowHere at u.count (omega (arith, u.sum, u.some, few))
+        ∙ ap (λ ns. sets ns (1 + at * 5) (row_numbers row_here)) u.numbers
+        ∙ row_put u.done row_here at u.count (omega (arith, u.sum, u.some, few))
 
     -- the walk ends here
     module _ (g : goes_on d ≡ false) where
@@ -94,30 +94,30 @@ module _ {ws : List ℕ} {start total root v levels : ℕ} {out : List ℕ} {t l
       whole = sym u.rest ∙ ap (λ r. u.done ++ r) (ends_here (ap goes_on (sym verdict-here) ∙ g))
 
       pub end_answer : by_verdict d (get_or ws p 0) ≡ end_of (rows_below ws start total root (indices levels v))
-      end_answer = ap (λ (r : Row). by_verdict r.verdict r.word) row_is ∙ sym (end_last u.done rowHere) ∙ ap end_of (sym whole)
+      end_answer = ap (λ (r : Row). by_verdict r.verdict r.word) row_is ∙ sym (end_last u.done row_here) ∙ ap end_of (sym whole)
 
       pub end_numbers : set o 0 (at + 1) ≡ shown_numbers (rows_below ws start total root (indices levels v))
       end_numbers =
           ap (λ ns. set ns 0 (at + 1)) stands
-          ∙ count_put more (at + 1) (length-append u.done (rowHere ∷ []) ∙ ap (λ n. n + 1) u.count)
+          ∙ count_put more (at + 1) (length-append u.done (row_here ∷ []) ∙ ap (λ n. n + 1) u.count)
           ∙ ap shown_numbers (sym whole)
 
     -- the walk goes on
     pub written_more : goes_on d ≡ true → {f : ℕ} → f ≡ frame_of (get_or ws p 0) → Written ws start total root v levels o f (level - 1) (at + 1)
     written_more g {f = f} h =
         let on = ap goes_on (sym verdict-here) ∙ g in
-        let n = followed start total (level - 1) wordHere on in
-        let next : f ≡ frame_of wordHere = h ∙ ap frame_of word-is in
+        let n = followed start total (level - 1) word_here on in
+        let next : f ≡ frame_of word_here = h ∙ ap frame_of word-is in
         record {
           lent = ap (inside start total) next ∙ n.1;
           some = n.0.1;
           sum = omega (arith, u.sum, u.some);
           done = more;
-          count = length-append u.done (rowHere ∷ []) ∙ ap (λ k. k + 1) u.count;
+          count = length-append u.done (row_here ∷ []) ∙ ap (λ k. k + 1) u.count;
           numbers = stands;
           rest =
               ap (λ x. more ++ rows_below ws start total x (indices (level - 1) v)) next
-              ∙ append_snoc u.done rowHere (rows_below ws start total (frame_of wordHere) (indices (level - 1) v))
+              ∙ append_snoc u.done row_here (rows_below ws start total (frame_of word_here) (indices (level - 1) v))
               ∙ ap (λ r. u.done ++ r) (sym (on_here on))
               ∙ u.rest;
         }

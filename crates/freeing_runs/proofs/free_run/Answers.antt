@@ -11,21 +11,20 @@ and-found-requires c =
     omega (arith, tells_few c.loop-done.invariant.5 c.requires.room_to_take.held.few, tells_few c.free_span-step.ensures.tells c.loop-done.invariant.2.held.few)
 
 pub loop-done-preserved : goal.loop-done-preserved
-loop-done-preserved c =
-    (
-      span_within c.args.n c.loop-done.done c.free_span-step.result.done c.free_span-step.ensures.done_le_n c.loop-done.invariant.0,
-      c.free_span-step.auto.words ∙ c.loop-done.invariant.1,
-      span_roomy c.args.up (lent_memory c.loop-done.words c.loop-done.bitmap c.loop-done.left) c.args.root.0 (c.args.virt.0 + c.loop-done.done * 4096) c.free_span-step.result.done
-          c.free_span-step.ensures.frames_after c.loop-done.invariant.2,
-      c.free_span-step.ensures.blank_2,
-      c.loop-done.invariant.4
-          ∙ span_on c.args.up c.args.root.0 c.args.virt.0 c.args.n c.loop-done.done c.free_span-step.result.done (lent_memory c.loop-done.words c.loop-done.bitmap c.loop-done.left)
-          (lent_memory c.free_span-step.new.words c.free_span-step.new.bitmap c.free_span-step.result.frames) c.free_span-step.ensures.done_le_n c.loop-done.invariant.0 c.free_span-step.ensures.frames_after,
-      tells_on c.loop-done.invariant.5 c.free_span-step.ensures.tells c.and-found.ensures,
-    )
+loop-done-preserved c = (
+  span_within c.args.n c.loop-done.done c.free_span-step.result.done c.free_span-step.ensures.done_le_n c.loop-done.invariant.0,
+  c.free_span-step.auto.words ∙ c.loop-done.invariant.1,
+  span_roomy c.args.up (lent_memory c.loop-done.words c.loop-done.bitmap c.loop-done.left) c.args.root.0 (c.args.virt.0 + c.loop-done.done * 4096) c.free_span-step.result.done
+      c.free_span-step.ensures.frames_after c.loop-done.invariant.2,
+  c.free_span-step.ensures.blank_2,
+  c.loop-done.invariant.4
+      ∙ span_on c.args.up c.args.root.0 c.args.virt.0 c.args.n c.loop-done.done c.free_span-step.result.done (lent_memory c.loop-done.words c.loop-done.bitmap c.loop-done.left)
+      (lent_memory c.free_span-step.new.words c.free_span-step.new.bitmap c.free_span-step.result.frames) c.free_span-step.ensures.done_le_n c.loop-done.invariant.0 c.free_span-step.ensures.frames_after,
+  tells_on c.loop-done.invariant.5 c.free_span-step.ensures.tells c.and-found.ensures,
+)
 
 pub returns-clause-frames_after : goal.returns-clause-frames_after
 returns-clause-frames_after c =
     sym
-            (c.loop-done.invariant.4 ∙ free_end c.args.root.0 (c.args.virt.0 + c.loop-done.done * 4096) c.loop-done.done c.args.n c.loop-done-test.false
-            (lent_memory c.loop-done.words c.loop-done.bitmap c.loop-done.left) c.args.up)
+    (c.loop-done.invariant.4 ∙ free_end c.args.root.0 (c.args.virt.0 + c.loop-done.done * 4096) c.loop-done.done c.args.n c.loop-done-test.false
+    (lent_memory c.loop-done.words c.loop-done.bitmap c.loop-done.left) c.args.up)

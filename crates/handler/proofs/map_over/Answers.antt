@@ -13,7 +13,7 @@ use Rattle.handler.proofs.map_over.Goals as goal
 pub put_over-requires-clause-words_lent : goal.put_over-requires-clause-words_lent
 put_over-requires-clause-words_lent c =
     let lent : Memory = lent_memory c.args.words.now c.args.bitmap.now c.args.frames in let is = indices (suc c.args.up) c.args.virt.0 in roomy_lent (made_roomy c.args.user (lent) c.args.root.0 (take c.args.up is) c.make_tables-made.ensures 0
-          (roomy_less {m = lent} _ (omega (arith, length-take c.args.up is, c.requires.up_le_most_above)) c.requires.room_to_take))
+    (roomy_less {m = lent} _ (omega (arith, length-take c.args.up is, c.requires.up_le_most_above)) c.requires.room_to_take))
 
 pub put_over-requires-clause-f_value : goal.put_over-requires-clause-f_value
 put_over-requires-clause-f_value c =

@@ -84,7 +84,7 @@ returns-in-Stop-clause-found_value c =
     let call : User → UserDid = λ u. munmap_of u c.args.root.0 c.args.addr.0 c.args.size in let lent : User = lent_user c.args.words.now c.args.bitmap.now c.args.frames c.args.list.now in let Good : Type 0 = (mmap_fit c.args.list.now ≡ true) × (sound_user (lent) c.args.root.0 ≡ true) in let tested : (r : Bool) → r ≡ both (mmap_fit c.args.list.now) (sound_user (lent) c.args.root.0) → r ≡ true → Good = λ r e h. both_true (mmap_fit c.args.list.now) (sound_user (lent) c.args.root.0) (passed e h) in let good : Good = tested _ c.is_whole.ensures c.if-not-is_whole.false in let g = good in let n = sym c.page_align_up.ensures ∙ c.in-Stop.is in let o = on_list as_answer (call) (lent).mem c.args.list.now g.0
     (not_unmapped_left _ (λ i. (c.slice_known-2-1.given i).fits) g.0
     (munmap_large (c.args.frames.levels - 1) (lent) c.args.root.0 c.args.addr.0 c.args.size g.1 c.if-size-eq0.false c.if-addr-ne0.false _ n) c.not_unmapped-in-Stop.ensures) in not_unmapped_found c.not_unmapped-in-Stop.ensures
-            (tally_large (lent).mem c.args.list.now c.args.root.0 c.args.addr.0 c.args.size g.0 g.1 c.if-size-eq0.false c.if-addr-ne0.false _ n)
+    (tally_large (lent).mem c.args.list.now c.args.root.0 c.args.addr.0 c.args.size g.0 g.1 c.if-size-eq0.false c.if-addr-ne0.false _ n)
 
 pub returns-in-Value-clause-list_after : goal.returns-in-Value-clause-list_after
 returns-in-Value-clause-list_after c =

@@ -53,15 +53,15 @@ remove_at-requires-clause-at_bound c =
     let held : holds c.args.addr.0 c.args.n (listed (mmap_in c.args.list.now)) ≡ true = passed c.holds_at.ensures c.if-not-holds_at.false in let lent : User = lent_user c.args.words.now c.args.bitmap.now c.args.frames c.args.list.now in let listed-sound : sound_list c.args.list.now ≡ true = list_sound (lent).mem c.args.list.now c.args.root.0 c.requires.list_value c.requires.root_value in
     let l = listed (mmap_in c.args.list.now) in
     let below : c.place_of-at.result < (mmap_in c.args.list.now).count
-        = place_below c.args.list.now listed-sound c.args.addr.0 c.place_of-at.result c.place_of-at.ensures (holds_starts c.args.addr.0 c.args.n l held) in
+    = place_below c.args.list.now listed-sound c.args.addr.0 c.place_of-at.result c.place_of-at.ensures (holds_starts c.args.addr.0 c.args.n l held) in
     (below, sound_few c.args.list.now listed-sound)
 
 pub returns-clause-user_leaves : goal.returns-clause-user_leaves
 returns-clause-user_leaves c =
     let held : holds c.args.addr.0 c.args.n (listed (mmap_in c.args.list.now)) ≡ true = passed c.holds_at.ensures c.if-not-holds_at.false in let lent : User = lent_user c.args.words.now c.args.bitmap.now c.args.frames c.args.list.now in let listed-sound : sound_list c.args.list.now ≡ true = list_sound (lent).mem c.args.list.now c.args.root.0 c.requires.list_value c.requires.root_value in
     let taken : (k : ℕ) → k ≡ place_of start_key c.args.addr.0 (listed (mmap_in c.args.list.now)) → taken_out k (listed (mmap_in c.args.list.now)) ≡ remove c.args.addr.0 (listed (mmap_in c.args.list.now))
-        = λ k e. ap (λ (i : ℕ). taken_out i (listed (mmap_in c.args.list.now))) e
-          ∙ sym (remove_there start_key c.args.addr.0 0 (listed (mmap_in c.args.list.now)) (sound_rising c.args.list.now listed-sound).0 (holds_starts c.args.addr.0 c.args.n (listed (mmap_in c.args.list.now)) held)) in
+    = λ k e. ap (λ (i : ℕ). taken_out i (listed (mmap_in c.args.list.now))) e
+    ∙ sym (remove_there start_key c.args.addr.0 0 (listed (mmap_in c.args.list.now)) (sound_rising c.args.list.now listed-sound).0 (holds_starts c.args.addr.0 c.args.n (listed (mmap_in c.args.list.now)) held)) in
     let unmapped : (m : Memory) (left : List ℕ) (k : ℕ) → holds c.args.addr.0 c.args.n (listed (mmap_in c.args.list.now)) ≡ true → k ≡ place_of start_key c.args.addr.0 (listed (mmap_in c.args.list.now)) → m ≡ free_pages (c.args.frames.levels - 1) (lent).mem c.args.root.0 c.args.addr.0 (c.args.n / 4096) → Bytes left → MmapStands left (store no_mapped_region (taken_out k (listed (mmap_in c.args.list.now))) (mmap_in c.args.list.now)) (next_in c.args.list.now) → UserLeaves as_answer (kept (as_answer (Value 0)) m left) (unmap_region (c.args.frames.levels - 1) (lent) c.args.root.0 c.args.addr.0 c.args.n) = λ m left k h e f b g. let l = mmap_in c.args.list.now in
     leaves as_answer b (g.0, g.1 ∙ ap (λ (x : List MappedRegion). store no_mapped_region x l) (taken k e), g.2)
     (unmap_met (c.args.frames.levels - 1) (lent) c.args.root.0 c.args.addr.0 c.args.n h

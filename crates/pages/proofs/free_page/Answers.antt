@@ -18,7 +18,7 @@ returns-in-Stop-clause-found_value c =
 pub returns-in-Value-clause-frames_after : goal.returns-in-Value-clause-frames_after
 returns-in-Value-clause-frames_after c =
     let m = lent_memory c.args.words.now c.args.bitmap.now c.args.frames in let came = unmapped c.unmap_leaf.ensures.value c.unmap_leaf.ensures.words_after c.in-Value.is in ap (λ (x : Frames). memory c.unmap_leaf.new.words x) c.give_back.ensures.frames_after
-          ∙ sym (free_page_lem c.args.up m c.args.root.0 c.args.virt.0 _ c.unmap_leaf.new.words came)
+    ∙ sym (free_page_lem c.args.up m c.args.root.0 c.args.virt.0 _ c.unmap_leaf.new.words came)
 
 pub returns-in-Value-clause-found_value : goal.returns-in-Value-clause-found_value
 returns-in-Value-clause-found_value c =

@@ -9,7 +9,7 @@ use Rattle.pages.proofs.map_fresh.Goals as goal
 pub map_entry-mapped-requires-clause-room_to_take : goal.map_entry-mapped-requires-clause-room_to_take
 map_entry-mapped-requires-clause-room_to_take c =
     fresh_left {m = lent_memory c.args.words.now c.args.bitmap.now c.args.frames} {m' = lent_memory c.fresh_frame-fresh.new.words c.fresh_frame-fresh.new.bitmap c.fresh_frame-fresh.result.frames}
-          c.fresh_frame-fresh.ensures 4 c.requires.room_to_take
+    c.fresh_frame-fresh.ensures 4 c.requires.room_to_take
 
 pub returns-in-Stop : goal.returns-in-Stop
 returns-in-Stop c =

@@ -14,15 +14,14 @@ returns-in-Stop c =
     (lent_memory c.map_fresh-r.new.words c.map_fresh-r.new.bitmap c.map_fresh-r.result.frames) c.map_fresh-r.ensures c.loop-i.invariant.3 _ c.in-Stop.is
 
 pub loop-i-preserved : goal.loop-i-preserved
-loop-i-preserved c =
-    (
-      onward c.loop-i.i c.args.n c.loop-i-test.true,
-      c.map_fresh-r.auto.words ∙ c.loop-i.invariant.1,
-      turn_left c.args.root.0 c.args.virt.0 c.loop-i.i c.args.n c.loop-i-test.true c.args.up c.args.writable c.args.user (lent_memory c.loop-i.words c.loop-i.bitmap c.loop-i.left)
-          (lent_memory c.map_fresh-r.new.words c.map_fresh-r.new.bitmap c.map_fresh-r.result.frames) c.map_fresh-r.ensures c.requires.up_le_most_above c.loop-i.invariant.2,
-      turn_on c.args.root.0 c.args.virt.0 c.loop-i.i c.args.n c.loop-i-test.true c.args.up c.args.writable c.args.user (lent_memory c.loop-i.words c.loop-i.bitmap c.loop-i.left)
-          (lent_memory c.map_fresh-r.new.words c.map_fresh-r.new.bitmap c.map_fresh-r.result.frames) c.map_fresh-r.ensures c.loop-i.invariant.3 _ c.in-Value.is,
-    )
+loop-i-preserved c = (
+  onward c.loop-i.i c.args.n c.loop-i-test.true,
+  c.map_fresh-r.auto.words ∙ c.loop-i.invariant.1,
+  turn_left c.args.root.0 c.args.virt.0 c.loop-i.i c.args.n c.loop-i-test.true c.args.up c.args.writable c.args.user (lent_memory c.loop-i.words c.loop-i.bitmap c.loop-i.left)
+      (lent_memory c.map_fresh-r.new.words c.map_fresh-r.new.bitmap c.map_fresh-r.result.frames) c.map_fresh-r.ensures c.requires.up_le_most_above c.loop-i.invariant.2,
+  turn_on c.args.root.0 c.args.virt.0 c.loop-i.i c.args.n c.loop-i-test.true c.args.up c.args.writable c.args.user (lent_memory c.loop-i.words c.loop-i.bitmap c.loop-i.left)
+      (lent_memory c.map_fresh-r.new.words c.map_fresh-r.new.bitmap c.map_fresh-r.result.frames) c.map_fresh-r.ensures c.loop-i.invariant.3 _ c.in-Value.is,
+)
 
 pub returns : goal.returns
 returns c =

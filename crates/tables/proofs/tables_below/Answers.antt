@@ -31,8 +31,7 @@ loop-done-preserved c =
     let fewer-up : c.args.up - c.loop-done.done - 1 ≡ c.args.up - (c.loop-done.done + 1) = omega arith in
     path_next (c.args.k - c.loop-done.done) (c.args.up - c.loop-done.done) c.args.virt.0 (omega arith) (omega (arith, c.requires.k_le_up))
     ∙ ap₂ (λ (x y : ℕ). index (c.args.up - c.loop-done.done) c.args.virt.0 ∷ take x (indices_of (suc y) c.args.virt.0)) fewer-k fewer-up
-    ∙ ap (λ i. i ∷ take (c.args.k - (c.loop-done.done + 1)) (indices_of (suc (c.args.up - (c.loop-done.done + 1))) c.args.virt.0)) (sym c.page_index-i.ensures.value) in
-    (
+    ∙ ap (λ i. i ∷ take (c.args.k - (c.loop-done.done + 1)) (indices_of (suc (c.args.up - (c.loop-done.done + 1))) c.args.virt.0)) (sym c.page_index-i.ensures.value) in (
       onward c.loop-done.done c.args.k c.loop-done-test.true,
       c.enter-r.auto.words ∙ c.loop-done.invariant.1,
       entered_left c.args.user (lent_memory c.loop-done.words c.loop-done.bitmap c.loop-done.left) c.loop-done.t c.page_index-i.result c.enter-r.result.walked

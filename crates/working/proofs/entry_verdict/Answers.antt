@@ -32,7 +32,7 @@ returns-then-is_inside c =
       there,
       omega (arith, c.if-below-eq0.false),
       elim c.else-below-eq1.branch [
-        else-below-eq1-via-then-below-eq1+else-is_huge w ↦ ap (both (eqb c.args.below 1)) (sym w.is_huge.ensures ∙ w.if-is_huge.false) ∙ both_false (eqb c.args.below 1)
+        | else-below-eq1-via-then-below-eq1+else-is_huge w ↦ ap (both (eqb c.args.below 1)) (sym w.is_huge.ensures ∙ w.if-is_huge.false) ∙ both_false (eqb c.args.below 1)
         | else-below-eq1-via-else-below-eq1 w ↦ ap (λ b. both b (flag 7 c.args.e.0)) (ne_eqb c.args.below 1 (λ e. omega (arith, e, w.if-below-eq1.false)))
       ],
     ) in
@@ -45,7 +45,7 @@ returns c =
       there,
       omega (arith, c.if-below-eq0.false),
       elim c.else-below-eq1.branch [
-        else-below-eq1-via-then-below-eq1+else-is_huge w ↦ ap (both (eqb c.args.below 1)) (sym w.is_huge.ensures ∙ w.if-is_huge.false) ∙ both_false (eqb c.args.below 1)
+        | else-below-eq1-via-then-below-eq1+else-is_huge w ↦ ap (both (eqb c.args.below 1)) (sym w.is_huge.ensures ∙ w.if-is_huge.false) ∙ both_false (eqb c.args.below 1)
         | else-below-eq1-via-else-below-eq1 w ↦ ap (λ b. both b (flag 7 c.args.e.0)) (ne_eqb c.args.below 1 (λ e. omega (arith, e, w.if-below-eq1.false)))
       ],
     ) in

@@ -11,8 +11,8 @@ use Rattle.working.proofs.show_rows.Goals as goal
 pub returns-then-not-goes_on-clause-value : goal.returns-then-not-goes_on-clause-value
 returns-then-not-goes_on-clause-value c =
     let few : c.args.levels ≤ 5 = c.requires.levels_le_most_levels in let end = failed c.goes_on.ensures c.if-not-goes_on.true in c.phys_at.ensures
-          ∙ ap (λ (e : Leaf). as_phys (address c.args.virt.0 e)) (c.leaf_by.ensures
-          ∙ end_answer c.loop-level.invariant (few) c.page_index-i.ensures.value c.entry_place.ensures c.entry_verdict-verdict.ensures c.put_row.ensures end)
+    ∙ ap (λ (e : Leaf). as_phys (address c.args.virt.0 e)) (c.leaf_by.ensures
+    ∙ end_answer c.loop-level.invariant (few) c.page_index-i.ensures.value c.entry_place.ensures c.entry_verdict-verdict.ensures c.put_row.ensures end)
 
 pub returns-then-not-goes_on-clause-out_after : goal.returns-then-not-goes_on-clause-out_after
 returns-then-not-goes_on-clause-out_after c =

@@ -10,7 +10,7 @@ use Rattle.mapper.proofs.inner.map_entry.Goals as goal
 pub put_entry-put-requires-clause-words_lent : goal.put_entry-put-requires-clause-words_lent
 put_entry-put-requires-clause-words_lent c =
     roomy_lent (made_left c.args.user (lent_memory c.args.words.now c.args.bitmap.now c.args.frames) c.args.root.0 (indices (suc c.args.up) c.args.virt.0) c.args.k c.make_tables-made.ensures
-          (le_trans c.requires.k_le_up c.requires.up_le_most_above) c.requires.room_to_take)
+    (le_trans c.requires.k_le_up c.requires.up_le_most_above) c.requires.room_to_take)
 
 pub returns-in-Stop-clause-value : goal.returns-in-Stop-clause-value
 returns-in-Stop-clause-value c =

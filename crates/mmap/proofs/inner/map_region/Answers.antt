@@ -37,23 +37,23 @@ map_pages-run-requires-clause-up_le_most_above c =
 pub clear_after-requires-clause-words_lent : goal.clear_after-requires-clause-words_lent
 clear_after-requires-clause-words_lent c =
     let lent : User = lent_user c.args.words.now c.args.bitmap.now c.args.frames c.args.list.now in let few : c.args.frames.levels - 1 ≤ 4 = whole_above (lent).mem c.args.root.0 (user_whole (lent) c.args.root.0 c.requires.root_value) in let roomy : RoomToTake (lent).mem (c.args.n / 4096 * 5) = whole_roomy (lent).mem c.args.root.0 (user_whole (lent) c.args.root.0 c.requires.root_value) (c.args.n / 4096 * 5) (omega (arith, c.requires.n_bound)) in let left-lent : (b : Bool) (w : Outcome) (k : ℕ) (m : Memory) → ran w k m ≡ map_pages (c.args.frames.levels - 1) b true (lent).mem c.args.root.0 c.args.virt.0 0 (c.args.n / 4096) → WordsLent m.words (start_frame m) (total_of m) × (c.args.virt.0 + k * 4096 < 2 ^ 64) = λ b w k m h. (
-  ran_lent (c.args.frames.levels - 1) b true (lent).mem c.args.root.0 c.args.virt.0 (c.args.n / 4096) h (few) (roomy),
-  omega (arith, ran_few (c.args.frames.levels - 1) b true (lent).mem c.args.root.0 c.args.virt.0 (c.args.n / 4096) h, c.requires.n_value, c.requires.n_bound),
-) in let l = left-lent c.is_writable.result _ _ _ c.map_pages-run.ensures in l.0
+      ran_lent (c.args.frames.levels - 1) b true (lent).mem c.args.root.0 c.args.virt.0 (c.args.n / 4096) h (few) (roomy),
+      omega (arith, ran_few (c.args.frames.levels - 1) b true (lent).mem c.args.root.0 c.args.virt.0 (c.args.n / 4096) h, c.requires.n_value, c.requires.n_bound),
+    ) in let l = left-lent c.is_writable.result _ _ _ c.map_pages-run.ensures in l.0
 
 pub clear_after-requires-clause-done_bound : goal.clear_after-requires-clause-done_bound
 clear_after-requires-clause-done_bound c =
     let lent : User = lent_user c.args.words.now c.args.bitmap.now c.args.frames c.args.list.now in let few : c.args.frames.levels - 1 ≤ 4 = whole_above (lent).mem c.args.root.0 (user_whole (lent) c.args.root.0 c.requires.root_value) in let roomy : RoomToTake (lent).mem (c.args.n / 4096 * 5) = whole_roomy (lent).mem c.args.root.0 (user_whole (lent) c.args.root.0 c.requires.root_value) (c.args.n / 4096 * 5) (omega (arith, c.requires.n_bound)) in let left-lent : (b : Bool) (w : Outcome) (k : ℕ) (m : Memory) → ran w k m ≡ map_pages (c.args.frames.levels - 1) b true (lent).mem c.args.root.0 c.args.virt.0 0 (c.args.n / 4096) → WordsLent m.words (start_frame m) (total_of m) × (c.args.virt.0 + k * 4096 < 2 ^ 64) = λ b w k m h. (
-  ran_lent (c.args.frames.levels - 1) b true (lent).mem c.args.root.0 c.args.virt.0 (c.args.n / 4096) h (few) (roomy),
-  omega (arith, ran_few (c.args.frames.levels - 1) b true (lent).mem c.args.root.0 c.args.virt.0 (c.args.n / 4096) h, c.requires.n_value, c.requires.n_bound),
-) in let l = left-lent c.is_writable.result _ _ _ c.map_pages-run.ensures in l.1
+      ran_lent (c.args.frames.levels - 1) b true (lent).mem c.args.root.0 c.args.virt.0 (c.args.n / 4096) h (few) (roomy),
+      omega (arith, ran_few (c.args.frames.levels - 1) b true (lent).mem c.args.root.0 c.args.virt.0 (c.args.n / 4096) h, c.requires.n_value, c.requires.n_bound),
+    ) in let l = left-lent c.is_writable.result _ _ _ c.map_pages-run.ensures in l.1
 
 pub clear_after-requires-clause-up_le_most_above : goal.clear_after-requires-clause-up_le_most_above
 clear_after-requires-clause-up_le_most_above c =
     let lent : User = lent_user c.args.words.now c.args.bitmap.now c.args.frames c.args.list.now in let few : c.args.frames.levels - 1 ≤ 4 = whole_above (lent).mem c.args.root.0 (user_whole (lent) c.args.root.0 c.requires.root_value) in let roomy : RoomToTake (lent).mem (c.args.n / 4096 * 5) = whole_roomy (lent).mem c.args.root.0 (user_whole (lent) c.args.root.0 c.requires.root_value) (c.args.n / 4096 * 5) (omega (arith, c.requires.n_bound)) in let left-lent : (b : Bool) (w : Outcome) (k : ℕ) (m : Memory) → ran w k m ≡ map_pages (c.args.frames.levels - 1) b true (lent).mem c.args.root.0 c.args.virt.0 0 (c.args.n / 4096) → WordsLent m.words (start_frame m) (total_of m) × (c.args.virt.0 + k * 4096 < 2 ^ 64) = λ b w k m h. (
-  ran_lent (c.args.frames.levels - 1) b true (lent).mem c.args.root.0 c.args.virt.0 (c.args.n / 4096) h (few) (roomy),
-  omega (arith, ran_few (c.args.frames.levels - 1) b true (lent).mem c.args.root.0 c.args.virt.0 (c.args.n / 4096) h, c.requires.n_value, c.requires.n_bound),
-) in let l = left-lent c.is_writable.result _ _ _ c.map_pages-run.ensures in few
+      ran_lent (c.args.frames.levels - 1) b true (lent).mem c.args.root.0 c.args.virt.0 (c.args.n / 4096) h (few) (roomy),
+      omega (arith, ran_few (c.args.frames.levels - 1) b true (lent).mem c.args.root.0 c.args.virt.0 (c.args.n / 4096) h, c.requires.n_value, c.requires.n_bound),
+    ) in let l = left-lent c.is_writable.result _ _ _ c.map_pages-run.ensures in few
 
 pub returns-in-Stop : goal.returns-in-Stop
 returns-in-Stop c =
