@@ -1,10 +1,10 @@
 // The copy of a copy-on-write page, of page_fault.rs, on a record that was tested; `raw_frame` and `map_frame` serve demand paging too, and `raw_frame` the second path.
 #![tactic(auto)]
 
-ghost use Rattle.std.specs.Prelude.{◌≡◌, true, List, ℕ, ◌+◌, ◌*◌, ◌%◌, ◌<◌, ◌≤◌, length, take, drop};
+ghost use Rattle.std.specs.Prelude.{◌≡◌, true, List, ℕ, ◌+◌, ◌*◌, ◌%◌, ◌<◌, ◌≤◌, length, take, drop, ◌^◌};
 ghost use Rattle.std.proofs.lemmas.List.Edits.{sets};
 ghost use Rattle.answer.specs.Outcomes.{and_then};
-ghost use Rattle.frame.specs.Frames.{frames_end, inside, RoomToCount};
+ghost use Rattle.frame.specs.Frames.{inside, RoomToCount};
 ghost use Rattle.frame.specs.Found.{none_found};
 ghost use Rattle.paging.specs.Walk.{WordsLent};
 ghost use Rattle.paging.specs.Levels.{most_above};
@@ -63,7 +63,7 @@ pub fn map_frame(
     user: bool,
 ) -> Entered
     requires room_to_take { RoomToTake (lent_memory words.old bitmap.old frames) most_above }
-    requires f_lt_frames_end { f < frames_end }
+    requires f_bound { f < 2 ^ 40 }
     requires up_le_most_above { up ≤ most_above }
     ensures { out_of result words.new bitmap.new
         ≡ map_frame up (lent_memory words.old bitmap.old frames) root.0 virt.0 f writable user }
@@ -199,7 +199,7 @@ fn remap_page(
     user: bool,
 ) -> Copied
     requires room_to_take { RoomToTake (lent_memory words.old bitmap.old frames) most_above }
-    requires f_lt_frames_end { f < frames_end }
+    requires f_bound { f < 2 ^ 40 }
     requires up_le_most_above { up ≤ most_above }
     ensures frames_after { out result.walked (lent_memory words.new bitmap.new result.frames)
         ≡ remapped up (lent_memory words.old bitmap.old frames) root.0 page.0 f user }

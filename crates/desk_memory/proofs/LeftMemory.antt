@@ -26,7 +26,7 @@ use Rattle.answer.specs.declared.Outcome.TheVariants.{Value, Stop}
 use Rattle.paging.specs.declared.HugePageSize.{HugePageSize}
 use Rattle.paging.specs.Levels.{above_last}
 use Rattle.paging.specs.Walk.{place, reach}
-use Rattle.paging.specs.Map.{Memory, Out, Left, left, take_leaf, unmap_entry}
+use Rattle.paging.specs.Map.{Memory, Out, Left as Stored, left as stored, take_leaf, unmap_entry}
 use Rattle.paging.specs.Calls.{whole, lent_walk, map_page, map_page_of, size_of, tables_above, map_huge, map_huge_of, unmap_page}
 use Rattle.paging.specs.Working.{show_translate}
 use Rattle.paging.proofs.Working.{shows}
@@ -147,10 +147,10 @@ unmap_refused ws start total levels root v =
     up : ℕ
     up = levels - 1
 
-    Clean : Left → Type 0
+    Clean : Stored → Type 0
     Clean l = IsRefusal no_leftovers (frame_line (as_frame l.walked)).number → l.words ≡ ws
 
-    by : (w : Outcome) → Clean (and_then w (λ n. left (Stop n) ws) (λ t. take_leaf ws start total t (get_or (indices (suc up) v) up 0)))
+    by : (w : Outcome) → Clean (and_then w (λ n. stored (Stop n) ws) (λ t. take_leaf ws start total t (get_or (indices (suc up) v) up 0)))
     by (Stop n) = λ _. refl
     by (Value t) =
         pick_cases Clean (inside start total t) _ _

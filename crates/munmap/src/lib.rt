@@ -23,7 +23,7 @@ pub struct Munmapped {
     pub frames: FrameAllocator,
 }
 
-fn not_unmapped(number: u64, frames: FrameAllocator) -> Munmapped
+pub fn not_unmapped(number: u64, frames: FrameAllocator) -> Munmapped
     ensures { result ≡ record { answer = Answer.Refused number; found = none_found; frames = frames } }
 {
     Munmapped {
@@ -34,7 +34,7 @@ fn not_unmapped(number: u64, frames: FrameAllocator) -> Munmapped
 }
 
 // The region of n bytes at `addr`: its pages unmapped and their frames freed, then its slot; 16 where there is none.
-fn unmap_region(
+pub fn unmap_region(
     words: &mut [u64],
     bitmap: &mut Marks,
     frames: FrameAllocator,

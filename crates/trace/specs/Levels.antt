@@ -1,9 +1,9 @@
 -- 'A board is started with 4 or 5 levels, 4 if none is named, as after a lone `init` .. Another number, at the start or in a lent record, is refused with 10': by every
 -- call that is lent it, on every board, whatever it holds.
-use Rattle.std.specs.Prelude.{ℕ, ◌*◌, ◌≤◌, ◌<◌, ◌≡◌, true, false, length}
+use Rattle.std.specs.Prelude.{ℕ, ◌*◌, ◌^◌, ◌≤◌, ◌<◌, ◌≡◌, true, false, length}
 use Rattle.answer.specs.declared.Line.{Line}
 use Rattle.answer.specs.Numbers.{broken_record}
-use Rattle.frame.specs.Frames.{is_levels, address_end}
+use Rattle.frame.specs.Frames.{is_levels}
 use Rattle.paging.specs.Levels.{levels_of}
 use Rattle.board.specs.Board.{Board, frame_count}
 use Rattle.trace.specs.Trace.{AnyCall, region_call, mprotect_call, fault_call, second_fault_call, mark_cow_call, unmark_cow_call, is_cow_call, map_page_call}
@@ -57,5 +57,5 @@ pub record LevelsNamed : Type 0 where
   pub by_start : (b : Board) (from to levels : ℕ) → (play b (start_call from to levels)).line.number ≡ 0
       → (is_levels levels ≡ true) × (levels_of (play b (start_call from to levels)).board.mem ≡ levels)
   pub other_start : (b : Board) (from to levels : ℕ) → is_levels levels ≡ false → play b (start_call from to levels) ≡ played ten_line b
-  pub some_start : (b : Board) (from to levels : ℕ) → is_levels levels ≡ true → from ≤ to → to ≤ address_end → frame_count from to * 512 ≤ length b.mem.words
+  pub some_start : (b : Board) (from to levels : ℕ) → is_levels levels ≡ true → from ≤ to → to ≤ 2 ^ 52 → frame_count from to * 512 ≤ length b.mem.words
       → 0 < frame_count from to → (play b (start_call from to levels)).line.number ≡ 0

@@ -20,8 +20,8 @@ pub map_frame-requires-clause-room_to_take : goal.map_frame-requires-clause-room
 map_frame-requires-clause-room_to_take c =
     let e = c.raw_frame-taken.ensures c.args.words.now in let room = taken_roomy _ e 4 c.requires.room_to_take in room
 
-pub map_frame-requires-clause-f_lt_frames_end : goal.map_frame-requires-clause-f_lt_frames_end
-map_frame-requires-clause-f_lt_frames_end c =
+pub map_frame-requires-clause-f_bound : goal.map_frame-requires-clause-f_bound
+map_frame-requires-clause-f_bound c =
     let e = c.raw_frame-taken.ensures c.args.words.now in let room = taken_roomy _ e 4 c.requires.room_to_take in frame_low _ room (taken_lent _ e _ c.in-Value.is)
 
 pub returns-in-Stop : goal.returns-in-Stop
