@@ -1,3 +1,4 @@
+-- `align_up` tests that the exact sum has 64 bits, by a difference that does not wrap, and rounds it down.
 use Rattle.std.proofs.Common.{◌-◌, ◌+◌, ◌<◌, ◌≤◌}
 use Rattle.allocator.specs.Round.{align_up}
 use Prim.Native.Nat.{◌^◌}

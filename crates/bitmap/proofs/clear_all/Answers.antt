@@ -1,3 +1,4 @@
+-- `bitmap::clear_all`: words of zero bytes are zero.
 use Rattle.packed.proofs.RoundTrip.{unpack_zeros}
 use Rattle.bitmap.proofs.clear_all.Goals as goal
 

@@ -1,3 +1,4 @@
+-- `count`: whole words, and the bits of the last one.
 use Rattle.std.proofs.Common.{◌≡◌, ℕ, ◌+◌, ◌%◌}
 use Rattle.bitmap.specs.Bitmap.{count as count_below, marks_in}
 use Prim.Native.Nat.{◌^◌}

@@ -1,3 +1,4 @@
+-- `count_whole`: full words, then those counted; none is marked behind them.
 use Rattle.std.proofs.Common.{◌≡◌, ◌+◌, ◌*◌}
 use Rattle.bitmap.specs.Bitmap.{count as count_below, marks_in}
 use native.Mathlib.Omega.{arith}

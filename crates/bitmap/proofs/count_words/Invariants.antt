@@ -1,3 +1,4 @@
+-- `count_words`: the sum is that of the words so far.
 use Rattle.std.proofs.Common.{◌≡◌, ◌+◌, ◌*◌, ◌-◌, ◌≤◌}
 use Rattle.bitmap.specs.Bitmap.{count as count_below, marks_in}
 use Rattle.bitmap.proofs.count_words.Given as goal

@@ -1,3 +1,4 @@
+-- `full_words`: the words passed are full.
 use Rattle.std.proofs.Common.{◌≡◌, ◌*◌, ◌-◌, ◌≤◌}
 use Rattle.bitmap.specs.Bitmap.{count as count_below, marks_in}
 use Rattle.bitmap.proofs.full_words.Given as goal

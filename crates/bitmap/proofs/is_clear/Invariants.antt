@@ -1,3 +1,4 @@
+-- `is_clear`: if the flag is 0 so far, nothing so far is marked.
 use Rattle.std.proofs.Common.{◌≡◌, ◌*◌, ◌-◌, ◌≤◌}
 use Rattle.bitmap.specs.Bitmap.{count as count_below, marks_in}
 use Rattle.bitmap.proofs.is_clear.Given as goal

@@ -1,3 +1,4 @@
+-- `bitmap::mark` meets its contract: setting a clear bit adds its power of two to the word.
 use mathlib.Core.Path.{◌∙◌}
 use Rattle.bitmap.proofs.ByWord.{stored}
 use Rattle.bitmap.proofs.mark.Goals as goal

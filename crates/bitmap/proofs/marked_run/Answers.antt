@@ -1,3 +1,4 @@
+-- `bitmap::marked_run` meets its contract: the zeros at the low end of the complement are the run of ones at the low end of the word.
 use Rattle.bits.proofs.Counts.{run_below, run_end}
 use Rattle.bitmap.proofs.marked_run.Goals as goal
 

@@ -1,3 +1,4 @@
+-- `bitmap::put_word`: eight bytes stored are one word of the bitmap stored.
 use Rattle.bitmap.specs.Bitmap.{marks_in}
 use mathlib.Core.Path.{◌∙◌, ap}
 use native.Mathlib.Omega.{arith}

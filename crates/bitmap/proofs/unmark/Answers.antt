@@ -1,3 +1,4 @@
+-- `bitmap::unmark` meets its contract: clearing a set bit takes its power of two from the word.
 use mathlib.Core.Path.{◌∙◌}
 use Rattle.bitmap.proofs.ByWord.{cleared}
 use Rattle.bitmap.proofs.unmark.Goals as goal

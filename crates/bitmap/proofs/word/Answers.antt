@@ -1,3 +1,4 @@
+-- `bitmap::word`: the number in eight bytes is the word of the bitmap that they stand for.
 use mathlib.Core.Path.{◌∙◌}
 use native.Mathlib.Omega.{arith}
 use Rattle.packed.proofs.Words.{word_of}

@@ -1,3 +1,4 @@
+-- `begin`: the allocator anew, its first frame marked and zeroed, and the lists anew.
 use Rattle.board.specs.Board.{Board}
 use Rattle.board.specs.Packed.{board_of}
 use native.Mathlib.Omega.{arith}

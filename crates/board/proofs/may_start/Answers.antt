@@ -1,3 +1,4 @@
+-- `may_start`: 10 by the levels, the addresses or the words, 11 without a frame.
 use Rattle.std.proofs.Common.{◌≡◌, true, ◌≤◌, ◌*◌}
 use Rattle.board.specs.Board.{frame_count}
 use mathlib.Core.Path.{sym, ◌∙◌}

@@ -1,3 +1,4 @@
+-- `start`: refused before anything is written, or begun.
 use Rattle.std.proofs.Common.{◌≡◌, true}
 use Rattle.board.specs.Packed.{board_bytes, lists_long, BoardBytes}
 use mathlib.Core.Path.{sym, ◌∙◌, ap}

@@ -1,3 +1,4 @@
+-- `copy_on_write`: 11, or the copy to the frame that was taken.
 use mathlib.Core.Path.{sym, ◌∙◌}
 use Rattle.tables.proofs.Laws.{stepped}
 use Rattle.copying.proofs.Copying.{taken_roomy, taken_lent, cow_none, cow_on, cow_found_none, cow_found}

@@ -1,3 +1,4 @@
+-- `copy_page`: the temporary page is unmapped if it is mapped, mapped to the new frame, and unmapped again once the words are copied.
 use Rattle.std.proofs.Common.{rules, ◌≡◌, true, length, false}
 use Rattle.paging.specs.Walk.{WordsLent}
 use Rattle.paging.specs.Map.{out, RoomToTake, Memory}

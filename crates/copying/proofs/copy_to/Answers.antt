@@ -1,3 +1,4 @@
+-- `copy_to`: the words copied, then the page remapped.
 use Rattle.paging.specs.Map.{Memory}
 use Rattle.paging.specs.Kept.{lent_memory}
 use native.Mathlib.Omega.{arith}

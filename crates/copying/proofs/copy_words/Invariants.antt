@@ -1,3 +1,4 @@
+-- `copy_words`: one word a turn. The invariant: what is left to copy comes out as the whole.
 use Rattle.std.proofs.Common.{◌≡◌, ◌+◌, ◌-◌, ◌≤◌, length}
 use Rattle.copying.specs.Copying.{copy_words}
 use Rattle.copying.proofs.copy_words.Given as goal

@@ -1,3 +1,4 @@
+-- `map_frame`: what mapping the page answers, with 18 for each refusal.
 use Rattle.paging.specs.Map.{Memory}
 use Rattle.paging.specs.Kept.{lent_memory}
 use Rattle.copying.proofs.Copying.{map_frame_met}

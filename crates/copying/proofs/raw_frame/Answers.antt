@@ -1,3 +1,4 @@
+-- `raw_frame`: the lowest free frame, or 11.
 use Rattle.paging.specs.Map.{memory}
 use Rattle.copying.proofs.Copying.{raw_made, raw_none}
 use Rattle.copying.proofs.raw_frame.Goals as goal

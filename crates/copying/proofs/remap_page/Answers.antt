@@ -1,3 +1,4 @@
+-- `remap_page`: the page freed, then mapped; where that is refused nothing was found.
 use Rattle.paging.specs.Map.{RoomToTake, Memory}
 use mathlib.Core.Path.{sym, subst}
 use Rattle.paging.proofs.Pages.{free_roomy}

@@ -1,3 +1,4 @@
+-- `is_reserved` tests bit 3.
 use Rattle.bits.proofs.Masks.{flag_mask}
 use Rattle.error_code.proofs.is_reserved.Goals as goal
 

@@ -1,3 +1,4 @@
+-- `is_user` tests bit 2.
 use Rattle.bits.proofs.Masks.{flag_mask}
 use Rattle.error_code.proofs.is_user.Goals as goal
 

@@ -1,3 +1,4 @@
+-- `handle_page_fault`: 10, or the first path at the address's page.
 use Rattle.std.proofs.Common.{rules, ◌≡◌, ◌-◌, true}
 use Rattle.paging.specs.Kept.{lent_memory}
 use Rattle.fault.specs.Faults.{handle_fault_of, Faulting, FaultDid, handled, handled_found, fault_found_of}

@@ -1,3 +1,4 @@
+-- `free_many`: no more pages than there are, in one run or block by block.
 use Rattle.std.proofs.Common.{◌≡◌, ℕ}
 use Rattle.paging.specs.Map.{Memory}
 use Rattle.paging.specs.Pages.{free_pages}

@@ -1,3 +1,4 @@
+-- `free_few`: one page a turn. The invariant: what is left to free from page i on comes out as the whole run, and the tally tells what is gone.
 use Rattle.std.proofs.Common.{◌≡◌, ◌+◌, ◌*◌, ◌-◌, ◌≤◌, length}
 use Rattle.paging.specs.Kept.{lent_memory}
 use Rattle.paging.specs.Map.{RoomToTake}

@@ -1,3 +1,4 @@
+-- `free_leaf`: the leaf, if there is one, and then its frame.
 use Rattle.frame.specs.Frames.{Frames}
 use Rattle.paging.specs.Map.{memory}
 use Rattle.paging.specs.Kept.{lent_memory}

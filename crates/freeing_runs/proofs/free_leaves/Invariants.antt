@@ -1,3 +1,4 @@
+-- `free_leaves`: one leaf a turn. The invariant: what is left to free from leaf j on comes out as the whole, and the tally tells what is gone.
 use Rattle.std.proofs.Common.{◌≡◌, ◌+◌, ◌-◌, ◌≤◌, length}
 use Rattle.paging.specs.Kept.{lent_memory}
 use Rattle.paging.specs.Map.{RoomToTake}

@@ -1,3 +1,4 @@
+-- `free_run`: one span a turn. The invariant: what is left to free comes out as the whole run, and the tables marked in `empty` have no present entry.
 use Rattle.std.proofs.Common.{◌≡◌, ◌+◌, ◌*◌, ◌-◌, ◌≤◌, length}
 use Rattle.bitmap.specs.Bitmap.{marks_in}
 use Rattle.paging.specs.Kept.{lent_memory}

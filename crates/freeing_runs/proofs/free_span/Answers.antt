@@ -1,3 +1,4 @@
+-- `free_span`: the pages of a gap, or the leaves of a table.
 use Rattle.paging.specs.Kept.{lent_memory}
 use Rattle.freeing_runs.proofs.Steps.{is_gap, is_leaves, gap_step, leaves_step}
 use Rattle.freeing_runs.proofs.free_span.Goals as goal

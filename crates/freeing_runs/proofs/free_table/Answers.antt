@@ -1,3 +1,4 @@
+-- `free_table`: a table that is marked is passed over; one that was gone through whole is marked.
 use Rattle.std.proofs.Common.{◌≡◌, ◌-◌}
 use Rattle.bitmap.specs.Bitmap.{marks_in, marked}
 use Rattle.paging.specs.Kept.{lent_memory}

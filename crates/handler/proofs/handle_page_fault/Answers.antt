@@ -1,3 +1,4 @@
+-- `handle_page_fault`: 10, or the second path at the address's page.
 use Rattle.std.proofs.Common.{rules, ◌≡◌, true, ◌-◌}
 use Rattle.paging.specs.Map.{Memory}
 use Rattle.paging.specs.Kept.{lent_memory}

@@ -1,3 +1,4 @@
+-- `map_over`: the tables on the way, then the word over what stands there.
 use Rattle.paging.specs.Map.{Memory}
 use Rattle.paging.specs.Kept.{lent_memory}
 use Prim.Native.Nat.{suc}

@@ -1,3 +1,4 @@
+-- `map_page`: 11, or the page mapped to the frame that was taken.
 use Rattle.copying.proofs.Copying.{taken_roomy, taken_lent}
 use Rattle.handler.proofs.map_page.Goals as goal
 

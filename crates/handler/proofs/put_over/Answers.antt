@@ -1,3 +1,4 @@
+-- `put_over`: 19, or the word at its place and the frame zeroed.
 use Rattle.std.proofs.Common.{◌≡◌, true, List, ℕ}
 use Rattle.frame.specs.Frames.{inside}
 use Rattle.paging.specs.Map.{out}

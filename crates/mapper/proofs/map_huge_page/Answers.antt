@@ -1,3 +1,4 @@
+-- `map_huge_page`: 10, then 4, or the entry below the tables that its size leaves.
 use Rattle.std.proofs.Common.{◌≡◌, ◌-◌, true}
 use Rattle.paging.specs.Calls.{whole, size_of}
 use Rattle.paging.specs.Kept.{lent_memory}

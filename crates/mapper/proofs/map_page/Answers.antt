@@ -1,3 +1,4 @@
+-- `map_page`: 10, or the entry below the tables of the levels above.
 use Rattle.std.proofs.Common.{◌≡◌, ◌-◌, true}
 use Rattle.paging.specs.Calls.{whole}
 use Rattle.paging.specs.Kept.{lent_memory}

@@ -1,3 +1,4 @@
+-- `unmap_page`: 10, or the leaf cleared.
 use Rattle.std.proofs.Common.{◌≡◌}
 use Rattle.paging.specs.Calls.{unmap_page}
 use Rattle.address.specs.Address.{as_frame}

@@ -1,3 +1,4 @@
+-- `mmap`: 10, 1, 3 for the size, then the region.
 use Rattle.std.proofs.Common.{◌≡◌, ℕ, ◌-◌, Bool, true, w32, to_z, of_z}
 use Rattle.paging.specs.Kept.{Kept}
 use Rattle.user_space.specs.Packed.{UserReads, lent_user, UserLeaves}

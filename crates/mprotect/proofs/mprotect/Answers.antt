@@ -1,3 +1,4 @@
+-- `mprotect`: 10, 1, 2, 3, then the region.
 use Rattle.std.proofs.Common.{◌≡◌, true, length, ℕ, Bool, ℤ}
 use Rattle.bits.specs.Bit.{both}
 use Rattle.paging.specs.Calls.{lent_walk}

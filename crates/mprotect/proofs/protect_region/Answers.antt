@@ -1,3 +1,4 @@
+-- `protect_region`: the region by its place and size, then its pages, then its slot.
 use Rattle.std.proofs.Common.{◌≡◌, true, length, ℕ, ◌-◌, ◌/◌, Bool, List, w32, to_z, of_z}
 use Rattle.mappings.specs.Packed.{mmap_in, next_in, MmapStands}
 use Rattle.mprotect.specs.Calls.{protect_region, protect_did}

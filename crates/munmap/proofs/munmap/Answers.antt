@@ -1,3 +1,4 @@
+-- `munmap`: 10, 1, 2, 3, then the region.
 use Rattle.std.proofs.Common.{◌≡◌, true, ◌-◌, ℕ, ◌%◌, Bool}
 use Rattle.answer.specs.Outcomes.{as_answer}
 use Rattle.paging.specs.Kept.{Kept}

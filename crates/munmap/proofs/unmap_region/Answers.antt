@@ -1,3 +1,4 @@
+-- `unmap_region`: the region by its place and size, then its pages, then its slot.
 use Rattle.std.proofs.Common.{◌≡◌, true, ◌-◌, ℕ, ◌<◌, ◌/◌, List}
 use Rattle.answer.specs.Outcomes.{as_answer}
 use Rattle.paging.specs.Kept.{kept}

@@ -1,3 +1,4 @@
+-- `get_words`: the invariant: the first i numbers stand, the others are as they were.
 use Rattle.std.proofs.Common.{◌≡◌, ◌-◌, ◌≤◌, ◌++◌, length, drop}
 use Rattle.packed.specs.Words.{unpack}
 use Rattle.packed.proofs.get_words.Given as goal

@@ -1,3 +1,4 @@
+-- `half_at`: four bytes as a sum.
 use native.Mathlib.Omega.{arith}
 use Rattle.packed.proofs.Words.{number_four}
 use Rattle.packed.proofs.half_at.Goals as goal

@@ -1,3 +1,4 @@
+-- `put_word`: eight stores. What bounds a step is stated over what is lent, so that no answer reads through all that came before.
 use Rattle.packed.proofs.Words.{stores_eight}
 use Rattle.packed.proofs.put_word.Goals as goal
 

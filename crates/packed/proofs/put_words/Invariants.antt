@@ -1,3 +1,4 @@
+-- `put_words`: the invariant: the first i numbers are packed, the bytes behind them are as they were.
 use Rattle.std.proofs.Common.{◌≡◌, ◌*◌, ◌-◌, ◌≤◌, ◌++◌, length, take, drop}
 use Rattle.packed.specs.Words.{pack}
 use Rattle.packed.proofs.put_words.Given as goal

@@ -1,3 +1,4 @@
+-- `word_at`: eight bytes as a sum. What bounds a step is stated over numbers, so that no answer reads through all that came before.
 use Rattle.std.proofs.Common.{◌+◌, ◌*◌}
 use mathlib.Core.Path.{sym, ◌∙◌}
 use Rattle.packed.proofs.Words.{number_eight}

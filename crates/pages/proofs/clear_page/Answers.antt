@@ -1,3 +1,4 @@
+-- `clear_page`: the words that unmapping the leaf leaves, whatever the bitmap.
 use Rattle.std.proofs.Common.{List, ℕ}
 use Rattle.paging.specs.Kept.{lent_memory}
 use mathlib.Core.Path.{sym, ◌∙◌, ap}

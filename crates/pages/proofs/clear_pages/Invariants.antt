@@ -1,3 +1,4 @@
+-- `clear_pages`: one page a turn. The invariant: what is left to clear from page i on comes out as the whole run.
 use Rattle.std.proofs.Common.{ℕ, ◌≡◌, ◌+◌, ◌*◌, ◌-◌, ◌≤◌, List, length}
 use Rattle.paging.specs.Kept.{lent_memory}
 use Rattle.paging.specs.Pages.{clear_pages}

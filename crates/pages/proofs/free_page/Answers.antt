@@ -1,3 +1,4 @@
+-- `free_page`: the leaf, if there is one, and then its frame.
 use Rattle.paging.specs.Map.{memory}
 use Rattle.paging.specs.Kept.{lent_memory}
 use mathlib.Core.Path.{sym, ◌∙◌, ap}

@@ -1,3 +1,4 @@
+-- `fresh_frame`: the lowest free frame, zeroed, or 11.
 use Rattle.std.proofs.Common.{rules, ◌≡◌, true}
 use Rattle.frame.specs.Frames.{inside}
 use Rattle.paging.proofs.Walk.{frame_lent}

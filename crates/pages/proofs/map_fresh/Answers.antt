@@ -1,3 +1,4 @@
+-- `map_fresh`: a fresh frame, then its entry below the tables of the levels above; 13 where that is refused.
 use Rattle.paging.specs.Kept.{lent_memory}
 use mathlib.Core.Path.{sym}
 use Rattle.bitmap.specs.Bitmap.{marks_in}

@@ -1,3 +1,4 @@
+-- `map_pages`: one page a turn. The invariant: what is left to map from page i on comes out as the whole run, and there is room for the frames it may take.
 use Rattle.std.proofs.Common.{◌≡◌, ◌+◌, ◌*◌, ◌-◌, ◌≤◌, length}
 use Rattle.paging.specs.Kept.{lent_memory}
 use Rattle.paging.specs.Map.{RoomToTake}

@@ -1,3 +1,4 @@
+-- The call, its line, and the board with what it was lent.
 use Rattle.fault.specs.Faults.{Faulting, handle_fault_of}
 use Rattle.player.proofs.Turns.{fault_turn}
 use Rattle.player.proofs.play_fault.Goals as goal

@@ -1,3 +1,4 @@
+-- The call, its line, and the board with what it was lent.
 use Rattle.std.proofs.Common.{rules, w32}
 use mir.Val.{SFits}
 use mir.Facts.{to_z-of_z}

@@ -1,3 +1,4 @@
+-- The call, its line, and the board with what it was lent.
 use Rattle.answer.specs.Numbers.{answer_line}
 use Rattle.answer.specs.Outcomes.{as_answer}
 use Rattle.user_space.specs.User.{User}

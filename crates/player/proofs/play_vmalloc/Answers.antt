@@ -1,3 +1,4 @@
+-- The call, its line, and the board with what it was lent.
 use Rattle.address.specs.Address.{as_virt, virt_line}
 use Rattle.vmalloc.specs.Calls.{Kernel, vmalloc_of}
 use Rattle.release.specs.Calls.{play as play_regions}

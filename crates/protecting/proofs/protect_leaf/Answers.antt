@@ -1,3 +1,4 @@
+-- `protect_leaf`: a present entry of a lent table, by its place.
 use Rattle.std.proofs.Common.{◌≡◌, true}
 use Rattle.paging.specs.Walk.{place}
 use mathlib.Core.Path.{sym, ◌∙◌, ap}

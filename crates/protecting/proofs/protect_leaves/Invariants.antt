@@ -1,3 +1,4 @@
+-- `protect_leaves`: one page a turn.
 use Rattle.std.proofs.Common.{◌≡◌, ◌-◌, ◌≤◌}
 use Rattle.paging.specs.Protect.{protect_pages}
 use Rattle.protecting.proofs.protect_leaves.Given as goal

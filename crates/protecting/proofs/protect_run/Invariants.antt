@@ -1,3 +1,4 @@
+-- `protect_run`: one last table a turn.
 use Rattle.std.proofs.Common.{◌≡◌, ◌-◌, ◌≤◌}
 use Rattle.paging.specs.Protect.{protect_pages}
 use Rattle.protecting.proofs.protect_run.Given as goal

@@ -1,3 +1,4 @@
+-- `run`: the invariant: what the loop holds is the run of all that it read; the offset rises with each call, and no turn is played far behind 2^63.
 use Rattle.std.proofs.Common.{◌≡◌, ◌+◌, ◌-◌, ◌≤◌, true}
 use Rattle.bits.specs.Bit.{one}
 use Rattle.board.specs.Packed.{board_of, lists_fit}

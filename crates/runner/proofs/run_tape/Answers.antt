@@ -1,3 +1,4 @@
+-- `run_tape`: a board that was started has lists, and so the tape is played on it.
 use Rattle.std.proofs.Common.{subst}
 use Rattle.board.specs.Board.{Board}
 use Rattle.board.specs.Packed.{board_of}

@@ -1,3 +1,4 @@
+-- `leaves_apart`: the end of the leaves, moved down for each entry on the way. The invariant: so it is for the entries that were looked at.
 use Rattle.std.proofs.Common.{ℕ, ◌≡◌, ◌+◌, ◌-◌, ◌<◌, ◌≤◌, List, get_or}
 use mathlib.Core.Logic.{◌⊎◌}
 use Rattle.entry.specs.Entry.{index}

@@ -1,3 +1,4 @@
+-- `to_end`: the span's pages without those before `virt`.
 use Rattle.spans.proofs.Gaps.{width_is, within_is}
 use Rattle.spans.proofs.to_end.Goals as goal
 

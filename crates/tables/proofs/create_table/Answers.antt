@@ -1,3 +1,4 @@
+-- `create_table`: the lowest free frame, zeroed and entered, or 11.
 use Rattle.std.proofs.Common.{rules, ◌≡◌, true}
 use Rattle.paging.specs.Kept.{lent_memory}
 use Rattle.frame.specs.Frames.{inside}

@@ -1,3 +1,4 @@
+-- `enter` gives the table below an entry, made if there is none.
 use Rattle.std.proofs.Common.{◌≡◌, true}
 use Rattle.paging.specs.Kept.{lent_memory}
 use mathlib.Core.Path.{sym, ◌∙◌}

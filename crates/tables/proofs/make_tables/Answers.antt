@@ -1,3 +1,4 @@
+-- `make_tables`: tables that are all there are only passed; else it is `tables_below`.
 use Rattle.std.proofs.Common.{suc, take, ℕ}
 use Rattle.entry.specs.Entry.{indices as indices_of}
 use Rattle.paging.specs.Map.{make}

@@ -1,3 +1,4 @@
+-- `tables_below`: the tables on the way. The invariant: what is left to make from `t`, along the indices left, comes out as the whole, and there is room for the frames it may take.
 use Rattle.std.proofs.Common.{◌≡◌, ◌-◌, ◌≤◌, length, take}
 use Prim.Native.Nat.{suc}
 use Rattle.entry.specs.Entry.{indices as indices_of}

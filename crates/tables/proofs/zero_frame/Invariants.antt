@@ -1,3 +1,4 @@
+-- `zero_frame`: the words from `at` on are set to 0, one a turn. The invariant: i of them are.
 use Rattle.std.proofs.Common.{◌≡◌, ◌-◌, ◌≤◌, length}
 use Rattle.paging.specs.Map.{clear}
 use Rattle.tables.proofs.zero_frame.Given as goal

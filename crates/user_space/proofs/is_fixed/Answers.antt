@@ -1,3 +1,4 @@
+-- `is_fixed` tests bit 4 of the 32 two's-complement bits.
 use Rattle.std.proofs.Common.{w32, of_z}
 use Rattle.bits.proofs.Masks.{flag_mask}
 use Rattle.user_space.proofs.is_fixed.Goals as goal

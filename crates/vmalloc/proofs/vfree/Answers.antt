@@ -1,3 +1,4 @@
+-- `vfree`: 10, 16 for the null address, or the used region at the address.
 use Rattle.std.proofs.Common.{◌≡◌, ◌-◌, true}
 use Rattle.paging.specs.Kept.{lent_memory}
 use Rattle.vmalloc.specs.Calls.{vfree_of, Kernel, kernel, KernelDid}

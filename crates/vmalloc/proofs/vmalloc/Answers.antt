@@ -1,3 +1,4 @@
+-- `vmalloc`: 10, 1, 3, or the first free region large enough.
 use Rattle.std.proofs.Common.{◌≡◌, ◌-◌, true}
 use Rattle.paging.specs.Kept.{lent_memory}
 use Rattle.vmalloc.specs.Calls.{vmalloc_of, Kernel, kernel, KernelDid, kernel_sized}

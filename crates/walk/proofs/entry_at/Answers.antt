@@ -1,3 +1,4 @@
+-- `entry_at` gives the present word, or says why there is none.
 use Rattle.std.proofs.Common.{◌≡◌, true}
 use Rattle.paging.specs.Walk.{entry_at, present}
 use Rattle.frame.specs.Frames.{inside}

@@ -1,3 +1,4 @@
+-- `find_above`: the address without its lowest index has the indices above it.
 use Rattle.paging.specs.Walk.{reach}
 use mathlib.Core.Path.{◌∙◌, ap}
 use Rattle.walk.proofs.Laws.{way_above}

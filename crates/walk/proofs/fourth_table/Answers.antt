@@ -1,3 +1,4 @@
+-- `fourth_table`: no index is taken of four levels, and one of five.
 use Rattle.std.proofs.Common.{◌≡◌, ◌-◌, take, [], ◌∷◌}
 use Rattle.entry.specs.Entry.{indices as indices_of}
 use mathlib.Core.Path.{refl, sym, ◌∙◌, ap}

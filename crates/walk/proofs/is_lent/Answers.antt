@@ -1,3 +1,4 @@
+-- `is_lent`: the definition's comparisons, one after the other.
 use mathlib.Core.Path.{sym, ◌∙◌}
 use native.Mathlib.Omega.{arith}
 use Rattle.paging.proofs.Walk.{lent_many, lent_short, lent_high, lent_rooted}

@@ -1,3 +1,4 @@
+-- `leaf_below`: the entry that a translation ends at. The invariant: what is left to look up below `t`, along the indices of the levels left, is the whole answer.
 use Rattle.std.proofs.Common.{◌≡◌, ◌≤◌}
 use Rattle.entry.specs.Entry.{indices as indices_of}
 use Rattle.paging.specs.Walk.{leaf}

@@ -1,3 +1,4 @@
+-- `may_walk`: the walk's test, then the number of levels.
 use Rattle.std.proofs.Common.{◌≡◌, true, ℕ, Bool, false}
 use Rattle.paging.specs.Walk.{may_walk}
 use Rattle.paging.specs.Calls.{lent_walk}

@@ -1,3 +1,4 @@
+-- `table_below`: the way to the last table. The invariant: what is left to walk from `t`, along the indices of the levels left, comes where the whole walk comes.
 use Rattle.std.proofs.Common.{◌≡◌, ◌≤◌, take}
 use Prim.Native.Nat.{suc}
 use Rattle.entry.specs.Entry.{indices as indices_of}

@@ -1,3 +1,4 @@
+-- `translate`: 10, or the walk from the table of level 4 on.
 use Rattle.std.proofs.Common.{◌≡◌, true, length}
 use Rattle.paging.specs.Walk.{address}
 use Rattle.paging.specs.Calls.{lent_walk}

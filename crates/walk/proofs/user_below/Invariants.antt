@@ -1,3 +1,4 @@
+-- `user_below`: an entry after the other. The invariant: `t` is lent, and what the rows below it say, along the indices of the levels left, is the whole answer.
 use Rattle.std.proofs.Common.{◌≡◌, ◌≤◌, true}
 use Rattle.entry.specs.Entry.{indices as indices_of}
 use Rattle.frame.specs.Frames.{inside}

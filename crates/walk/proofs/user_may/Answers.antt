@@ -1,3 +1,4 @@
+-- `user_may`: 10, or what the entries of the walk let user code do; the loop of four turns, or of as many as there are levels.
 use Rattle.std.proofs.Common.{◌≡◌, true, length}
 use Rattle.entry.specs.Entry.{indices as indices_of}
 use Rattle.paging.specs.Calls.{lent_walk}

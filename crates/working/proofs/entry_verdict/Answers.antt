@@ -1,3 +1,4 @@
+-- `entry_verdict`: test by test, in the definition's order.
 use Rattle.std.proofs.Common.{◌≡◌, true}
 use Rattle.frame.specs.Frames.{inside}
 use mathlib.Core.Path.{sym, ◌∙◌, ap}

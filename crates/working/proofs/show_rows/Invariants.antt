@@ -1,3 +1,4 @@
+-- `show_rows`: the loop writes a row at each turn. The invariant is `Written`.
 use Rattle.working.proofs.Rows.{Written}
 use Rattle.working.proofs.show_rows.Given as goal
 

@@ -1,3 +1,4 @@
+-- `show_translate`: 10 with no row, or the rows.
 use Rattle.std.proofs.Common.{◌≡◌, true, length}
 use Rattle.address.specs.Address.{as_phys}
 use Rattle.paging.specs.Working.{Working}

@@ -1,3 +1,4 @@
+-- A frame record that does not fit, or the call on it unpacked; words, bitmap and marked pages are changed where they stand.
 use Rattle.frame.specs.Found.{key_line}
 use Rattle.layout.specs.Left.{fault_leftovers}
 use mathlib.Core.Path.{◌∙◌, ap}

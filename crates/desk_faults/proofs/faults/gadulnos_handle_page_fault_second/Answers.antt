@@ -1,3 +1,4 @@
+-- A frame record that does not fit, or the call on it unpacked; words and bitmap are changed where they stand.
 use Rattle.layout.specs.Left.{second_leftovers}
 use borrow.Author.Tests.{eq-eqb, ne_eqb}
 use Rattle.paging.specs.Map.{Memory, Out}

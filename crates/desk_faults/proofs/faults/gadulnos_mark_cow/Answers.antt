@@ -1,3 +1,4 @@
+-- The call's line, and the bytes that it leaves.
 use Rattle.std.proofs.Common.{ℕ}
 use Rattle.layout.specs.Left.{no_leftovers}
 use Rattle.slots.specs.Slots.{Slots}

@@ -1,3 +1,4 @@
+-- A frame record that does not fit, or the start, and what it leaves of it; words, bitmap and lists are written where they stand.
 use Rattle.layout.specs.Parts.{fields_size}
 use Rattle.layout.specs.Left.{no_leftovers}
 use borrow.Author.Tests.{eq-eqb, ne_eqb}

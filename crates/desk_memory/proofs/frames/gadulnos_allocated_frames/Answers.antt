@@ -1,3 +1,4 @@
+-- A record that does not fit, or the call on the record unpacked.
 use borrow.Author.Tests.{eq-eqb, ne_eqb}
 use Rattle.layout.specs.Parts.{fields_size}
 use Rattle.frame.specs.Frames.{Frames, allocated_frames}

@@ -1,3 +1,4 @@
+-- A record that does not fit, or the call on the record unpacked; the bitmap is changed where it stands.
 use Rattle.layout.specs.Left.{no_leftovers}
 use mathlib.Core.Path.{refl}
 use borrow.Author.Tests.{eq-eqb, ne_eqb}

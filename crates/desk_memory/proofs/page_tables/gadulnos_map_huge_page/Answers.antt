@@ -1,3 +1,4 @@
+-- A record that does not fit, or the call on the record unpacked; words and bitmap are changed where they stand.
 use Rattle.paging.specs.Calls.{map_huge_of}
 use Rattle.layout.specs.Left.{table_leftovers}
 use Rattle.layout.specs.Memory.{memory_parts, on_memory}

@@ -1,3 +1,4 @@
+-- The line of the call's answer, which is translate's, and its numbers.
 use Rattle.desk_memory.proofs.LeftMemory.{show_left}
 use Rattle.desk_memory.proofs.page_tables.gadulnos_show_translate.Goals as goal
 

@@ -1,3 +1,4 @@
+-- The call's answer, and the words that it leaves.
 use Rattle.layout.specs.Left.{no_leftovers}
 use Rattle.layout.proofs.Left.{contract_met}
 use Rattle.desk_memory.proofs.LeftMemory.{unmap_left, unmap_refused}

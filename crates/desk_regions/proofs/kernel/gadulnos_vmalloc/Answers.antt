@@ -1,3 +1,4 @@
+-- A frame record that does not fit, or the call on it unpacked; words, bitmap and list are changed where they stand.
 use Rattle.vmalloc.specs.Calls.{Kernel, KernelDid, vmalloc_of}
 use Rattle.layout.specs.Left.{region_leftovers}
 use mathlib.Core.Path.{refl}

@@ -1,3 +1,4 @@
+-- A broken list, or the search.
 use Rattle.desk_regions.specs.Regions.{search_leftovers}
 use Rattle.frame.proofs.Laws.{passed}
 use Rattle.layout.proofs.Left.{contract_met}

@@ -1,3 +1,4 @@
+-- A frame record that does not fit, or the call on it unpacked; words, bitmap and list are changed where they stand.
 use Rattle.std.proofs.Common.{w32, ℤ, to_z, of_z}
 use Rattle.mmap.specs.Packed.{opt_addr}
 use Rattle.layout.specs.Left.{region_leftovers}

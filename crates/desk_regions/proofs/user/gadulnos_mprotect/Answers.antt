@@ -1,3 +1,4 @@
+-- The call's answer, and the words and the list that it leaves where they stand.
 use Rattle.layout.specs.Left.{no_leftovers}
 use mir.Facts.{to_z-of_z}
 use Rattle.layout.proofs.Left.{contract_met}

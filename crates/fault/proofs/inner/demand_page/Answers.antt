@@ -1,3 +1,4 @@
+-- `demand_page`: 6, 7, 11, or the page mapped.
 use Rattle.std.proofs.Common.{◌≡◌, true}
 use Rattle.fault.specs.Faults.{valid}
 use mathlib.Core.Path.{sym, ◌∙◌}

@@ -1,3 +1,4 @@
+-- `handle`: 5, access that was denied, or a page that was not present.
 use Rattle.std.proofs.Common.{◌≡◌, true, false}
 use Rattle.paging.specs.Map.{Memory}
 use Rattle.paging.specs.Kept.{lent_memory}

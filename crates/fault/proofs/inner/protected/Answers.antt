@@ -1,3 +1,4 @@
+-- `protected`: 7 or 8, 17, what refuses the copy, or the page copied and unmarked.
 use Rattle.std.proofs.Common.{◌≡◌, true}
 use Rattle.paging.specs.Map.{Memory}
 use Rattle.paging.specs.Kept.{lent_memory}

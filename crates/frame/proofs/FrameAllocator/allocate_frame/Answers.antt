@@ -1,3 +1,4 @@
+-- `allocate_frame`: 10 on a broken record, the lowest free frame taken on any other.
 use Rattle.std.proofs.Common.{◌≡◌, true, ◌∙◌, arith}
 use Rattle.frame.specs.Frames.{lent_frames, sound}
 use Rattle.frame.specs.Results.{allocated}

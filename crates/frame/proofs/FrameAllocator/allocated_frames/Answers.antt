@@ -1,3 +1,4 @@
+-- `allocated_frames`: 10 on a broken record, the counter on any other.
 use Rattle.std.proofs.Common.{sym}
 use Rattle.frame.proofs.Laws.{passed, failed, counted_broken, counted_whole}
 use Rattle.frame.proofs.FrameAllocator.allocated_frames.Goals as goal

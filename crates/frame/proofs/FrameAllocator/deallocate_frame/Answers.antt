@@ -1,3 +1,4 @@
+-- `deallocate_frame`: 10 on a broken record, the frame given back on any other.
 use Rattle.std.proofs.Common.{◌≡◌, true, ◌∙◌, arith}
 use Rattle.frame.specs.Frames.{lent_frames, sound}
 use Rattle.frame.specs.Results.{deallocated}

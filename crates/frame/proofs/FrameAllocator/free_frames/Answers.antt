@@ -1,3 +1,4 @@
+-- `free_frames`: 10 on a broken record, and on any other what is left of total.
 use Rattle.std.proofs.Common.{◌≡◌, true, sym}
 use Rattle.frame.specs.Frames.{lent_frames, sound}
 use Rattle.frame.proofs.Laws.{passed, failed, sound_fits, counted_broken, counted_whole}

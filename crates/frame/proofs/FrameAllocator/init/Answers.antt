@@ -1,3 +1,4 @@
+-- `init`: 10 for a range that is crossed or ends too high; otherwise all frames are free.
 use Rattle.std.proofs.Common.{◌∙◌}
 use Rattle.frame.specs.Results.{changed}
 use Rattle.frame.proofs.Laws.{parts, init_crossed, init_high, init_met}

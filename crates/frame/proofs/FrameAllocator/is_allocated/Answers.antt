@@ -1,3 +1,4 @@
+-- `is_allocated`: 10 on a broken record, the frame's mark on any other.
 use Rattle.std.proofs.Common.{◌≡◌, true, sym, ap, ◌∙◌, arith}
 use Rattle.frame.specs.Frames.{lent_frames, sound}
 use Rattle.answer.specs.declared.FlagAnswer.TheVariants.{Flag}

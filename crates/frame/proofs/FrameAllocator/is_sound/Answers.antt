@@ -1,3 +1,4 @@
+-- `is_sound`: the four tests of a broken record, in the definition's order.
 use Rattle.std.proofs.Common.{sym, arith}
 use Rattle.frame.proofs.Laws.{sound_many, sound_high, sound_leveled, sound_counted, passed, failed}
 use Rattle.frame.proofs.FrameAllocator.is_sound.Goals as goal

@@ -1,3 +1,4 @@
+-- `mark_allocated`: 10 on a broken record, the frame marked on any other.
 use Rattle.std.proofs.Common.{◌≡◌, true, ◌∙◌, arith}
 use Rattle.frame.specs.Frames.{lent_frames, sound}
 use Rattle.frame.specs.Results.{changed}

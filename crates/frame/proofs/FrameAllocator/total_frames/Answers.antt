@@ -1,3 +1,4 @@
+-- `total_frames`: 10 on a broken record, total on any other.
 use Rattle.std.proofs.Common.{sym}
 use Rattle.frame.proofs.Laws.{passed, failed, counted_broken, counted_whole}
 use Rattle.frame.proofs.FrameAllocator.total_frames.Goals as goal

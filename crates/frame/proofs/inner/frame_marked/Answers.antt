@@ -1,3 +1,4 @@
+-- `frame_marked`: a frame outside reads as marked, any other by its bit.
 use Rattle.std.proofs.Common.{◌≡◌, true, sym, ◌∙◌}
 use Rattle.frame.specs.Frames.{inside}
 use Rattle.frame.proofs.Laws.{passed, failed, reads_outside, reads_inside}

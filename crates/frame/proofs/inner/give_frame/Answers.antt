@@ -1,3 +1,4 @@
+-- `give_frame`: a frame that is not here or is free is left alone; a marked one is freed and no longer counted.
 use Rattle.std.proofs.Common.{◌≡◌, ◌-◌, true, ◌∙◌}
 use Rattle.bitmap.specs.Bitmap.{marks_in, is_marked}
 use Rattle.frame.specs.Frames.{inside, without_mark}

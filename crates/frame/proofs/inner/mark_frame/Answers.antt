@@ -1,3 +1,4 @@
+-- `mark_frame`: a frame that reads as marked is left alone; any other is lent, and its bit is set and counted.
 use Rattle.std.proofs.Common.{◌≡◌, false, sym, ap, ◌∙◌}
 use Rattle.frame.specs.Frames.{lent_frames, frame_marked, Frames}
 use Rattle.frame.proofs.Laws.{inside_from, inside_bit, free_inside, free_bit, mark_there, mark_free}

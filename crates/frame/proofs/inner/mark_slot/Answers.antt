@@ -1,3 +1,4 @@
+-- `mark_slot`: one bit is set and the counter is one higher.
 use Rattle.std.proofs.Common.{refl}
 use Rattle.frame.specs.Frames.{with_mark}
 use Rattle.frame.proofs.inner.mark_slot.Goals as goal

@@ -1,3 +1,4 @@
+-- `take_frame`: the lowest free frame is marked and counted, or there is none.
 use Rattle.std.proofs.Common.{◌∙◌}
 use Rattle.frame.specs.Results.{allocated}
 use Rattle.frame.proofs.Laws.{parts, take_none, take_found, lowest_free}

@@ -1,3 +1,4 @@
+-- `free_below`: the pages of entries that are counted are passed over; the next entry is counted once its pages were freed, if the table is still on the way.
 use Rattle.std.proofs.Common.{◌-◌, ◌*◌, ◌≤◌, ◌<◌}
 use Rattle.paging.specs.Kept.{lent_memory}
 use Rattle.freeing.specs.Blocks.{Barren}

@@ -1,3 +1,4 @@
+-- `free_block`: the pages below the table found, or those that a look tells of.
 use Rattle.paging.specs.Kept.{lent_memory}
 use Rattle.freeing.proofs.Barrens.{barren_left}
 use Rattle.freeing.proofs.blocks.free_block.Goals as goal

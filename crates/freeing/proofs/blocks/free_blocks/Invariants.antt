@@ -1,3 +1,5 @@
+-- `free_blocks`: one block a turn. The invariant: what is left to free comes out as the whole run, the tables marked in `empty` have no present entry, and those
+-- marked in `barren` no page below them.
 use Rattle.std.proofs.Common.{◌≡◌, ◌+◌, ◌*◌, ◌-◌, ◌≤◌, length}
 use Rattle.bitmap.specs.Bitmap.{marks_in}
 use Rattle.paging.specs.Kept.{lent_memory}

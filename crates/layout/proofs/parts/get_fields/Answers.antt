@@ -1,3 +1,4 @@
+-- `get_fields`: four numbers.
 use Rattle.std.proofs.Common.{rules}
 use mathlib.Core.Path.{◌∙◌}
 use Rattle.packed.proofs.Words.{word_of}

@@ -1,3 +1,4 @@
+-- `map_entry`: the tables on the way, then the word.
 use Rattle.paging.specs.Kept.{lent_memory}
 use native.Mathlib.Nat.{le_trans}
 use Rattle.entry.specs.Entry.{indices}

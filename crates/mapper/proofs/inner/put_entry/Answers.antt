@@ -1,3 +1,4 @@
+-- `put_entry` stores where no leaf is present, or says why not.
 use Rattle.std.proofs.Common.{◌≡◌, true}
 use mathlib.Core.Path.{sym, ◌∙◌}
 use Rattle.frame.specs.Frames.{inside}

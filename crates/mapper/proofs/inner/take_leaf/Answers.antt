@@ -1,3 +1,4 @@
+-- `take_leaf` clears a present leaf and gives its frame, or says why not.
 use Rattle.std.proofs.Common.{◌≡◌, true}
 use Rattle.frame.specs.Frames.{inside}
 use Rattle.paging.proofs.Map.{take_leaf_out}

@@ -1,3 +1,4 @@
+-- `unmap_leaf`: the way to the last table, then its leaf.
 use Rattle.paging.specs.Map.{take_leaf}
 use Prim.Native.Nat.{suc}
 use mathlib.Core.Path.{sym, ◌∙◌, ap}

@@ -1,3 +1,4 @@
+-- `choose`: the search, the fixed address, or the hint.
 use Rattle.std.proofs.Common.{◌≡◌, w32, to_z, of_z}
 use Rattle.user_space.specs.Packed.{user_in}
 use Rattle.mmap.specs.Calls.{chosen}

@@ -1,3 +1,4 @@
+-- `is_full`: by the count, then by the place of the address.
 use Rattle.user_space.specs.Packed.{user_in}
 use mathlib.Core.Path.{sym, ◌∙◌, ap}
 use mathlib.Core.Bool.{not}

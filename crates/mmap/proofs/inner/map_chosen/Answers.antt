@@ -1,3 +1,4 @@
+-- `map_chosen`: the address, then a slot for it, then the region.
 use Rattle.std.proofs.Common.{◌≡◌, true, ℕ, ◌-◌, false, w32, to_z, of_z}
 use Rattle.address.specs.Address.{as_virt}
 use Rattle.paging.specs.Kept.{Kept}

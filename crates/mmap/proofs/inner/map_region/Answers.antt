@@ -1,3 +1,4 @@
+-- `map_region`: the pages, and then the slot and next_addr, or what a run that stopped leaves.
 use Rattle.std.proofs.Common.{◌≡◌, true, List, ℕ, ◌+◌, ◌-◌, ◌*◌, ◌^◌, ◌<◌, ◌≤◌, ◌/◌, Bool, w32, to_z, of_z}
 use Rattle.slots.specs.Slots.{listed, store}
 use Rattle.address.specs.Address.{as_virt}

@@ -1,3 +1,4 @@
+-- `protect_below` and `protect_entries`, which call each other one level further down: twice the levels are the measure.
 use Rattle.std.proofs.Common.{◌≡◌, ◌+◌, ◌*◌, ◌-◌, ◌≤◌}
 use Rattle.paging.specs.Protect.{protect_pages}
 use Rattle.protecting.specs.Protecting.{Remembered}

@@ -1,3 +1,4 @@
+-- `is_done`: a frame that is not lent, or the bit of its byte.
 use Rattle.std.proofs.Common.{◌≡◌, true}
 use Rattle.frame.specs.Frames.{inside}
 use native.Mathlib.Omega.{arith}

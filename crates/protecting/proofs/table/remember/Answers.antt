@@ -1,3 +1,4 @@
+-- `remember`: the byte with one bit more.
 use Rattle.protecting.proofs.Remembered.{noted, noted_fits}
 use Rattle.protecting.proofs.table.remember.Goals as goal
 

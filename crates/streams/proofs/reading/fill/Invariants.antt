@@ -1,3 +1,4 @@
+-- `fill`: the invariant: the first n bytes are as they were.
 use Rattle.std.proofs.Common.{◌-◌, ◌≡◌, ◌≤◌, length, take}
 use Rattle.std.specs.Io.KnownBytes.{Keeps, prepend_known}
 use Rattle.streams.proofs.reading.fill.Given as goal

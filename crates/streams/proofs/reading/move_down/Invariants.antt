@@ -1,3 +1,4 @@
+-- `move_down`: the invariant: what is copied stands in front, and the rest is as it was.
 use Rattle.streams.proofs.Buffers.{Moved}
 use Rattle.streams.proofs.reading.move_down.Given as goal
 

@@ -1,3 +1,4 @@
+-- `read_behind`: what stands in front of the part that is lent stays.
 use Rattle.std.proofs.Common.{◌-◌, length}
 use Rattle.streams.proofs.Known.{read_kept}
 use Rattle.streams.proofs.reading.read_behind.Goals as goal

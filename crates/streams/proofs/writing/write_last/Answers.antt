@@ -1,3 +1,4 @@
+-- `write_last`: there is room for a line, and it stands behind what was still to be written.
 use Rattle.std.proofs.Common.{take}
 use Rattle.std.proofs.lemmas.Bool.{not-false}
 use Rattle.tape.specs.Text.{count_text}

@@ -1,3 +1,4 @@
+-- `read_call`: nothing, no call, or the call of a known kind.
 use Rattle.std.proofs.Common.{◌+◌, ◌≤◌, ◌<◌, length, ℕ}
 use mathlib.Core.Path.{sym, ◌∙◌, subst}
 use Rattle.tape.proofs.Reading.{next_none, next_unknown, next_short, next_whole}

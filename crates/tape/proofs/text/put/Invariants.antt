@@ -1,3 +1,4 @@
+-- `put`: the invariant: the first i bytes of the text stand behind what was there.
 use Rattle.std.proofs.Common.{◌≡◌, ◌-◌, ◌≤◌, length}
 use lib.Seq.{paste}
 use Rattle.tape.proofs.text.put.Given as goal

@@ -1,3 +1,4 @@
+-- `put_count`: a word, a space and digits.
 use Rattle.std.proofs.Common.{take}
 use Rattle.tape.specs.Text.{decimal}
 use Rattle.tape.proofs.Lines.{spaced, ended}

@@ -1,3 +1,4 @@
+-- `put_decimal`: the digits, put.
 use Rattle.std.proofs.Common.{rules, ◌++◌, ◌≤◌, take, ℕ, List, Fits, w64}
 use mathlib.Core.Path.{◌∙◌, ap}
 use native.Mathlib.Omega.{arith}

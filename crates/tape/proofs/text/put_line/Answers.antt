@@ -1,3 +1,4 @@
+-- `put_line`: three texts with spaces between them.
 use Rattle.std.proofs.Common.{◌∷◌, ◌++◌, take}
 use Rattle.io.specs.Digits.{last_digits}
 use Rattle.tape.specs.Text.{decimal}

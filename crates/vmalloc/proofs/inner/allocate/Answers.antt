@@ -1,3 +1,4 @@
+-- `allocate`: 15, or the pages of the first region large enough mapped, then the region cut.
 use Rattle.std.proofs.Common.{rules, ◌≡◌, true, ℕ, ◌-◌, ◌<◌, ◌≤◌, length, Fits, w64}
 use Rattle.address.specs.Address.{as_virt}
 use Rattle.paging.specs.Kept.{lent_memory}

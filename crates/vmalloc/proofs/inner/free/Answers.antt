@@ -1,3 +1,4 @@
+-- `free`: 16, or the pages of the used region freed, then the region.
 use Rattle.std.proofs.Common.{rules, ◌≡◌, true, ℕ, ◌-◌, ◌<◌, ◌≤◌, length}
 use Rattle.answer.specs.Outcomes.{as_answer}
 use Rattle.paging.specs.Kept.{lent_memory}

@@ -1,3 +1,4 @@
+-- `from_bits` tests each place by a mask of one bit.
 use Rattle.entry.specs.Flags.{flags_of}
 use Rattle.bits.proofs.Masks.{flag_mask}
 use Rattle.entry.proofs.page_handler.PageFlags.from_bits.Goals as goal

@@ -1,3 +1,4 @@
+-- `physical_address` is the address field.
 use Rattle.entry.proofs.Entry.{addr_mask_lem}
 use Rattle.entry.proofs.page_handler.PageTableEntry.physical_address.Goals as goal
 

@@ -1,3 +1,4 @@
+-- `set` joins the masked address with the flags' bits.
 use Rattle.entry.proofs.Flags.{joined_bits_lem}
 use Rattle.entry.proofs.page_handler.PageTableEntry.set.Goals as goal
 

@@ -1,3 +1,4 @@
+-- `addr` is the address field.
 use Rattle.entry.proofs.Entry.{addr_mask_lem}
 use Rattle.entry.proofs.paging.PageTableEntry.addr.Goals as goal
 

@@ -1,3 +1,4 @@
+-- `is_huge` tests bit 7, HUGE.
 use Rattle.bits.proofs.Masks.{flag_mask}
 use Rattle.entry.proofs.paging.PageTableEntry.is_huge.Goals as goal
 

@@ -1,3 +1,4 @@
+-- `is_user` tests bit 2, USER.
 use Rattle.bits.proofs.Masks.{flag_mask}
 use Rattle.entry.proofs.paging.PageTableEntry.is_user.Goals as goal
 

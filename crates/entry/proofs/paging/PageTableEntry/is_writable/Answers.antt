@@ -1,3 +1,4 @@
+-- `is_writable` tests bit 1, WRITABLE.
 use Rattle.bits.proofs.Masks.{flag_mask}
 use Rattle.entry.proofs.paging.PageTableEntry.is_writable.Goals as goal
 

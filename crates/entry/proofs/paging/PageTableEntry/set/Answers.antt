@@ -1,3 +1,4 @@
+-- `set` joins the masked address with the sum of PRESENT and the two choices.
 use lib.Dec.{lit<}
 use Rattle.entry.proofs.Entry.{joined_flags}
 use Rattle.entry.proofs.paging.PageTableEntry.set.Goals as goal

@@ -1,3 +1,4 @@
+-- `set_huge` joins the masked address with the sum of HUGE, PRESENT and the two choices.
 use native.Mathlib.Omega.{arith}
 use lib.Dec.{lit<}
 use Rattle.entry.proofs.Entry.{joined_flags}

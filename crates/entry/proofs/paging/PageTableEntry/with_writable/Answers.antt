@@ -1,3 +1,4 @@
+-- `with_writable`: the word without bit 1, and the power of bit 1 where it is asked for.
 use Rattle.entry.proofs.Writable.{with_writable_sum}
 use Rattle.entry.proofs.paging.PageTableEntry.with_writable.Goals as goal
 
