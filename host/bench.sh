@@ -5,6 +5,6 @@
 set -euo pipefail
 cd "$(dirname "$0")/.."
 [ -e target/staticlib/libdesk.a ] || host/library.sh
-[ -e target/bin/key ] || rt check key
+[ -e crates/key/out/key ] || host/key.sh
 host/build.sh bench
 exec target/host/bench "$@"

@@ -1,7 +1,7 @@
 #!/usr/bin/env bash
-# Layout and lints, three checks. `format`: rt fmt --check on the crates, rustfmt --check on host/. `clippy`: clippy on host/, every
-# warning an error (needs what host/test.sh built). A tool that is not installed is named and passed over. The last line is
-# 'N passed, M failed'.
+# Layout and lints of host/, two checks. `format`: rustfmt --check. `clippy`: clippy, every warning an error (needs what host/test.sh
+# built). A tool that is not installed is named and passed over. The last line is 'N passed, M failed'. The layout of crates/ `rt ci`
+# checks.
 set -euo pipefail
 cd "$(dirname "$0")/.."
 log=$(mktemp)
@@ -26,7 +26,6 @@ installed() {
 }
 
 format() {
-    check "the layout of crates/ (rt fmt --check)" rt fmt --check
     if installed rustfmt; then
         local files
         mapfile -t files < <(find host -name '*.rs')

@@ -1,12 +1,13 @@
 #!/usr/bin/env bash
-# The host tests: the oracle's own, and the port's, beside the original Rust and on any input. `rt staticlib` links what is proved already and checks the
-# thin crates of C functions again. The last line sums the programs: 'N passed, M failed'.
+# The host tests: the oracle's own, and the port's, beside the original Rust and on any input. What they run of the port, the library of C functions and the key program,
+# is proved and built first, where that is not done yet. The last line sums the programs: 'N passed, M failed'.
 set -euo pipefail
 cd "$(dirname "$0")/.."
-host/library.sh
-host/build.sh
 room=$(mktemp -d)
 trap 'rm -rf "$room"' EXIT
+host/library.sh
+host/key.sh
+host/build.sh
 passed=0
 failed=0
 
@@ -24,7 +25,7 @@ counted() {
     fi
 }
 
-# Only one at a time: it writes files of its own, and asks rt, of which two runs would read each other's verdicts.
+# Only one at a time: it writes files of its own.
 keys() {
     flock "$room/keys.lock" target/host/keys "$@"
 }

@@ -15,7 +15,7 @@ use std::process::Command;
 use std::time::Instant;
 use trial::generate::Random;
 
-const PROGRAM: &str = "target/bin/key";
+const PROGRAM: &str = "crates/key/out/key";
 const TAPE: &str = "target/host/bench.tape";
 const KEY: &str = "target/host/bench.key";
 const CALLS: usize = 100_000;
@@ -108,7 +108,7 @@ fn of_program() -> Result<(f64, String), String> {
         let key = if status.success() { fs::read_to_string(KEY)? } else { status.to_string() };
         Ok((time, key))
     };
-    let say = |why: std::io::Error| format!("{PROGRAM} (`rt check key` makes it): {why}");
+    let say = |why: std::io::Error| format!("{PROGRAM} (`host/key.sh` makes it): {why}");
     let (nothing, _) = run("/dev/null").map_err(say)?;
     let (time, key) = run(TAPE).map_err(say)?;
     Ok((time - nothing, key))

@@ -1,5 +1,5 @@
 -- What the copy of a page and its steps come to, by the tests that code makes and by what the steps below give; and the room that they leave.
-use Prim.Native.Nat.{ℕ, zero, suc, ◌+◌, ◌*◌, ◌/◌, ◌%◌, ◌^◌, ◌<◌, ◌≤◌}
+use Prim.Native.Nat.{ℕ, zero, suc, ◌+◌, ◌-◌, ◌*◌, ◌/◌, ◌%◌, ◌^◌, ◌<◌, ◌≤◌}
 use mathlib.Core.Path.{◌≡◌, refl, sym, ◌∙◌, ap, subst}
 use mathlib.Core.Bool.{Bool, true, false}
 use mathlib.Core.List.{List}
@@ -271,3 +271,17 @@ module _ (up : ℕ) (m : Memory) (root v : ℕ) (user : Bool) (m' : Memory) wher
   pub cow_found : (f : ℕ) → raw_frame m ≡ out (Value f) m' → copy_found up m root v user ≡ copy_to_found up m' root v f user
   unfolding copy_found
   cow_found f e = rw e
+
+pub copy_none : (ws : List ℕ) (from to : ℕ) → copy_words ws from to 0 ≡ ws
+unfolding copy_words
+copy_none ws from to = refl
+
+-- one word more, at turn i of n
+pub copy_on : (ws : List ℕ) (from to i n : ℕ) → i < n
+    → copy_words ws (from + i) (to + i) (n - i) ≡ copy_words (set ws (to + i) (get_or ws (from + i) 0)) (from + (i + 1)) (to + (i + 1)) (n - (i + 1))
+unfolding copy_words
+copy_on ws from to i n h =
+    let e : n - i ≡ suc (n - (i + 1)) = omega arith in
+    let a : from + (i + 1) ≡ suc (from + i) = omega arith in
+    let b : to + (i + 1) ≡ suc (to + i) = omega arith in
+    rw (e, a, b)

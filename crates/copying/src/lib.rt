@@ -84,37 +84,15 @@ pub fn map_frame(
     }
 }
 
-// The 512 words of a frame, from word `at` on.
-fn frame_words(words: &[u64], at: usize) -> [u64; 512]
-    requires { at + 512 ≤ length words.now }
-    ensures { result ≡ take 512 (drop at words.now) }
-{
-    let mut frame = [0u64; 512];
-    for i in 0..512 {
-        frame[i] = words[at + i];
-    }
-    frame
-}
-
-// The words from `at` on are those of a frame then.
-fn put_frame(words: &mut [u64], at: usize, frame: [u64; 512])
-    requires { at + 512 ≤ length words.old }
-    ensures { words.new ≡ sets words.old at frame }
-{
-    for i in 0..512 {
-        words[at + i] = frame[i];
-    }
-}
-
-// All 512 words of a frame copied to another. The compiler makes one move of the two loops, which takes less time than a loop that reads and writes word by word.
+// All 512 words from one word on, copied to another on.
 fn copy_words(words: &mut [u64], from: usize, to: usize)
     requires from_in_bounds { from + 512 ≤ length words.old }
     requires to_in_bounds { to + 512 ≤ length words.old }
-    requires from_value { (from % 512 ≡ 0) × (to % 512 ≡ 0) }
     ensures { words.new ≡ copy_words words.old from to 512 }
 {
-    let frame = frame_words(words, from);
-    put_frame(words, to, frame);
+    for i in 0..512 {
+        words[to + i] = words[from + i];
+    }
 }
 
 // A page unmapped where it is mapped.

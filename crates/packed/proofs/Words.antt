@@ -5,7 +5,7 @@ use mathlib.Core.List.{List, [], ◌∷◌, ◌++◌, append_assoc, append-nil}
 use native.Mathlib.Omega.{arith}
 use native.Mathlib.Nat.{div-add-mod'}
 use lib.ListN.{length, take, drop, get_or, set, length-append, length-drop, take-append-drop, drop_of_length-le}
-use lib.Seq.{drop-cons, drop-drop, drop_at, take_at, take_all, take-suc, get_or-drop, drop-append-add, length-take-le, sets, sets-eq}
+use lib.Seq.{drop-cons, drop-drop, drop_at, take_at, set_at, take_all, take-suc, get_or-drop, append_snoc, drop-append-add, length-take-le, sets, sets-eq}
 use Rattle.packed.specs.Words.{number, bytes, pack, unpack}
 
 -- ---- lengths
@@ -31,6 +31,13 @@ length_unpack (suc n) bs = ap suc (length_unpack n (drop 8 bs))
 
 -- ---- one number more
 
+pub unpack_next : (n : ℕ) (bs : List ℕ) → unpack (suc n) bs ≡ unpack n bs ++ (number 8 (drop (n * 8) bs) ∷ [])
+unfolding unpack
+unpack_next zero bs = refl
+unpack_next (suc n) bs =
+    let e : 8 + n * 8 ≡ suc n * 8 = omega arith in
+    ap (λ (l : List ℕ). number 8 bs ∷ l) (unpack_next n (drop 8 bs) ∙ ap (λ (l : List ℕ). unpack n (drop 8 bs) ++ (number 8 l ∷ [])) (drop-drop (n * 8) 8 bs ∙ ap (λ (k : ℕ). drop k bs) e))
+
 pub pack_append : (ws vs : List ℕ) → pack (ws ++ vs) ≡ pack ws ++ pack vs
 unfolding pack
 pack_append [] vs = refl
@@ -46,6 +53,25 @@ word_of (suc k) (suc n) bs h =
     ap (number 8) (sym (drop-drop (k * 8) 8 bs ∙ ap (λ (i : ℕ). drop i bs) e)) ∙ word_of k n (drop 8 bs) (omega arith)
 
 -- ---- a turn of each loop
+
+pub got_none : (bs ws : List ℕ) → ws ≡ unpack 0 bs ++ drop 0 ws
+unfolding unpack
+got_none bs ws = refl
+
+pub got_next : (i : ℕ) (bs ws ws₀ : List ℕ) → i < length ws₀ → ws ≡ unpack i bs ++ drop i ws₀
+    → set ws i (number 8 (drop (i * 8) bs)) ≡ unpack (i + 1) bs ++ drop (i + 1) ws₀
+got_next i bs ws ws₀ h e =
+    let a = number 8 (drop (i * 8) bs) in
+    let s : i + 1 ≡ suc i = omega arith in
+    rw (e, s) (
+    ap (λ (l : List ℕ). set (unpack i bs ++ l) i a) (drop-cons ws₀ i 0 h)
+    ∙ set_at (unpack i bs) (get_or ws₀ i 0) (drop (suc i) ws₀) a i (length_unpack i bs)
+    ∙ sym (append_snoc (unpack i bs) a (drop (suc i) ws₀))
+    ∙ ap (λ (l : List ℕ). l ++ drop (suc i) ws₀) (sym (unpack_next i bs))
+    )
+
+pub got_all : (n : ℕ) (bs ws ws₀ : List ℕ) → length ws₀ ≤ n → ws ≡ unpack n bs ++ drop n ws₀ → ws ≡ unpack n bs
+got_all n bs ws ws₀ h e = e ∙ ap (λ (l : List ℕ). unpack n bs ++ l) (drop_of_length-le ws₀ h) ∙ append-nil (unpack n bs)
 
 pub put_none : (ws bs : List ℕ) → bs ≡ pack (take 0 ws) ++ drop (0 * 8) bs
 unfolding pack

@@ -5,7 +5,7 @@ ghost use Rattle.std.specs.Prelude.{◌≡◌, ◌+◌, ◌*◌, ◌%◌, ◌^�
 ghost use Rattle.std.proofs.lemmas.List.Edits.{sets};
 ghost use Rattle.std.proofs.Common.{of_z, to_z};
 ghost use Rattle.std.specs.Int.{w32};
-ghost use Rattle.packed.specs.Words.{number, bytes as bytes_of, pack};
+ghost use Rattle.packed.specs.Words.{number, bytes as bytes_of, pack, unpack};
 
 // A byte as a wide number.
 fn wide(x: u8) -> u64
@@ -90,6 +90,16 @@ pub fn put_word(bytes: &mut [u8], at: usize, x: u64)
     bytes[at + 5] = low_byte(x5);
     bytes[at + 6] = low_byte(x6);
     bytes[at + 7] = low_byte(x7);
+}
+
+// All numbers of a part.
+pub fn get_words(bytes: &[u8], words: &mut [u64])
+    requires { length bytes.now ≡ 8 * length words.old }
+    ensures { words.new ≡ unpack (length words.old) bytes.now }
+{
+    for i in 0..words.len() {
+        words[i] = word_at(bytes, i * 8);
+    }
 }
 
 // All numbers of a part, packed.

@@ -1,5 +1,5 @@
 -- The test for a broken list, one comparison after the other, and what it says of a region of a sound list.
-use Rattle.std.proofs.Common.{◌≡◌, ℕ, zero, suc, ◌+◌, ◌-◌, ◌%◌, ◌^◌, ◌<◌, ◌≤◌, Bool, true, false, eqb, ltb, leb, List, [], ◌∷◌, ◌++◌, length, get_or, set, sym, refl, ◌∙◌, subst, arith, length-take-le, get_or-take, ltb-true, le-ltb, lt-ltb, eq-eqb, ne_eqb, eqb-true, le-leb, leb-true}
+use Rattle.std.proofs.Common.{◌≡◌, ℕ, zero, suc, ◌+◌, ◌-◌, ◌%◌, ◌^◌, ◌<◌, ◌≤◌, Bool, true, false, eqb, ltb, leb, List, [], ◌∷◌, ◌++◌, length, get_or, drop, set, sym, refl, ◌∙◌, subst, arith, length-take-le, get_or-take, ltb-true, le-ltb, lt-ltb, eq-eqb, ne_eqb, eqb-true, le-leb, leb-true}
 use native.Mathlib.Decide.{dec_le, dec_lt}
 use borrow.Author.Tests.{lt-leb}
 use Rattle.bits.specs.Bit.{both}
@@ -7,7 +7,7 @@ use Rattle.bits.proofs.Choice.{both_true}
 use Rattle.allocator.specs.Round.{last_page}
 use Rattle.slots.specs.Slots.{Slots, listed, every}
 use Rattle.regions.specs.declared.VMRegion.{VMRegion}
-use Rattle.regions.specs.Regions.{no_vm_region, well_placed, well_placed_vm, sound_regions}
+use Rattle.regions.specs.Regions.{no_vm_region, well_placed, well_placed_vm, is_no_slot, sound_regions}
 
 -- ---- one region
 
@@ -91,6 +91,10 @@ module _ (s : Slots VMRegion) where
   pub sound_placed : sound_regions s ≡ true → every well_placed_vm (listed s) ≡ true
   unfolding sound_regions
   sound_placed h = (both_true (every well_placed_vm (listed s)) _ (both_true (leb s.count 256) _ h).1).0
+
+  pub sound_blank : sound_regions s ≡ true → every is_no_slot (drop s.count s.slots) ≡ true
+  unfolding sound_regions
+  sound_blank h = (both_true (every well_placed_vm (listed s)) _ (both_true (leb s.count 256) _ h).1).1
 
 -- .. and of each of its regions
 pub placed_at : (s : Slots VMRegion) → every well_placed_vm (listed s) ≡ true → s.count ≤ length s.slots → (i : ℕ) → i < s.count

@@ -4,7 +4,7 @@ ghost use Rattle.bits.specs.Bit.{both};
 ghost use Rattle.slots.specs.Slots.{slotted, every, store, first_at};
 ghost use Rattle.regions.specs.Regions.{vm_region, no_vm_region, well_placed_vm, fits, taken_slots, joins as joins_of, merge};
 ghost use Rattle.slots.specs.Shifts.{shifted_up, shifted_down};
-ghost use Rattle.regions.specs.List.{few_regions, HasRoom, marked_at, freed_at};
+ghost use Rattle.regions.specs.List.{stepped, few_regions, HasRoom, marked_at, freed_at};
 
 use crate::{FEW_REGIONS, MAX_VM_REGIONS, Stepped, SteppedFew, VMRegion};
 
@@ -138,7 +138,7 @@ pub fn free_region(regions: &mut [VMRegion], count: usize, i: usize) -> usize
 // The steps on slots that are held by value, which are put in a local and lent to them.
 pub fn taken(regions: [VMRegion; 256], count: usize, i: usize, size: u64, used: bool) -> Stepped
     requires { (count ≤ 256) × (every well_placed_vm (take count regions) ≡ true) × (i ≡ first_at (fits size) (take count regions)) × (i < count) }
-    ensures { slotted result.regions result.count ≡ taken_slots used size (slotted regions count) }
+    ensures { result ≡ stepped (taken_slots used size (slotted regions count)) }
 {
     let mut next = regions;
     let n = take_region(&mut next, count, i, size, used);
@@ -150,7 +150,7 @@ pub fn taken(regions: [VMRegion; 256], count: usize, i: usize, size: u64, used: 
 
 pub fn freed(regions: [VMRegion; 256], count: usize, i: usize) -> Stepped
     requires { (count ≤ 256) × (every well_placed_vm (take count regions) ≡ true) × (i < count) }
-    ensures { slotted result.regions result.count ≡ store no_vm_region (merge (freed_at i (take count regions))) (slotted regions count) }
+    ensures { result ≡ stepped (store no_vm_region (merge (freed_at i (take count regions))) (slotted regions count)) }
 {
     let mut next = regions;
     let n = free_region(&mut next, count, i);

@@ -2,6 +2,15 @@
 // printed for it (host/oracle, the build with overflow checks, `--key`). Calls of which the Rust does not tell which number it means were left out.
 #![tactic(auto)]
 
-fn main() {
-    runner::run_tape();
+use std::process::ExitCode;
+
+fn main(rt: HostRuntime) -> ExitCode {
+    let mut tape = rt.stdin();
+    let mut key = rt.stdout();
+    let mut messages = rt.stderr();
+    if runner::run_tape(&mut tape, &mut key, &mut messages) {
+        ExitCode::SUCCESS
+    } else {
+        ExitCode::FAILURE
+    }
 }

@@ -3,6 +3,10 @@ use Prim.Native.Nat.{ℕ, suc, ◌+◌, ◌≤◌, ◌<◌}
 use mathlib.Core.Path.{◌≡◌, refl, sym, ◌∙◌, ap, subst}
 use mathlib.Core.Bool.{Bool, true, false}
 use mathlib.Core.List.{List, [], ◌++◌, append_assoc, append-nil}
+use Rattle.std.specs.Prelude.{Option, None, Some}
+use Rattle.std.proofs.lemmas.List.{append_cancel_right}
+use Rattle.std.proofs.KnownBytes.{Appends-nil, Appends-trans}
+use Rattle.std.specs.Io.KnownBytes.{Consumes, Keeps, Appends, IsAtEnd, append_known}
 use native.Mathlib.Omega.{arith}
 use lib.Dec.{leb}
 use lib.ListN.{length, drop}
@@ -21,7 +25,7 @@ use Rattle.turn.specs.declared.Stage.{Stage}
 use Rattle.turn.specs.declared.Stage.TheVariants.{Going, Ended, Unread, Unwritten, TooLong}
 use Rattle.turn.specs.Run.{Run, run, tape_word, with_turn, step_by, step, goes, step_if_going, tape_begun, turns}
 use Rattle.streams.specs.Streams.{kept_text, readable}
-use Rattle.runner.specs.Loop.{stage_of, Turned, told, LoopEnd}
+use Rattle.runner.specs.Loop.{stage_of, Turned, told, LoopEnd, TurnedBy, StandsAt, LoopEndBy}
 use Rattle.streams.proofs.Buffers.{shut, broken}
 use Rattle.runner.proofs.Steps.{turn_stays, turn_steps, short, no}
 
@@ -136,27 +140,23 @@ gone_kept t = by (leb (length t) 65472)
     by true = refl
     by false = sym (append-nil t)
 
-module _ (b : Board) (s t : Source) (now after : Run) (h : Held b s now) (g : now.stage ≡ Going) (u : Turned s now t after) where
+-- ---- a turn on what stands in front of more of the tape, behind more of the text
+
+module _ (s t : Source) (now after : Run) (u : Turned s now t after) where
   abbrev ready : Stage → Run
   ready x = run (now.left ++ u.more) now.offset now.board (kept_text now.text) x
 
   abbrev met : Stage
   met = stage_of (readable t) u.written now.offset
 
-  -- the run of all that was read, before the step
-  before : (m : List ℕ) → ((t ≡ Open → ⊥) → m ≡ [])
-      → turns h.count (tape_begun b ((h.tape ++ u.more) ++ m)) ≡ in_front (h.text ++ gone_text now.text) (behind (ready Going) m)
-  before m ok =
-      ap (λ (l : List ℕ). turns h.count (tape_begun b l)) (append_assoc h.tape u.more m) ∙ h.stands (u.more ++ m) none
-      ∙ (λ j. run (sym (append_assoc now.left u.more m) j) now.offset now.board (texts j) (told (g j)))
-    where
-      none : (s ≡ Open → ⊥) → u.more ++ m ≡ []
-      none o = (λ j. (u.closed o).0 j ++ ok (λ e. o (sym (u.closed o).1 ∙ e)) j)
+  -- no byte stands behind a tape that has ended
+  abbrev Behind : List ℕ → Type 0
+  Behind m = (t ≡ Open → ⊥) → m ≡ []
 
-      texts : h.text ++ now.text ≡ (h.text ++ gone_text now.text) ++ kept_text now.text
-      texts = ap (λ (x : List ℕ). h.text ++ x) (gone_kept now.text) ∙ sym (append_assoc h.text (gone_text now.text) (kept_text now.text))
+  texts : (w : List ℕ) → w ++ now.text ≡ (w ++ gone_text now.text) ++ kept_text now.text
+  texts w = ap (λ (x : List ℕ). w ++ x) (gone_kept now.text) ∙ sym (append_assoc w (gone_text now.text) (kept_text now.text))
 
-  same : (m : List ℕ) → ((t ≡ Open → ⊥) → m ≡ []) → next ((now.left ++ u.more) ++ m) ≡ next (now.left ++ u.more)
+  same : (m : List ℕ) → Behind m → next ((now.left ++ u.more) ++ m) ≡ next (now.left ++ u.more)
   same m ok = by t refl
     where
       all : m ≡ [] → next ((now.left ++ u.more) ++ m) ≡ next (now.left ++ u.more)
@@ -168,34 +168,16 @@ module _ (b : Board) (s t : Source) (now after : Run) (h : Held b s now) (g : no
       by Failed e = all (ok (λ o. broken (sym e ∙ o)))
 
   -- the step itself
-  stepped : (m : List ℕ) → ((t ≡ Open → ⊥) → m ≡ [])
-      → step_if_going (in_front (h.text ++ gone_text now.text) (behind (ready Going) m)) ≡ in_front (h.text ++ gone_text now.text) (behind (step (ready Going)) m)
-  stepped m ok =
-      sym (turn_steps (in_front (h.text ++ gone_text now.text) (behind (ready Going) m)) refl) ∙ step_front (h.text ++ gone_text now.text) (behind (ready Going) m)
-      ∙ ap (in_front (h.text ++ gone_text now.text)) (step_behind (ready Going) m (same m ok))
+  stepped : (w m : List ℕ) → Behind m → step_if_going (in_front w (behind (ready Going) m)) ≡ in_front w (behind (step (ready Going)) m)
+  stepped w m ok =
+      sym (turn_steps (in_front w (behind (ready Going) m)) refl) ∙ step_front w (behind (ready Going) m)
+      ∙ ap (in_front w) (step_behind (ready Going) m (same m ok))
 
-  pub held_turn : Held b t after
-  unfolding turns
-  held_turn = by (goes met) refl
-    where
-      by : (x : Bool) → goes met ≡ x → Held b t after
-      by true e =
-          let st : met ≡ Going = only_going met e in
-          let one : after ≡ step (ready Going) = u.stepped ∙ sym (turn_steps (ready met) e) ∙ ap (λ (x : Stage). step (ready x)) st in
-          subst (Held b t) (sym one) (record {
-            tape = h.tape ++ u.more;
-            text = h.text ++ gone_text now.text;
-            count = suc h.count;
-            stands = λ m ok. ap step_if_going (before m ok) ∙ stepped m ok ∙ ap (λ (x : Stage). run ((step (ready Going)).left ++ m) (step (ready Going)).offset (step (ready Going)).board ((h.text ++ gone_text now.text) ++ (step (ready Going)).text) x) (sym (told_step (ready Going)));
-          })
-      by false e =
-          let one : after ≡ ready met = u.stepped ∙ sym (turn_stays (ready met) e) in
-          subst (Held b t) (sym one) (record {
-            tape = h.tape ++ u.more;
-            text = h.text ++ gone_text now.text;
-            count = h.count;
-            stands = λ m ok. before m ok ∙ ap (λ (x : Stage). in_front (h.text ++ gone_text now.text) (behind (ready x) m)) (sym (told_stage (readable t) u.written now.offset));
-          })
+  stays : goes met ≡ false → after ≡ ready met
+  stays e = u.stepped ∙ sym (turn_stays (ready met) e)
+
+  steps : goes met ≡ true → after ≡ step (ready Going)
+  steps e = u.stepped ∙ sym (turn_steps (ready met) e) ∙ ap (λ (x : Stage). step (ready x)) (only_going met e)
 
   pub further : now.offset ≤ 9223372036854775834 → (now.offset ≤ after.offset) × (after.offset ≤ 9223372036854775834) × (goes after.stage ≡ true → now.offset < after.offset)
   further l = by (goes met) refl
@@ -207,6 +189,159 @@ module _ (b : Board) (s t : Source) (now after : Run) (h : Held b s now) (g : no
           subst (λ (r : Run). (now.offset ≤ r.offset) × (r.offset ≤ 9223372036854775834) × (goes r.stage ≡ true → now.offset < r.offset)) (sym one)
           (f.least, omega (arith, f.most, short (readable t) u.written now.offset e), f.more)
       by false e =
-          let one : after ≡ ready met = u.stepped ∙ sym (turn_stays (ready met) e) in
-          subst (λ (r : Run). (now.offset ≤ r.offset) × (r.offset ≤ 9223372036854775834) × (goes r.stage ≡ true → now.offset < r.offset)) (sym one)
+          subst (λ (r : Run). (now.offset ≤ r.offset) × (r.offset ≤ 9223372036854775834) × (goes r.stage ≡ true → now.offset < r.offset)) (sym (stays e))
           (omega arith, l, λ w. absurd (no (sym e ∙ w)))
+
+module _ (b : Board) (s t : Source) (now after : Run) (h : Held b s now) (g : now.stage ≡ Going) (u : Turned s now t after) where
+  -- the run of all that was read, before the step
+  before : (m : List ℕ) → Behind s t now after u m
+      → turns h.count (tape_begun b ((h.tape ++ u.more) ++ m)) ≡ in_front (h.text ++ gone_text now.text) (behind (ready s t now after u Going) m)
+  before m ok =
+      ap (λ (l : List ℕ). turns h.count (tape_begun b l)) (append_assoc h.tape u.more m) ∙ h.stands (u.more ++ m) none
+      ∙ (λ j. run (sym (append_assoc now.left u.more m) j) now.offset now.board (texts s t now after u h.text j) (told (g j)))
+    where
+      none : (s ≡ Open → ⊥) → u.more ++ m ≡ []
+      none o = (λ j. (u.closed o).0 j ++ ok (λ e. o (sym (u.closed o).1 ∙ e)) j)
+
+  pub held_turn : Held b t after
+  unfolding turns
+  held_turn = by (goes (met s t now after u)) refl
+    where
+      by : (x : Bool) → goes (met s t now after u) ≡ x → Held b t after
+      by true e =
+          let one = step (ready s t now after u Going) in
+          subst (Held b t) (sym (steps s t now after u e)) (record {
+            tape = h.tape ++ u.more;
+            text = h.text ++ gone_text now.text;
+            count = suc h.count;
+            stands = λ m ok.
+                ap step_if_going (before m ok) ∙ stepped s t now after u (h.text ++ gone_text now.text) m ok
+                ∙ ap (λ (x : Stage). run (one.left ++ m) one.offset one.board ((h.text ++ gone_text now.text) ++ one.text) x) (sym (told_step (ready s t now after u Going)));
+          })
+      by false e =
+          subst (Held b t) (sym (stays s t now after u e)) (record {
+            tape = h.tape ++ u.more;
+            text = h.text ++ gone_text now.text;
+            count = h.count;
+            stands = λ m ok. before m ok ∙ ap (λ (x : Stage). in_front (h.text ++ gone_text now.text) (behind (ready s t now after u x) m)) (sym (told_stage (readable t) u.written now.offset));
+          })
+
+-- ---- the same where it is known what the reader has left and what the writer holds
+
+pub record HeldBy (b : Board) (s : Source) (now : Run) (tape rest held got : Option (List ℕ)) : Type 0 where
+  pub count : ℕ
+  pub text : List ℕ
+  pub stands : StandsAt b tape rest count text now
+  pub written : (now.stage ≡ Unread → ⊥) → (now.stage ≡ Unwritten → ⊥) → Appends held got text
+  pub end : s ≡ Closed → IsAtEnd rest
+
+open_stays : Open ≡ Closed → ⊥
+open_stays e = shut (sym e)
+
+pub held_by_none : (b : Board) (tape held : Option (List ℕ)) → HeldBy b Open (run [] 0 b [] Going) tape tape held held
+unfolding turns
+held_by_none b tape held = record { count = 0; text = []; stands = by tape; written = λ _ _. Appends-nil held; end = λ e. absurd (open_stays e) }
+  where
+    by : (k : Option (List ℕ)) → StandsAt b k k 0 [] (run [] 0 b [] Going)
+    by None = tt
+    by (Some x) = refl
+
+pub held_by_ran : (b : Board) (s : Source) (now : Run) (tape rest held got : Option (List ℕ)) → HeldBy b s now tape rest held got → LoopEndBy b tape rest held got now
+held_by_ran b s now tape rest held got h = record { count = h.count; text = h.text; stands = h.stands; written = h.written }
+
+-- where nothing failed all was written that had to be
+all_written : (r w : Bool) (o : ℕ) → (stage_of r w o ≡ Unread → ⊥) → (stage_of r w o ≡ Unwritten → ⊥) → w ≡ true
+all_written true true o p q = refl
+all_written true false o p q = absurd (q refl)
+all_written false w o p q = absurd (p refl)
+
+going_not_unread : Going ≡ Unread → ⊥
+going_not_unread e = absurd (no (sym (ap goes e)))
+
+going_not_unwritten : Going ≡ Unwritten → ⊥
+going_not_unwritten e = absurd (no (sym (ap goes e)))
+
+gone_written : (a c : Option (List ℕ)) (gone kept all : List ℕ) → all ≡ gone ++ kept → Keeps (append_known a all) (append_known c kept) → Appends a c gone
+gone_written None c gone kept all e p = tt
+gone_written (Some x) None gone kept all e p = absurd p
+gone_written (Some x) (Some y) gone kept all e p =
+    append_cancel_right y (x ++ gone) kept (p ∙ ap (λ (l : List ℕ). x ++ l) e ∙ sym (append_assoc x gone kept))
+
+module _ (b : Board) (s t : Source) (now after : Run) (tape rest left held got has : Option (List ℕ)) (h : HeldBy b s now tape rest held got) (g : now.stage ≡ Going)
+    (v : TurnedBy s now t after rest left got has) where
+  abbrev u : Turned s now t after
+  u = v.turned
+
+  -- before the step
+  stands_before : StandsAt b tape left h.count (h.text ++ gone_text now.text) (ready s t now after u Going)
+  stands_before = by tape rest left h.stands v.read
+    where
+      by : (x y z : Option (List ℕ)) → StandsAt b x y h.count h.text now → Consumes y z u.more → StandsAt b x z h.count (h.text ++ gone_text now.text) (ready s t now after u Going)
+      by None y z p q = tt
+      by (Some x) None z p q = absurd p
+      by (Some x) (Some y) None p q = absurd q
+      by (Some x) (Some y) (Some z) p q =
+          p ∙ (λ j. run ((ap (λ (l : List ℕ). now.left ++ l) q ∙ sym (append_assoc now.left u.more z)) j) now.offset now.board (texts s t now after u h.text j) (told (g j)))
+
+  -- .. and behind it
+  stands_behind : goes (met s t now after u) ≡ true → StandsAt b tape left (suc h.count) (h.text ++ gone_text now.text) (step (ready s t now after u Going))
+  unfolding turns
+  stands_behind e = by tape left stands_before (v.end h.end)
+    where
+      w : List ℕ
+      w = h.text ++ gone_text now.text
+
+      readable_going : (x : Source) → goes (stage_of (readable x) u.written now.offset) ≡ true → x ≡ Failed → ⊥
+      readable_going Open p q = broken (sym q)
+      readable_going Closed p q = let z : ◌≡◌ {A = ℕ} 0 1 = cc in omega arith
+      readable_going Failed p q = no p
+
+      none : (z : List ℕ) → (t ≡ Closed → z ≡ []) → Behind s t now after u z
+      none z k o = at t refl
+        where
+          at : (x : Source) → t ≡ x → z ≡ []
+          at Open p = absurd (o p)
+          at Closed p = k p
+          at Failed p = absurd (readable_going t e p)
+
+      by : (x z : Option (List ℕ)) → StandsAt b x z h.count w (ready s t now after u Going) → (t ≡ Closed → IsAtEnd z) → StandsAt b x z (suc h.count) w (step (ready s t now after u Going))
+      by None z p k = tt
+      by (Some x) None p k = absurd p
+      by (Some x) (Some z) p k =
+          let one = step (ready s t now after u Going) in
+          ap step_if_going p ∙ stepped s t now after u w z (none z k)
+          ∙ ap (λ (m : Stage). run (one.left ++ z) one.offset one.board (w ++ one.text) m) (sym (told_step (ready s t now after u Going)))
+
+  grown : u.written ≡ true → Appends held has (h.text ++ gone_text now.text)
+  grown e =
+      Appends-trans held got has h.text (gone_text now.text)
+      (h.written (λ w. going_not_unread (sym g ∙ w)) (λ w. going_not_unwritten (sym g ∙ w)))
+      (gone_written got has (gone_text now.text) (kept_text now.text) now.text (gone_kept now.text) (v.put e))
+
+  pub held_by_turn : HeldBy b t after tape left held has
+  held_by_turn = by (goes (met s t now after u)) refl
+    where
+      by : (x : Bool) → goes (met s t now after u) ≡ x → HeldBy b t after tape left held has
+      by true e =
+          let m = only_going (met s t now after u) e in
+          subst (λ (r : Run). HeldBy b t r tape left held has) (sym (steps s t now after u e)) (record {
+            count = suc h.count;
+            text = h.text ++ gone_text now.text;
+            stands = stands_behind e;
+            written = λ _ _. grown (all_written (readable t) u.written now.offset (λ w. going_not_unread (sym m ∙ w)) (λ w. going_not_unwritten (sym m ∙ w)));
+            end = v.end h.end;
+          })
+      by false e =
+          subst (λ (r : Run). HeldBy b t r tape left held has) (sym (stays s t now after u e)) (record {
+            count = h.count;
+            text = h.text ++ gone_text now.text;
+            stands = told_as tape left stands_before;
+            written = λ p q. grown (all_written (readable t) u.written now.offset p q);
+            end = v.end h.end;
+          })
+        where
+          told_as : (x z : Option (List ℕ)) → StandsAt b x z h.count (h.text ++ gone_text now.text) (ready s t now after u Going)
+              → StandsAt b x z h.count (h.text ++ gone_text now.text) (ready s t now after u (met s t now after u))
+          told_as None z p = tt
+          told_as (Some x) None p = absurd p
+          told_as (Some x) (Some z) p = p ∙ ap (λ (x : Stage). in_front (h.text ++ gone_text now.text) (behind (ready s t now after u x) z)) (sym (told_stage (readable t) u.written now.offset))

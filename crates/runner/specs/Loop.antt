@@ -1,9 +1,10 @@
 -- A turn of the key program's loop, and where the loop ends.
-use Rattle.std.specs.Prelude.{ℕ, ◌≤◌, ◌≡◌, Bool, List, [], ◌++◌, leb, length}
+use Rattle.std.specs.Prelude.{ℕ, ◌≤◌, ◌≡◌, Bool, true, Option, None, Some, List, [], ◌++◌, leb, length}
+use Rattle.std.specs.Io.KnownBytes.{Consumes, Keeps, Appends, IsAtEnd, append_known}
 use Rattle.bits.specs.Bit.{pick, unless}
 use Rattle.board.specs.Board.{Board}
 use Rattle.streams.specs.declared.Source.{Source}
-use Rattle.streams.specs.declared.Source.TheVariants.{Open}
+use Rattle.streams.specs.declared.Source.TheVariants.{Open, Closed}
 use Rattle.streams.specs.Streams.{readable, kept_text}
 use Rattle.turn.specs.declared.Stage.{Stage}
 use Rattle.turn.specs.declared.Stage.TheVariants.{Going, Ended, Unread, Unwritten, TooLong}
@@ -36,3 +37,25 @@ pub record LoopEnd (b : Board) (after : Run) : Type 0 where
   pub text : List ℕ
   pub count : ℕ
   pub stands : turns count (tape_begun b tape) ≡ run after.left after.offset after.board (text ++ after.text) (told after.stage)
+
+-- ---- the same, where it is known what a reader has left (`tape`, and `rest` afterwards) and what a writer holds (`held`, and `got` afterwards)
+
+-- What is read the reader gave, and where the tape has ended it has nothing left; what is written the writer got.
+pub record TurnedBy (s : Source) (before : Run) (t : Source) (after : Run) (tape rest held got : Option (List ℕ)) : Type 0 where
+  pub turned : Turned s before t after
+  pub read : Consumes tape rest turned.more
+  pub end : (s ≡ Closed → IsAtEnd tape) → t ≡ Closed → IsAtEnd rest
+  pub put : turned.written ≡ true → Keeps (append_known held before.text) (append_known got (kept_text before.text))
+
+-- the run of the whole tape stands here after so many turns, with what the reader has left behind the bytes that are read, and `text` in front of what is put
+abbrev pub StandsAt : Board → Option (List ℕ) → Option (List ℕ) → ℕ → List ℕ → Run → Type 0
+StandsAt b None rest count text after = Unit {0}
+StandsAt b (Some tape) None count text after = ⊥
+StandsAt b (Some tape) (Some rest) count text after = turns count (tape_begun b tape) ≡ run (after.left ++ rest) after.offset after.board (text ++ after.text) (told after.stage)
+
+-- Where the loop ends: the run of the whole tape stands here after some turns, and where nothing failed the writer got the text in front.
+pub record LoopEndBy (b : Board) (tape rest held got : Option (List ℕ)) (after : Run) : Type 0 where
+  pub count : ℕ
+  pub text : List ℕ
+  pub stands : StandsAt b tape rest count text after
+  pub written : (after.stage ≡ Unread → ⊥) → (after.stage ≡ Unwritten → ⊥) → Appends held got text

@@ -1,6 +1,6 @@
 -- How code holds a tape and a key: bytes and text in two buffers of 65,536 bytes, more of the one read and what is put of the other written on the way.
 use Prim.{Unit}
-use Rattle.std.specs.Prelude.{ℕ, ◌-◌, ◌≤◌, ◌<◌, ◌≡◌, Bool, true, false, List, [], ◌∷◌, ◌++◌, eqb, leb, ℤ, pos, negsuc, length, take, drop}
+use Rattle.std.specs.Prelude.{ℕ, ◌-◌, ◌≤◌, ◌<◌, ◌≡◌, Bool, true, false, List, [], ◌∷◌, ◌++◌, eqb, leb, ℤ, pos, negsuc, Result, Ok, Err, length, take, drop}
 use Rattle.bits.specs.Bit.{pick}
 use Rattle.tape.specs.Text.{count_text}
 use Rattle.streams.specs.declared.Got.{Got}
@@ -19,6 +19,22 @@ left_of buf i = take (i.filled - i.at) (drop i.at buf)
 abbrev pub got_of : ℤ → ℕ → Got
 got_of (negsuc k) n = Failure
 got_of (pos k) n = pick (eqb n 0) Nothing (Bytes n)
+
+-- that answer, of what a reader of std's returns
+abbrev pub answer_of : {E : Type 0} → Result ℕ E → ℤ
+answer_of (Ok n) = pos n
+answer_of (Err e) = negsuc 0
+
+-- .. and the bytes that it counts
+abbrev pub bytes_of : {E : Type 0} → Result ℕ E → ℕ
+bytes_of (Ok n) = n
+bytes_of (Err e) = 0
+
+-- .. and how many bytes it brought
+abbrev pub size_of : Got → ℕ
+size_of (Bytes n) = n
+size_of Nothing = 0
+size_of Failure = 0
 
 -- one byte at least and at most n, or none
 abbrev pub Brought : ℕ → Got → Type 0

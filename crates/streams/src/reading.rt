@@ -1,41 +1,42 @@
 // The tape's bytes: those that are read and not taken yet stand in a buffer.
 ghost use Rattle.std.specs.Prelude.{◌≡◌, ◌+◌, ◌-◌, ◌≤◌, ◌<◌, length, take, drop};
 ghost use Rattle.tape.specs.Tape.{next};
-ghost use Rattle.streams.specs.Streams.{Refilled, Brought, got_of, readable};
+ghost use Rattle.streams.specs.Streams.{Refilled, Brought, got_of, answer_of, bytes_of, size_of, left_of, readable};
+ghost use Rattle.std.specs.Io.KnownBytes.{Keeps, IsAtEnd, prepend_known};
 
 use crate::{Got, Input, Source};
-use libc::STDIN_FILENO;
+use std::io;
+use std::io::Read;
 use tape::Next;
 
 // A call of the tape has at most so many bytes.
 const LONGEST: usize = 26;
 
-// What a read that answered `answer` brought, n bytes.
-fn got_of(answer: isize, n: usize) -> Got
-    ensures { result ≡ got_of answer n }
+// What a read that gave this answer brought.
+fn got_of(answer: io::Result<usize>) -> Got
+    ensures { result ≡ got_of (answer_of answer) (bytes_of answer) }
 {
-    if answer < 0 {
-        return Got::Failure;
+    match answer {
+        Err(_) => Got::Failure,
+        Ok(0) => Got::Nothing,
+        Ok(n) => Got::Bytes(n),
     }
-    if n == 0 {
-        return Got::Nothing;
-    }
-    Got::Bytes(n)
 }
 
-// One read, behind the first n bytes.
-fn read_behind(buf: &mut [u8], n: usize) -> Got
+// One read, behind the first n bytes. What it brought, the reader has no longer; and where it brought nothing the reader is at its end.
+fn read_behind<R: Read>(reader: &mut R, buf: &mut [u8], n: usize) -> Got
     requires { n ≤ length buf.old }
     ensures buf_unchanged { take n buf.new ≡ take n buf.old }
     ensures brought { Brought (length buf.old - n) result }
+    ensures kept { Keeps (prepend_known (take n buf.old) (R.remaining reader.old))
+        (prepend_known (take (n + size_of result) buf.new) (R.remaining reader.new)) }
+    ensures end { result ≡ Got.Nothing → n < length buf.old → IsAtEnd (R.remaining reader.new) }
 {
-    let got = libc::read(STDIN_FILENO, &mut buf[n..]);
-    let k = io::count(got, &buf[n..]);
-    got_of(got, k)
+    got_of(reader.read(&mut buf[n..]))
 }
 
 // Reads behind the first n bytes until a whole call is there in any case, the tape ends or a read fails.
-fn fill(buf: &mut [u8], n: usize, offset: u64) -> Input
+fn fill<R: Read>(reader: &mut R, buf: &mut [u8], n: usize, offset: u64) -> Input
     requires n_bound { n ≤ 26 }
     requires in_bounds { 26 ≤ length buf.old }
     ensures buf_unchanged { take n buf.new ≡ take n buf.old }
@@ -44,10 +45,13 @@ fn fill(buf: &mut [u8], n: usize, offset: u64) -> Input
     ensures filled_in_bounds { result.filled ≤ length buf.old }
     ensures offset_value { result.offset ≡ offset }
     ensures le_filled { result.source ≡ Source.Open → 26 ≤ result.filled }
+    ensures kept { Keeps (prepend_known (take n buf.old) (R.remaining reader.old))
+        (prepend_known (take result.filled buf.new) (R.remaining reader.new)) }
+    ensures end { result.source ≡ Source.Closed → IsAtEnd (R.remaining reader.new) }
 {
     let mut filled = n;
     while filled < LONGEST {
-        match read_behind(buf, filled) {
+        match read_behind(reader, buf, filled) {
             Got::Bytes(k) => filled += k,
             Got::Nothing => return Input {
                 at: 0,
@@ -81,12 +85,17 @@ fn move_down(buf: &mut [u8], at: usize, n: usize)
     }
 }
 
-// A whole call, or all that is left of the tape, stands in the buffer.
-pub fn refill(buf: &mut [u8], input: Input) -> Input
+// A whole call, or all that is left of the tape, stands in the buffer. No byte is lost or told twice: what is left in the buffer, and what the reader has behind it,
+// are as they were together.
+pub fn refill<R: Read>(reader: &mut R, buf: &mut [u8], input: Input) -> Input
     requires at_le_filled { input.at ≤ input.filled }
     requires filled_in_bounds { input.filled ≤ length buf.old }
     requires in_bounds { 26 ≤ length buf.old }
-    ensures { Refilled buf.old buf.new input result }
+    ensures refilled { Refilled buf.old buf.new input result }
+    ensures kept { Keeps (prepend_known (left_of buf.old input) (R.remaining reader.old))
+        (prepend_known (left_of buf.new result) (R.remaining reader.new)) }
+    ensures end { (input.source ≡ Source.Closed → IsAtEnd (R.remaining reader.old))
+        → result.source ≡ Source.Closed → IsAtEnd (R.remaining reader.new) }
 {
     let at = input.at;
     let n = input.filled - at;
@@ -97,7 +106,7 @@ pub fn refill(buf: &mut [u8], input: Input) -> Input
     match source {
         Source::Open => {
             move_down(buf, at, n);
-            fill(buf, n, input.offset)
+            fill(reader, buf, n, input.offset)
         }
         Source::Closed => input,
         Source::Failed => input,

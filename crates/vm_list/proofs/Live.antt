@@ -1,19 +1,23 @@
 -- The slots of a list are copied as far as they are live.
 use Prim.Native.Nat.{ℕ, suc, ◌+◌, ◌-◌, ◌<◌, ◌≤◌, max}
-use mathlib.Core.Path.{◌≡◌, sym, ◌∙◌, ap}
-use mathlib.Core.Bool.{Bool, true, false}
-use mathlib.Core.List.{List, ◌++◌, append_assoc}
+use mathlib.Core.Path.{◌≡◌, refl, sym, ◌∙◌, ap}
+use mathlib.Core.Bool.{Bool, true, false, not}
+use mathlib.Core.List.{List, [], ◌∷◌, ◌++◌, append_assoc}
 use native.Mathlib.Omega.{arith}
 use native.Mathlib.Numerals.{add-one}
-use lib.ListN.{length-set, length, length-replicate, get_or, take, drop, set, replicate, length-append}
+use lib.Dec.{eqb}
+use lib.ListN.{length-set, length, length-replicate, get_or, take, drop, set, replicate, length-append, length-drop, take-append-drop}
 use lib.Seq.{drop-cons, take-suc, append_snoc, set_at, take_at, length-take-le}
+use borrow.Author.Tests.{eqb-true}
+use Rattle.bits.proofs.Choice.{both_true}
+use Rattle.slots.proofs.Filled.{drop_replicate}
 use Rattle.slots.specs.Slots.{Slots, slotted, listed, every, first_at, store}
 use Rattle.slots.proofs.Stored.{store_count}
 use Rattle.regions.specs.declared.VMRegion.{VMRegion}
-use Rattle.regions.specs.Regions.{vm_region, no_vm_region, well_placed_vm, sound_regions, fits, taken, merge}
+use Rattle.regions.specs.Regions.{vm_region, no_vm_region, is_no_slot, well_placed_vm, sound_regions, fits, taken, merge}
 use Rattle.regions.specs.List.{freed_at}
 use Rattle.vm_list.specs.Packed.{vm_in, vm_fit, overwritten}
-use Rattle.regions.proofs.Placed.{sound_few, sound_placed}
+use Rattle.regions.proofs.Placed.{sound_few, sound_placed, sound_blank}
 use Rattle.vm_list.proofs.RoundTrip.{slots_long}
 use Rattle.regions.proofs.Rows.{length_merge, taken_few, taken_more}
 
@@ -31,6 +35,34 @@ copied d i l m zs h k e =
 -- once the first n are, they are the same
 pub front : {A : Type 0} (i n : ℕ) (l m zs : List A) → i ≡ n → n ≤ length l → zs ≡ take i l ++ m → take n zs ≡ take n l
 front i n l m zs e h z = ap (take n) (z ∙ ap (λ (k : ℕ). take k l ++ m) e) ∙ take_at (take n l) m n (length-take-le n l h)
+
+-- ---- slots past the count are zero
+
+blank_is : (r : VMRegion) → is_no_slot r ≡ true → r ≡ no_vm_region
+blank_is r h =
+    let a = both_true (eqb r.start 0) _ h in
+    let b = both_true (eqb r.size 0) _ a.1 in
+    λ j. record { start = eqb-true r.start 0 a.0 j; size = eqb-true r.size 0 b.0 j; used = free r.used b.1 j }
+  where
+    free : (u : Bool) → not u ≡ true → u ≡ false
+    free true e = sym e
+    free false e = refl
+
+blanks : (l : List VMRegion) → every is_no_slot l ≡ true → replicate (length l) no_vm_region ≡ l
+unfolding every
+blanks [] h = refl
+blanks (r ∷ l) h =
+    let a = both_true (is_no_slot r) _ h in
+    λ j. sym (blank_is r a.0) j ∷ blanks l a.1 j
+
+-- so that live slots in front of zero ones are all of them
+pub live_all : (s : Slots VMRegion) → sound_regions s ≡ true → length s.slots ≡ 256 → (n : ℕ) → n ≡ s.count → take n s.slots ++ drop n (replicate 256 no_vm_region) ≡ s.slots
+live_all s h long n e =
+    let m : 256 - s.count ≡ length (drop s.count s.slots) = omega (arith, length-drop s.count s.slots) in
+    ap (λ (k : ℕ). take k s.slots ++ drop k (replicate 256 no_vm_region)) e
+    ∙ ap (λ (l : List VMRegion). take s.count s.slots ++ l)
+    (drop_replicate no_vm_region s.count 256 ∙ ap (λ (k : ℕ). replicate k no_vm_region) m ∙ blanks (drop s.count s.slots) (sound_blank s h))
+    ∙ take-append-drop s.count s.slots
 
 -- ---- what a step leaves, once its live slots are back
 

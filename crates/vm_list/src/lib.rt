@@ -19,7 +19,7 @@ pub const VM_SIZE: usize = 8 + MAX_VM_REGIONS * 24;
 // How many numbers its bytes are.
 const VM_WORDS: usize = VM_SIZE / 8;
 
-// The window as one free region. An array is filled with it before slots are read into it. Zeros would do, but of zeros the compiler unrolls the fill, and then no longer
+// The window as one free region. The small array is filled with it before slots are read into it. Zeros would do, but of zeros the compiler unrolls the fill, and then no longer
 // leaves out the copies of the array between the steps.
 const WINDOW: VMRegion = VMRegion {
     start: VMALLOC_START,
@@ -164,20 +164,25 @@ pub fn find_used(list: &[u8], n: usize, addr: u64) -> usize
     n
 }
 
-// The first n slots; what is behind them is not read.
+// The slots. Those past the n regions of a sound list are zero, and are not read.
 fn read_live(list: &[u8], n: usize) -> [VMRegion; 256]
     requires list_len { length list.now ≡ vm_size }
-    requires n_bound { n ≤ 256 }
-    ensures { take n result ≡ take n (vm_in list.now).slots }
+    requires n_value { (n ≡ (vm_in list.now).count) × (sound_regions (vm_in list.now) ≡ true) }
+    ensures { result ≡ (vm_in list.now).slots }
 {
-    let mut regions = [WINDOW; 256];
+    let blank = VMRegion {
+        start: 0,
+        size: 0,
+        used: false,
+    };
+    let mut regions = [blank; 256];
     for i in 0..n {
         regions[i] = slot(list, i);
     }
     regions
 }
 
-// The same into the small array.
+// The first n slots into the small array; what is behind them is not read.
 fn read_few(list: &[u8], n: usize) -> [VMRegion; FEW_REGIONS]
     requires list_len { length list.now ≡ vm_size }
     requires n_le_few_regions { n ≤ few_regions }

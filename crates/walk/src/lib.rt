@@ -75,6 +75,28 @@ fn leaf_below(
     Leaf::NoLeaf(answer::NOT_MAPPED)
 }
 
+// The table of level 4 on an address's way: the root on a board of four levels, what it names on one of five.
+fn fourth_table(
+    words: &[u64],
+    start: u64,
+    total: u64,
+    levels: u64,
+    root: Frame,
+    virt: VirtAddr,
+) -> Outcome
+    requires words_lent { WordsLent words.now start total }
+    requires levels_le_most_levels { levels ≤ most_levels }
+    ensures { result ≡ reach words.now start total root.0 (take (levels - 4) (indices_of 5 virt.0)) }
+{
+    if levels < 5 {
+        return Outcome::Value(root.0);
+    }
+    match entry_at(words, start, total, root.0, entry::page_index(virt, 4)) {
+        Outcome::Stop(n) => Outcome::Stop(n),
+        Outcome::Value(e) => Outcome::Value(PageTableEntry(e).addr().0 >> 12),
+    }
+}
+
 // The same. Where there are four levels the loop's length is written out, for the compiler.
 fn find_leaf(
     words: &[u64],
@@ -289,7 +311,10 @@ pub fn translate(
     if !may_walk(words.len(), start, total, levels, root) {
         return PhysAnswer::NoPhys(answer::BROKEN_RECORD);
     }
-    walk(words, start, total, levels, root, virt)
+    match fourth_table(words, start, total, levels, root, virt) {
+        Outcome::Stop(n) => PhysAnswer::NoPhys(n),
+        Outcome::Value(t) => phys_at(leaf_below(words, start, total, 4, Frame(t), virt), virt),
+    }
 }
 
 // Whether user code may read an address, or write it. Where there are four levels the loop's length is written out, for the compiler.

@@ -1,4 +1,4 @@
-//! The key program beside the Rust: tapes are played through `target/bin/key`, and what it prints is
+//! The key program beside the Rust: tapes are played through `crates/key/out/key`, and what it prints is
 //! compared byte for byte with the key of the same tape. That key is made here from the answers of the
 //! fuzz's model of document 01; where a call lies in the domain of equality, the Rust must give the same
 //! answer.
@@ -37,7 +37,7 @@ use trial::domain::{self, Verdict};
 use trial::generate::{any_call, Generator, Profile, Random};
 use trial::minimise;
 
-const PROGRAM: &str = "target/bin/key";
+const PROGRAM: &str = "crates/key/out/key";
 
 /// Document 01's board: 16 frames from 0x100000.
 const MEMORY: (u64, u64) = (0x10_0000, 0x11_0000);
@@ -50,7 +50,7 @@ fn main() {
     guard::watch();
     let mut report = Report::default();
     if !Path::new(PROGRAM).exists() {
-        report.check("keys", Err(format!("{PROGRAM} is missing: `rt check key` makes it")));
+        report.check("keys", Err(format!("{PROGRAM} is missing: `host/key.sh` makes it")));
         report.finish();
     }
     report.check("keys: the worked example", worked_example());
@@ -81,7 +81,7 @@ fn printed(tape: &[u8], piece: usize) -> Result<String, String> {
     });
     let output = child.wait_with_output().map_err(say)?;
     writer.join().map_err(|_| "the writer failed")?;
-    holds(output.status.code().is_some(), "the program to end by itself")?;
+    equal(output.status.code(), Some(0))?;
     String::from_utf8(output.stdout).map_err(|_| "bytes that are no text".to_string())
 }
 

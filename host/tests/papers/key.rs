@@ -14,14 +14,14 @@ use std::path::Path;
 use std::process::{Command, Stdio};
 
 /// The key program.
-const KEY: &str = "target/bin/key";
+const KEY: &str = "crates/key/out/key";
 
 pub fn check(options: &Options, report: &mut Report) {
     if Path::new(KEY).exists() {
         report.tell("key: beside the key program, tapes of calls", calls(options));
         report.tell("key: beside the key program, tapes of any bytes", bytes(options));
     } else {
-        report.check("key", Err(format!("{KEY} is missing: `rt check key` makes it")));
+        report.check("key", Err(format!("{KEY} is missing: `host/key.sh` makes it")));
     }
     report.tell("key: the same from a text and from its tape", forms(options));
     report.tell("key: --explain has the key's lines and names each refusal", explained(options));

@@ -1,5 +1,5 @@
 //! The tool `paper`, verb by verb: in this process, and as `target/host/paper` where streams matter. Keys are compared
-//! with the key program's, `target/bin/key` (`rt check key` makes it).
+//! with the key program's, `crates/key/out/key` (`host/key.sh` makes it).
 //!
 //! Prints `ok NAME` or `FAILED NAME: why` for each check and ends with the two counts. All files that it writes stand
 //! in a folder of its own below target/host, which is removed at the end.

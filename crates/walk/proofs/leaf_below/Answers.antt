@@ -29,12 +29,11 @@ returns-then-is_huge c =
 
 pub loop-level-preserved : goal.loop-level-preserved
 loop-level-preserved c =
-    let below : length (indices_of (c.loop-level.level - 1) c.args.virt.0) ≡ c.loop-level.level - 1 = length_indices (c.loop-level.level - 1) c.args.virt.0 in let more : indices_of c.loop-level.level c.args.virt.0 ≡ c.page_index.result ∷ indices_of (c.loop-level.level - 1) c.args.virt.0 = indices_next c.loop-level.level c.args.virt.0 c.loop-level-test.true ∙ ap (λ i. i ∷ indices_of (c.loop-level.level - 1) c.args.virt.0) (sym c.page_index.ensures.value) in let seen : entry_at c.args.words.now c.args.start c.args.total c.loop-level.t c.page_index.result ≡ Value c.in-Value.e = sym c.entry_at.ensures ∙ c.in-Value.is in
-    (
+    let below : length (indices_of (c.loop-level.level - 1) c.args.virt.0) ≡ c.loop-level.level - 1 = length_indices (c.loop-level.level - 1) c.args.virt.0 in let more : indices_of c.loop-level.level c.args.virt.0 ≡ c.page_index.result ∷ indices_of (c.loop-level.level - 1) c.args.virt.0 = indices_next c.loop-level.level c.args.virt.0 c.loop-level-test.true ∙ ap (λ i. i ∷ indices_of (c.loop-level.level - 1) c.args.virt.0) (sym c.page_index.ensures.value) in let seen : entry_at c.args.words.now c.args.start c.args.total c.loop-level.t c.page_index.result ≡ Value c.in-Value.e = sym c.entry_at.ensures ∙ c.in-Value.is in (
       omega (arith, c.loop-level.invariant.0),
       c.loop-level.invariant.1
           ∙ elim c.else-level-eq2.branch [
-            else-level-eq2-via-then-level-eq2+else-is_huge w ↦
+            | else-level-eq2-via-then-level-eq2+else-is_huge w ↦
                 leaf_small c.args.words.now c.args.start c.args.total c.loop-level.t more _ seen (below ∙ omega (arith, w.if-level-eq2.true)) (sym w.is_huge.ensures ∙ w.if-is_huge.false)
             | else-level-eq2-via-else-level-eq2 w ↦
                 leaf_above c.args.words.now c.args.start c.args.total c.loop-level.t more _ seen (omega (arith, below, w.if-level-eq2.false, c.if-level-eq1.false, c.loop-level-test.true))

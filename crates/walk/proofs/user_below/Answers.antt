@@ -50,7 +50,7 @@ returns-then-not-is_inside c =
       there,
       omega (arith, below, c.if-level-eq1.false, c.loop-level-test.true),
       elim c.else-level-eq2.branch [
-        else-level-eq2-via-then-level-eq2+else-is_huge w ↦
+        | else-level-eq2-via-then-level-eq2+else-is_huge w ↦
             rw (sym w.is_huge.ensures ∙ w.if-is_huge.false) (both_false (eqb (length (indices_of (c.loop-level.level - 1) c.args.virt.0)) 1))
         | else-level-eq2-via-else-level-eq2 w ↦
             rw (ne_eqb (length (indices_of (c.loop-level.level - 1) c.args.virt.0)) 1 (λ e. omega (arith, below, w.if-level-eq2.false, e, c.loop-level-test.true)))
@@ -66,7 +66,7 @@ loop-level-preserved c =
       there,
       omega (arith, below, c.if-level-eq1.false, c.loop-level-test.true),
       elim c.else-level-eq2.branch [
-        else-level-eq2-via-then-level-eq2+else-is_huge w ↦
+        | else-level-eq2-via-then-level-eq2+else-is_huge w ↦
             rw (sym w.is_huge.ensures ∙ w.if-is_huge.false) (both_false (eqb (length (indices_of (c.loop-level.level - 1) c.args.virt.0)) 1))
         | else-level-eq2-via-else-level-eq2 w ↦
             rw (ne_eqb (length (indices_of (c.loop-level.level - 1) c.args.virt.0)) 1 (λ e. omega (arith, below, w.if-level-eq2.false, e, c.loop-level-test.true)))

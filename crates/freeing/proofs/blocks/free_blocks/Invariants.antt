@@ -1,16 +1,11 @@
-use Rattle.std.proofs.Common.{ℕ, ◌≡◌, ◌+◌, ◌*◌, ◌-◌, ◌/◌, ◌%◌, ◌^◌, ◌<◌, ◌≤◌, Bool, true, false, List, [], ◌∷◌, ◌++◌, length, take, drop, get_or, set}
-use mathlib.Core.Path.{refl, sym, ◌∙◌}
-use native.Mathlib.Omega.{arith}
+use Rattle.std.proofs.Common.{◌≡◌, ◌+◌, ◌*◌, ◌-◌, ◌≤◌, length}
 use Rattle.bitmap.specs.Bitmap.{marks_in}
 use Rattle.paging.specs.Kept.{lent_memory}
 use Rattle.paging.specs.Map.{RoomToTake}
 use Rattle.paging.specs.Pages.{free_pages}
 use Rattle.paging.specs.Found.{Tells}
-use Rattle.paging.proofs.Found.{tells_same, tells_on, tells_few}
 use Rattle.freeing_runs.specs.Freeing.{Blank}
 use Rattle.freeing.specs.Blocks.{Barren}
-use Rattle.freeing_runs.proofs.Steps.{free_end, span_start, span_on, span_some, span_ends, span_within, span_fits, span_less, span_roomy}
-use Rattle.freeing.proofs.Barrens.{barren_start}
 use Rattle.freeing.proofs.blocks.free_blocks.Given as goal
 
 abbrev pub invariant-loop-done : goal.invariant-loop-done
