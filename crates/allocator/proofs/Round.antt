@@ -3,7 +3,7 @@
 use Prim.Native.Nat.{ℕ, suc, ◌+◌, ◌-◌, ◌*◌, ◌/◌, ◌%◌, ◌^◌, ◌≤◌, ◌<◌}
 use mathlib.Core.Path.{◌≡◌, refl, sym, ◌∙◌, ap, subst}
 use mathlib.Core.Bool.{Bool, true, false}
-use native.Mathlib.Nat.{le_of_suc-le-suc, suc-mul, mul-le-mul_right, mul-mod_left, lt-div-mul-add, div-lt_iff_lt-mul}
+use native.Mathlib.Nat.{le_of_suc-le-suc, suc-mul, mul-le-mul_right, mul-mod_left, div-add-mod', div-mul-le_self, lt-div-mul-add, div-lt_iff_lt-mul}
 use native.Mathlib.Omega.{arith}
 use lib.Dec.{leb, lit≤}
 use lib.Bits.{bit_and, and_high}
@@ -67,6 +67,10 @@ round_le k x = omega (arith, pow_pos k, lt-div-mul-add {a = x + (2 ^ k - 1)} (po
 pub round_pos : (k x : ℕ) → 0 < x → 0 < round_up k x
 round_pos k x h = omega (arith, round_le k x)
 
+-- and less than one multiple above x
+pub round_lt : (k x : ℕ) → round_up k x < x + 2 ^ k
+round_lt k x = omega (arith, pow_pos k, div-mul-le_self (x + (2 ^ k - 1)) (2 ^ k))
+
 -- the least multiple: it passes no multiple that x does not pass
 pub round_least : (k m x : ℕ) → x ≤ m * 2 ^ k → round_up k x ≤ m * 2 ^ k
 round_least k m x h =
@@ -79,3 +83,9 @@ round_last k x l h =
     let e : (64 - k) + k ≡ 64 = omega arith in
     let last : 2 ^ 64 - 2 ^ k ≡ (2 ^ (64 - k) - 1) * 2 ^ k = ap (λ (n : ℕ). 2 ^ n - 2 ^ k) (sym e) ∙ high_ones (64 - k) k in
     subst (λ (n : ℕ). x ≤ n → round_up k x ≤ n) (sym last) (round_least k (2 ^ (64 - k) - 1) x) h
+
+-- a multiple rounds to itself
+pub round_same : (k x : ℕ) → x % 2 ^ k ≡ 0 → round_up k x ≡ x
+round_same k x h =
+    let e : x / 2 ^ k * 2 ^ k + x % 2 ^ k ≡ x = div-add-mod' x (2 ^ k) in
+    omega (arith, round_le k x, round_least k (x / 2 ^ k) x (omega arith))

@@ -10,6 +10,14 @@ pub pick_cases : {A : Type 0} (P : A → Type 0) (t : Bool) (a b : A) → (t ≡
 pick_cases P true a b x y = x refl
 pick_cases P false a b x y = y refl
 
+-- two choices between doing and leaving, of things that may be done in either order
+pub pick_comm : {A : Type 0} (a b : Bool) (f g : A → A) (x : A) → g (f x) ≡ f (g x)
+    → pick b (g (pick a (f x) x)) (pick a (f x) x) ≡ pick a (f (pick b (g x) x)) (pick b (g x) x)
+pick_comm true true f g x h = h
+pick_comm true false f g x h = refl
+pick_comm false true f g x h = refl
+pick_comm false false f g x h = refl
+
 pub both_true : (a b : Bool) → both a b ≡ true → (a ≡ true) × (b ≡ true)
 both_true true b h = (refl, h)
 both_true false b h = absurd (false≢true h)
@@ -17,6 +25,11 @@ both_true false b h = absurd (false≢true h)
 pub both_false : (b : Bool) → both b false ≡ false
 both_false true = refl
 both_false false = refl
+
+-- the second test of two matters where the first holds
+pub both_same : (t a b : Bool) → (t ≡ true → a ≡ b) → both t a ≡ both t b
+both_same true a b h = h refl
+both_same false a b h = refl
 
 -- a truth value as a bit
 pub one_lt : (t : Bool) → one t < 2

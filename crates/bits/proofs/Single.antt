@@ -6,7 +6,7 @@ use mathlib.Core.Bool.{not}
 use native.Mathlib.Omega.{arith}
 use native.Mathlib.Decide.{dec_lt, dec_le}
 use native.Mathlib.Numerals.{one-add}
-use native.Mathlib.Nat.{one-mul, zero-mul, pow-suc, div-eq_of_lt, add-div_right}
+use native.Mathlib.Nat.{one-mul, zero-mul, pow-suc, sub-zero, div-eq_of_lt, add-div_right}
 use lib.Dec.{eqb}
 use lib.Arith.{lt_of_le-ne}
 use lib.Bits.{bit_and, bit_or, and_mask, or_disjoint, or_shr, or_mod, or_zero_r, or_lt, and_step, and_zero_l}
@@ -53,7 +53,10 @@ bit_mod n k w h =
     let e : n ≡ (c + 1) + k = omega arith in
     ap (λ (m : ℕ). bit k (w % 2 ^ m)) e ∙ ap (λ (m : ℕ). m % 2) (field w (c + 1) k) ∙ mod-mod-pow (w / 2 ^ k) c 1
 
--- ---- the bits of a power of two, and of a complement
+-- ---- the bits of a power of two and of a word of ones
+
+pub bit_own : (k : ℕ) → bit k (2 ^ k) ≡ 1
+bit_own k = let e : 2 ^ k / 2 ^ k ≡ 1 = subst (λ (n : ℕ). n / 2 ^ k ≡ 1) (one-mul (2 ^ k)) (shl-shr 1 k) in rw e
 
 pub bit_pow_other : (a b : ℕ) → (a ≡ b → ⊥) → bit a (2 ^ b) ≡ 0
 bit_pow_other a b d = go (dec_lt a b)
@@ -75,6 +78,19 @@ bit_not (suc n) (suc k) w h l =
     let p : 2 ^ suc n ≡ 2 ^ n * 2 = pow-suc 2 n in
     let q : ((2 ^ suc n - 1) - w) / 2 ≡ (2 ^ n - 1) - w / 2 = omega arith in
     rw (bit_half k ((2 ^ suc n - 1) - w), bit_half k w, q) (bit_not n k (w / 2) (omega arith) (omega arith))
+
+pub bit_ones : (n k : ℕ) → k < n → bit k (2 ^ n - 1) ≡ 1
+bit_ones n k h = ap (bit k) (sym (sub-zero (2 ^ n - 1))) ∙ bit_not n k 0 h (pow_pos n) ∙ omega (arith, bit_zero k)
+
+-- a word of n bits is decided by them
+pub ext_bit : (n x y : ℕ) → x < 2 ^ n → y < 2 ^ n → ((k : ℕ) → k < n → bit k x ≡ bit k y) → x ≡ y
+ext_bit zero x y hx hy h = omega arith
+ext_bit (suc n) x y hx hy h =
+    let p : 2 ^ suc n ≡ 2 ^ n * 2 = pow-suc 2 n in
+    let low : bit 0 x ≡ bit 0 y = h zero (omega arith) in
+    let high : x / 2 ≡ y / 2 =
+    ext_bit n (x / 2) (y / 2) (omega arith) (omega arith) (λ k l. sym (bit_half k x) ∙ h (suc k) (omega arith) ∙ bit_half k y) in
+    omega arith
 
 -- ---- a clear bit set: w + 2 ^ k
 

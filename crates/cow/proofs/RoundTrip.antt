@@ -28,8 +28,8 @@ same_long xs ys a b = fit_long xs a ∙ sym (fit_long ys b)
 pub marked_back : (bs : List ℕ) → marked_fit bs ≡ true → Bytes bs → marked_out (marked_in bs) ≡ bs
 marked_back bs fit b = next_word 256 bs ∙ pack_unpack 257 bs (fit_long bs fit) b
 
-pub marked_kept_lem : (s : Slots ℕ) → s.count < 2 ^ 64 → length s.slots ≡ 256 → Words s.slots → marked_in (marked_out s) ≡ s
-marked_kept_lem s h n fits = λ j. record {
+pub marked_kept : (s : Slots ℕ) → s.count < 2 ^ 64 → length s.slots ≡ 256 → Words s.slots → marked_in (marked_out s) ≡ s
+marked_kept s h n fits = λ j. record {
   slots = (ap (unpack 256) (drop_at (bytes 8 s.count) (pack s.slots) 8 (length_bytes 8 s.count)) ∙ ap (λ (k : ℕ). unpack k (pack s.slots)) (sym n)
       ∙ unpack_pack s.slots fits) j;
   count = number_kept s.count (pack s.slots) h j;
@@ -74,14 +74,14 @@ module _ (bs : List ℕ) (fit : marked_fit bs ≡ true) (b : Bytes bs) where
       let long : length new.slots ≡ 256 = length-set old.slots i x ∙ slots_long bs in
       let e = z ∙ ap (λ (l : List ℕ). sets l (i * 8 + 8) (bytes 8 x)) (sym (marked_back bs fit b))
       ∙ word_set (bytes 8 old.count) old.slots 8 i x (length_bytes 8 old.count) (omega (arith, slots_long bs)) in
-      (ap marked_in e ∙ marked_kept_lem new (number_small bs b) long (set_fits old.slots i x f (slot_fits bs b)), ap marked_fit e ∙ marked_fit_out new long)
+      (ap marked_in e ∙ marked_kept new (number_small bs b) long (set_fits old.slots i x f (slot_fits bs b)), ap marked_fit e ∙ marked_fit_out new long)
 
   pub count_in : (n : ℕ) → n < 2 ^ 64 → {zs : List ℕ} → zs ≡ sets bs 0 (bytes 8 n) → (marked_in zs ≡ slotted old.slots n) × (marked_fit zs ≡ true)
   count_in n h z =
       let new = slotted old.slots n in
       let e = z ∙ ap (λ (l : List ℕ). sets l 0 (bytes 8 n)) (sym (marked_back bs fit b))
       ∙ sets_head (bytes 8 old.count) (pack old.slots) (bytes 8 n) (length_bytes 8 n ∙ sym (length_bytes 8 old.count)) in
-      (ap marked_in e ∙ marked_kept_lem new h (slots_long bs) (slot_fits bs b), ap marked_fit e ∙ marked_fit_out new (slots_long bs))
+      (ap marked_in e ∙ marked_kept new h (slots_long bs) (slot_fits bs b), ap marked_fit e ∙ marked_fit_out new (slots_long bs))
 
 -- ---- no page marked
 
@@ -97,4 +97,4 @@ pub started : {bs : List ℕ} → bs ≡ pack (replicate 257 0) → (bs ≡ mark
 started e =
     let long : length no_pages.slots ≡ 256 = length-replicate {A = ℕ} 256 0 in
     let o = e ∙ zeros_out in
-    (o, (ap marked_in o ∙ marked_kept_lem no_pages (omega arith) long (zeros_fit 256), ap marked_fit o ∙ marked_fit_out no_pages long))
+    (o, (ap marked_in o ∙ marked_kept no_pages (omega arith) long (zeros_fit 256), ap marked_fit o ∙ marked_fit_out no_pages long))

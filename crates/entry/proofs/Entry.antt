@@ -8,11 +8,11 @@ use native.Mathlib.Omega.{arith}
 use lib.Dec.{eqb, lit<}
 use lib.ListN.{length, get_or, take}
 use lib.Bits.{bit_and, bit_or, and_high, or_block, or_zero_l, or_shifted_r}
-use lib.Pow.{pow_pos}
+use lib.Pow.{pow_pos, mod-pow-add, shr-shr}
 use Rattle.bits.specs.Bit.{one, flag}
 use Rattle.bits.proofs.Choice.{one_lt, flag_is}
 use Rattle.bits.proofs.Single.{bit_zero}
-use Rattle.entry.specs.Entry.{frame_of, addr_of, entry_of, index, indices}
+use Rattle.entry.specs.Entry.{frame_of, addr_of, entry_of, huge_entry_of, index, indices}
 use Rattle.entry.specs.Joined.{addr_mask, joined_word}
 
 pub addr_mask_lem : (x : ℕ) → bit_and x addr_mask ≡ addr_of x
@@ -69,6 +69,9 @@ maps a w u h =
 pub maps_entry : (a : ℕ) (w u : Bool) → Maps (entry_of a w u) a w u false
 maps_entry a w u = maps a w u false
 
+pub maps_huge : (a : ℕ) (w u : Bool) → Maps (huge_entry_of a w u) a w u true
+maps_huge a w u = maps a w u true
+
 -- the frame that an entry for frame f names is f
 pub frame_entry : (f : ℕ) (w u : Bool) → f < 2 ^ 40 → frame_of (entry_of (f * 2 ^ 12) w u) ≡ f
 frame_entry f w u h = (maps_entry (f * 2 ^ 12) w u).frame ∙ frame_of_place f h
@@ -82,6 +85,19 @@ indices_lt (suc n) v (suc k) = indices_lt n v k
 pub length_indices : (n v : ℕ) → length (indices n v) ≡ n
 length_indices zero v = refl
 length_indices (suc n) v = ap suc (length_indices n v)
+
+-- the low bits of a page number, put together from the indices
+page_of_lem : (n v : ℕ) → v / 2 ^ 12 % 2 ^ (9 + 9 * n) ≡ index n v * 2 ^ (9 * n) + v / 2 ^ 12 % 2 ^ (9 * n)
+page_of_lem n v = mod-pow-add (v / 2 ^ 12) 9 (9 * n) ∙ rw (shr-shr v 12 (9 * n))
+
+-- the indices say which page it is
+pub indices_inj : (n v v' : ℕ) → indices n v ≡ indices n v' → v / 2 ^ 12 % 2 ^ (9 * n) ≡ v' / 2 ^ 12 % 2 ^ (9 * n)
+indices_inj zero v v' h = omega arith
+indices_inj (suc n) v v' h =
+    let top : index n v ≡ index n v' = cc in
+    let rest : v / 2 ^ 12 % 2 ^ (9 * n) ≡ v' / 2 ^ 12 % 2 ^ (9 * n) = indices_inj n v v' (cc) in
+    let width : 9 * suc n ≡ 9 + 9 * n = omega arith in
+    rw width (page_of_lem n v ∙ rw (top, rest) (sym (page_of_lem n v')))
 
 -- the one behind k others, on a board of up + 1 levels
 pub index_behind : (up k v : ℕ) → k ≤ up → get_or (indices (suc up) v) k 0 ≡ index (up - k) v

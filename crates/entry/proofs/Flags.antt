@@ -2,6 +2,7 @@
 use Prim.Native.Nat.{ℕ, suc, ◌+◌, ◌*◌, ◌%◌, ◌^◌, ◌≤◌, ◌<◌}
 use mathlib.Core.Path.{◌≡◌, sym, ◌∙◌, ap}
 use mathlib.Core.Logic.{◌⊎◌, ⊎_elim}
+use mathlib.Core.Bool.{Bool, true, false}
 use native.Mathlib.Nat.{add_comm, lt_of_lt_of_le, mul_comm}
 use native.Mathlib.Decide.{dec_lt}
 use native.Mathlib.Numerals.{one-add}
@@ -9,6 +10,7 @@ use native.Mathlib.Omega.{arith}
 use lib.Pow.{mod-pow-add, pow_mono}
 use Rattle.bits.specs.Bit.{one, bit, flag}
 use Rattle.bits.proofs.Single.{bit_cases, bit_mod, bit_above}
+use Rattle.entry.specs.Entry.{entry_of}
 use Rattle.entry.specs.Flags.{bits_of, flags_of, flag_entry_of}
 use Rattle.entry.specs.declared.page_handler.PageFlags.{PageFlags}
 use Rattle.bits.proofs.Choice.{one_lt, flag_is}
@@ -97,3 +99,23 @@ from_to_dropped k w h d = by_place (dec_lt k 63)
     by_place (no l) =
         let above : 64 ≤ k = omega (arith, d) in
         bit_above k (bits_of (flags_of w)) (lt_of_lt_of_le (omega (arith, kept_word w)) (pow_mono above))
+
+-- the flags of a page that is mapped with two choices
+abbrev pub map_flags : Bool → Bool → PageFlags
+map_flags w u = record {
+  present = true;
+  writable = w;
+  user = u;
+  write_through = false;
+  cache_disabled = false;
+  accessed = false;
+  dirty = false;
+  huge = false;
+  global = false;
+  no_execute = false;
+}
+
+-- by which the second fault path's entries are the mapper's
+pub flag_entry : (a : ℕ) (w u : Bool) → flag_entry_of a (map_flags w u) ≡ entry_of a w u
+unfolding bits_of
+flag_entry a w u = omega arith

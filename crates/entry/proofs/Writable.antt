@@ -21,6 +21,9 @@ pub record Alike (e e' : ℕ) : Type 0 where
 pub alike_same : (e : ℕ) → Alike e e
 alike_same e = record { low = refl; high = refl }
 
+pub alike_then : {e e' e'' : ℕ} → Alike e e' → Alike e' e'' → Alike e e''
+alike_then a b = record { low = b.low ∙ a.low; high = b.high ∙ a.high }
+
 module _ {e e' : ℕ} (a : Alike e e') where
   pub alike_present : flag 0 e' ≡ flag 0 e
   alike_present = let same : bit 0 e' ≡ bit 0 e = omega (arith, a.low) in ap (λ (n : ℕ). eqb n 1) same

@@ -1,8 +1,8 @@
 -- What the frame allocator's definitions come to, by the tests that code makes.
-use Rattle.std.proofs.Common.{◌≡◌, ℕ, ◌+◌, ◌-◌, ◌/◌, ◌%◌, ◌^◌, ◌<◌, ◌≤◌, min, Bool, true, false, eqb, ltb, leb, List, replicate, sym, refl, ap, ◌∙◌, arith, ltb-false, ltb-true, le-ltb, lt-ltb, eqb-true, le-leb, leb-true}
+use Rattle.std.proofs.Common.{◌≡◌, ℕ, ◌+◌, ◌-◌, ◌/◌, ◌%◌, ◌^◌, ◌<◌, ◌≤◌, min, Bool, true, false, not, eqb, ltb, leb, List, replicate, sym, refl, ap, ◌∙◌, arith, ltb-false, ltb-true, le-ltb, lt-ltb, eq-eqb, eqb-true, le-leb, leb-true}
 use mathlib.Core.Bool.{false≢true}
 use native.Mathlib.Decide.{dec_le}
-use borrow.Author.Tests.{lt-leb}
+use borrow.Author.Tests.{lt-leb, not-true, not-false}
 use Rattle.bits.specs.Bit.{both}
 use Rattle.bits.proofs.Choice.{pick_cases, both_true}
 use Rattle.answer.specs.Numbers.{broken_record, no_free_frame}
@@ -13,7 +13,7 @@ use Rattle.answer.specs.declared.FlagAnswer.TheVariants.{Flag, NoFlag}
 use Rattle.address.specs.declared.FrameAnswer.{FrameAnswer}
 use Rattle.address.specs.declared.FrameAnswer.TheVariants.{AtFrame, NoFrame}
 use Rattle.bitmap.specs.Bitmap.{marked, is_marked, free_from, count}
-use Rattle.bitmap.proofs.Marks.{is_free, marked_true, marked_false, count_le}
+use Rattle.bitmap.proofs.Marks.{is_marked_lem, is_free, marked_true, marked_false, count_le}
 use Rattle.bitmap.proofs.Search.{free_is_free, free_below_marked}
 use Rattle.frame.specs.declared.Found.{Found}
 use Rattle.frame.specs.declared.Found.TheVariants.{Freed, AlreadyFree, NotHere}
@@ -70,6 +70,9 @@ module _ (n : ℕ) where
   pub levels_by_most : 4 ≤ n → leb n 5 ≡ is_levels n
   levels_by_most h = simp le-leb
 
+  pub levels_yes : 4 ≤ n → n ≤ 5 → is_levels n ≡ true
+  levels_yes h k = simp (le-leb _ _ h, le-leb _ _ k)
+
   pub levels_least : is_levels n ≡ true → 4 ≤ n
   levels_least h = leb-true _ _ (both_true (leb 4 n) (leb n 5) h).0
 
@@ -94,6 +97,10 @@ module _ (fr : Frames) where
       → sound fr ≡ eqb fr.fa.allocated (count fr.bits fr.fa.total)
   unfolding sound
   sound_counted h k l = rw (le-leb _ _ h, le-leb _ _ k, l)
+
+  pub sound_yes : fr.fa.total ≤ 8192 → fr.fa.start + fr.fa.total ≤ 2 ^ 40 → is_levels fr.fa.levels ≡ true
+      → fr.fa.allocated ≡ count fr.bits fr.fa.total → sound fr ≡ true
+  sound_yes h k l e = sound_counted h k l ∙ eq-eqb _ _ e
 
   -- what a sound record says
   pub sound_few : sound fr ≡ true → fr.fa.total ≤ 8192
@@ -190,6 +197,11 @@ module _ (fr : Frames) (n : ℕ) where
   unfolding frame_marked
   reads_inside h = rw h
 
+  pub reads_marked : (inside fr.fa.start fr.fa.total n ≡ true → marked fr.bits (n - fr.fa.start) ≡ 1) → frame_marked fr n ≡ true
+  unfolding frame_marked
+  reads_marked there =
+      pick_cases (λ (r : Bool). r ≡ true) (inside fr.fa.start fr.fa.total n) _ _ (λ h. is_marked_lem _ _ (there h)) (λ _. refl)
+
   pub reads_free : inside fr.fa.start fr.fa.total n ≡ true → marked fr.bits (n - fr.fa.start) ≡ 0 → frame_marked fr n ≡ false
   reads_free h free = reads_inside h ∙ is_free _ _ free
 
@@ -202,6 +214,9 @@ module _ (fr : Frames) (n : ℕ) where
 
   pub free_bit : frame_marked fr n ≡ false → marked fr.bits (n - fr.fa.start) ≡ 0
   free_bit h = marked_false _ _ (sym (reads_inside (free_inside h)) ∙ h)
+
+  pub there_bit : inside fr.fa.start fr.fa.total n ≡ true → frame_marked fr n ≡ true → marked fr.bits (n - fr.fa.start) ≡ 1
+  there_bit h there = marked_true _ _ (sym (reads_inside h) ∙ there)
 
   pub mark_there : frame_marked fr n ≡ true → mark_frame fr n ≡ fr
   unfolding mark_frame
@@ -228,6 +243,9 @@ module _ (fr : Frames) (n : ℕ) where
       → give_frame fr n ≡ frames_did Freed (without_mark fr (n - fr.fa.start))
   unfolding give_frame
   give_marked h k = rw (h, k)
+
+  pub give_there : inside fr.fa.start fr.fa.total n ≡ true → frame_marked fr n ≡ true → give_frame fr n ≡ frames_did Freed (without_mark fr (n - fr.fa.start))
+  give_there h there = give_marked h (sym (reads_inside h) ∙ there)
 
   -- the three outcomes of giving a frame back
   pub give_cases : (P : FramesDid Found → Type 0) → (inside fr.fa.start fr.fa.total n ≡ false → P (frames_did NotHere fr))

@@ -1,5 +1,5 @@
 -- What fresh frames, runs of pages and pages unmapped come to, step by step.
-use Prim.Native.Nat.{ℕ, zero, suc, ◌+◌, ◌*◌, ◌^◌, ◌<◌, ◌≤◌}
+use Prim.Native.Nat.{ℕ, zero, suc, ◌+◌, ◌-◌, ◌*◌, ◌^◌, ◌<◌, ◌≤◌}
 use mathlib.Core.Path.{◌≡◌, refl, sym, ◌∙◌, ap, subst}
 use mathlib.Core.Bool.{Bool}
 use mathlib.Core.List.{List}
@@ -174,6 +174,10 @@ module _ (up : ℕ) (m : Memory) (root v : ℕ) where
   pub free_pages_none : free_pages up m root v 0 ≡ m
   unfolding free_pages
   free_pages_none = refl
+
+  pub free_pages_more : (n : ℕ) → free_pages up m root v (suc n) ≡ free_pages up (free_page up m root v) root (v + 4096) n
+  unfolding free_pages
+  free_pages_more n = refl
 
 pub free_pages_roomy : (up root n : ℕ) (m : Memory) (v k : ℕ) → RoomToTake m k → RoomToTake (free_pages up m root v n) k
 unfolding free_pages

@@ -3,7 +3,7 @@ use mathlib.Core.Path.{◌≡◌, refl, sym, ◌∙◌, ap, subst}
 use mathlib.Core.Logic.{⊎_elim}
 use mathlib.Core.List.Memᴰ
 use mathlib.Core.List.Permᴰ
-use mathlib.Core.List.{List, [], ◌∷◌, ◌++◌, append_assoc, Memᴰ, Permᴰ}
+use mathlib.Core.List.{List, [], ◌∷◌, ◌++◌, map, append_assoc, Memᴰ, Permᴰ}
 use Rattle.tree.proofs.Books.{perm_member}
 use Rattle.release.specs.Demand3.{concat, Region, Reordered, none, keep, swap, then}
 
@@ -20,6 +20,12 @@ perm_once (Permᴰ.swap e e') o = (
   ((λ m. o.0 (Memᴰ.tail (Memᴰ.cast e m))), o.1.1),
 )
 perm_once (Permᴰ.trans d d') o = perm_once d' (perm_once d o)
+
+pub perm_map : {A B : Type 0} (f : A → B) {l k : List A} → Permᴰ l k → Permᴰ (map f l) (map f k)
+perm_map f Permᴰ.nil = Permᴰ.nil
+perm_map f (Permᴰ.cons e d) = Permᴰ.cons (ap f e) (perm_map f d)
+perm_map f (Permᴰ.swap e e') = Permᴰ.swap (ap f e) (ap f e')
+perm_map f (Permᴰ.trans d d') = Permᴰ.trans (perm_map f d) (perm_map f d')
 
 -- two lists in front of a third change places
 pub exchange : {A : Type 0} (a b c : List A) → Permᴰ (a ++ (b ++ c)) (b ++ (a ++ c))

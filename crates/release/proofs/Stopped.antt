@@ -9,7 +9,7 @@ use mathlib.Core.List.Perm
 use mathlib.Core.List.Permᴰ
 use mathlib.Core.List.{List, [], ◌∷◌, ◌++◌, append_assoc, Memᴰ, rel_of_Pairwise-cons, Permᴰ}
 use native.Mathlib.Omega.{arith}
-use lib.ListN.{length, drop}
+use lib.ListN.{length, drop, length-append}
 use lib.Seq.{drop-length, drop-append_seam}
 use Rattle.answer.specs.Numbers.{no_free_frame, map_page_failed}
 use Rattle.address.specs.declared.FrameAnswer.{FrameAnswer}
@@ -213,6 +213,15 @@ module _ {up : ℕ} {m : Memory} {root : ℕ} {pages lost : List ℕ} (h : Paged
 module _ {up : ℕ} {m m' : Memory} {root v i e : ℕ} {taken : List ℕ} (s : Stopped up m root v i e taken m') where
   long : length s.frames ≡ i
   long = homes_length s.homes ∙ run_length v i
+
+  -- the run took a frame for each page that was had, and with 13 one more
+  pub taken_full : e ≡ no_free_frame → length taken ≡ i
+  taken_full n = ⊎_elim (λ q. ap length q.2 ∙ long) (λ q. let z : no_free_frame ≡ map_page_failed = sym n ∙ q.0 in absurd (omega arith)) s.ends
+
+  pub taken_failed : e ≡ map_page_failed → length taken ≡ i + 1
+  taken_failed n =
+      ⊎_elim (λ q. let z : map_page_failed ≡ no_free_frame = sym n ∙ q.0 in absurd (omega arith))
+      (λ q. ap length q.1.3 ∙ length-append s.frames (q.1.1 ∷ []) ∙ omega (arith, long)) s.ends
 
   -- behind the frames of the pages that were had the run took none, or one
   no_more : taken ≡ s.frames → drop i taken ≡ []

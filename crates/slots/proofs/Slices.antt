@@ -2,10 +2,10 @@
 use Prim.Native.Nat.{ℕ, suc, ◌+◌, ◌-◌, ◌<◌, ◌≤◌}
 use mathlib.Core.Path.{◌≡◌, sym, ◌∙◌, ap, subst}
 use mathlib.Core.Bool.{Bool, true, false}
-use mathlib.Core.List.{List, [], ◌∷◌, ◌++◌, append_assoc}
+use mathlib.Core.List.{List, [], ◌∷◌, ◌++◌, map, append_assoc}
 use native.Mathlib.Omega.{arith}
 use native.Mathlib.Numerals.{add-one}
-use lib.ListN.{length, get_or, set, take, drop, length-take, length-append, take-append-drop, drop_of_length-le, get_or-append}
+use lib.ListN.{length, get_or, set, take, drop, length-map, length-take, length-append, take-append-drop, drop_of_length-le, get_or-append}
 use lib.Seq.{slice, slice-cons, slice_empty, length-slice, length-take-le, take-suc, drop-cons, append_snoc, set_at, get_or-take, get_or-drop, get_or-append-add, drop-append-le}
 use Rattle.slots.specs.Slots.{every, first_at}
 use Rattle.slots.specs.Shifts.{shifted_up, shifted_down}
@@ -53,6 +53,10 @@ module _ {A : Type 0} (d : A) (l : List A) (n : ℕ) (enough : n ≤ length l) w
     pub seeking_end : Seeking test l n i → n ≤ i → n ≡ first_at test (take n l)
     unfolding first_at
     seeking_end p h = let f : first_at test (slice i n l) ≡ 0 = rw (none i h) in omega (arith, p.0, p.1)
+
+-- ---- what owning an array of records tells of its list: it stands there as a list of the records' fields
+pub length_fields : {X Y : Type 0} (f : X → Y) (l : List X) (n : ℕ) → length (map f l) ≡ n → length l ≡ n
+length_fields f l n e = sym (length-map l f) ∙ e
 
 -- ---- shifts by one
 

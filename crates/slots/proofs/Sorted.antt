@@ -65,14 +65,19 @@ module _ {A : Type 0} (key : A → ℕ) where
   module _ (v : ℕ) where
     -- ---- the search for a key's place
 
-    module _ {p : List A} {a : A} {q : List A} (c : p ≡ a ∷ q) where
-      pub place_stop : v ≤ key a → place_of key v p ≡ 0
+    module _ {p : List A} where
+      pub place_end : p ≡ [] → place_of key v p ≡ 0
       unfolding place_of
-      place_stop h = rw (c, le-ltb (key a) v h)
+      place_end c = rw c
 
-      pub place_on : key a < v → place_of key v p ≡ suc (place_of key v q)
-      unfolding place_of
-      place_on h = rw (c, lt-ltb (key a) v h)
+      module _ {a : A} {q : List A} (c : p ≡ a ∷ q) where
+        pub place_stop : v ≤ key a → place_of key v p ≡ 0
+        unfolding place_of
+        place_stop h = rw (c, le-ltb (key a) v h)
+
+        pub place_on : key a < v → place_of key v p ≡ suc (place_of key v q)
+        unfolding place_of
+        place_on h = rw (c, lt-ltb (key a) v h)
 
     pub place_le : (l : List A) → place_of key v l ≤ length l
     unfolding place_of

@@ -5,8 +5,8 @@ use mathlib.Core.List.{List}
 use native.Mathlib.Omega.{arith}
 use lib.ListN.{length, get_or, set, take}
 use Rattle.slots.specs.Slots.{Slots, slotted, listed, store}
-use Rattle.slots.specs.Shifts.{put_in, taken_out, shifted_up}
-use Rattle.slots.proofs.Slices.{up_start, up_on, down_to, down_start, down_on}
+use Rattle.slots.specs.Shifts.{put_in, taken_out, shifted_up, shifted_down}
+use Rattle.slots.proofs.Slices.{up_start, up_on, down_to, down_start, down_on, down_end}
 use Rattle.slots.proofs.Stored.{stored_in, stored_out}
 
 -- a slot stored, where the slots before it are known
@@ -31,6 +31,11 @@ module _ {A : Type 0} (d : A) (s₀ : Slots A) where
       → a ≡ get_or s.slots (j - 1) d → t ≡ slotted (set s.slots j a) s.count → t ≡ slotted (shifted_up l (j - 1) end) n
   up_turn j end g b c s t a e f z = stored s t j a e z (ap (set s.slots j) f ∙ up_on d l j end g b c (ap (λ (x : Slots A). x.slots) e))
 
+  -- .. and one is stored in the slot that is free then
+  pub up_last : (j at end : ℕ) → j ≡ at → (s t : Slots A) (a : A) → s ≡ slotted (shifted_up l j end) n
+      → t ≡ slotted (set s.slots at a) s.count → t ≡ slotted (set (shifted_up l at end) at a) n
+  up_last j at end h s t a e z = stored s t at a e z (ap (λ (x : Slots A). set x.slots at a) e ∙ ap (λ (i : ℕ). set (shifted_up l i end) at a) h)
+
   -- ---- down, from the front: slots up to j are moved
 
   pub down_first : (at : ℕ) → s₀ ≡ slotted (down_to d l at at) n
@@ -40,6 +45,11 @@ module _ {A : Type 0} (d : A) (s₀ : Slots A) where
       → a ≡ get_or s.slots (j + 1) d → t ≡ slotted (set s.slots j a) s.count → t ≡ slotted (down_to d l at (j + 1)) n
   down_turn at j g b s t a e f z =
       stored s t j a e z (ap (set s.slots j) f ∙ down_on d l at j g (omega arith) b (ap (λ (x : Slots A). x.slots) e))
+
+  -- .. and the last one is blank
+  pub down_last : (at j end : ℕ) → at ≤ j → end ≡ j + 1 → end ≤ length l → (s t : Slots A) → s ≡ slotted (down_to d l at j) n
+      → t ≡ slotted (set s.slots (end - 1) d) s.count → t ≡ slotted (shifted_down d l at end) n
+  down_last at j end g h b s t e z = stored s t (end - 1) d e z (down_end d l at j g (omega arith) d end h (ap (λ (x : Slots A). x.slots) e))
 
   -- ---- the count stored last: one is put in, or taken out
 

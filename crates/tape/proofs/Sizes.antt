@@ -26,6 +26,9 @@ size_of_call (Munmap c) = omega arith
 size_of_call (Fault c) = omega arith
 size_of_call (Translate a) = omega arith
 
+pub size_least_call : (c : Call) → 1 ≤ call_size c
+size_least_call c = omega arith
+
 -- the call of a body has the body's kind
 same_body : (k : ℕ) (b : List ℕ) (c : Call) → 0 < body_size k → body k b ≡ Read c → body_size (kind_of c) ≡ body_size k
 same_body k b c = by (eqb k 1) (eqb k 2) (eqb k 3) (eqb k 4) (eqb k 5) (eqb k 6) (ltb (get_or b 0 0) 2)

@@ -34,6 +34,10 @@ pub data Takes (root up : ℕ) : Memory → List ℕ → Memory → Type 0 where
 
 -- what that keeps: order, no HUGE, and the account of the frames
 module _ {root up : ℕ} where
+  pub takes_ordered : {m m' : Memory} {l : List ℕ} → Takes root up m l m' → Ordered m root (suc up) → Ordered m' root (suc up)
+  takes_ordered none o = o
+  takes_ordered (more t r) o = takes_ordered r t.grew.order
+
   pub takes_plain : {m m' : Memory} {l : List ℕ} → Takes root up m l m' → PlainIn m root (suc up) → PlainIn m' root (suc up)
   takes_plain none o = o
   takes_plain (more t r) o = takes_plain r (t.grew.plain o)

@@ -26,7 +26,7 @@ use Rattle.tree.proofs.Walks.{place_table, place_index, reach_lead}
 use Rattle.tree.proofs.Tree.{stored}
 use Rattle.tree.proofs.Ordered.{reach_in, mark_in, PlainIn, Ordered}
 use Rattle.tree.proofs.Release.{unmap_met, unmap_none, Cut, cleared, freed, cleared_cut, freed_cut, freed_free}
-use Rattle.tree.proofs.Orders.{one_end}
+use Rattle.tree.proofs.Orders.{one_end, good_end}
 use Rattle.tree.proofs.Accounts.{Accounted, freed_accounted, cleared_accounted}
 use Rattle.tree.proofs.Books.{Live, Tabled, cut_live, cut_tabled}
 
@@ -42,6 +42,10 @@ module _ (up : ℕ) (m : Memory) (root v a : ℕ) (h : reach_in m root (path up 
   pub free_none : free_page up m root v ≡ m
   unfolding free_page
   free_none = ap (λ (l : Left). memory l.words (freed_of l.walked m.frames)) no_leaf.1
+
+  pub clear_none : clear_page up m root v ≡ m
+  unfolding clear_page
+  clear_none = ap (λ (l : Left). memory l.words m.frames) no_leaf.1
 
 -- ---- a page that is reached
 
@@ -220,3 +224,8 @@ module _ {m : Memory} {root up : ℕ} (o : Ordered m root (suc up)) where
   pub pages_end : {l k : List ℕ} → Permᴰ l k → free_all up root m l ≡ free_all up root m k
   pages_end r =
       one_end (λ (x : Memory) (v : ℕ). free_page up x root v) (λ (x : Memory). Ordered x root (suc up)) (λ x v g. free_ordered g v) (λ x v v' g. free_comm g v v') r m o
+
+  -- and it is in order
+  pub pages_ordered : (l : List ℕ) → Ordered (free_all up root m l) root (suc up)
+  pages_ordered l =
+      good_end (λ (x : Memory) (v : ℕ). free_page up x root v) (λ (x : Memory). Ordered x root (suc up)) (λ x v g. free_ordered g v) (λ x v v' g. free_comm g v v') l m o

@@ -17,7 +17,7 @@ use Rattle.paging.specs.Walk.{place}
 use Rattle.paging.specs.Map.{Memory, memory, start_frame, total_of, Out, out, enter, make}
 use Rattle.paging.proofs.Map.{go_on_cases, linked, enter_cases}
 use Rattle.tree.proofs.Paths.{Leads, leads_trans, leads_append, Small}
-use Rattle.tree.proofs.Walks.{nowhere, entry_there, reach_step}
+use Rattle.tree.proofs.Walks.{nowhere, entry_there, reach_step, reach_lead}
 use Rattle.tree.proofs.Words.{zero_other}
 use Rattle.tree.proofs.Ordered.{reach_in, leaf_in, Ordered, free_unreached, in_entry}
 use Rattle.tree.proofs.Growth.{Grew, Free, None, grew_refl, grew_trans, free_before}
@@ -120,3 +120,8 @@ make_made {root} {n} {w} lw u (i ∷ is) {m} o q t hq l small lead =
     (λ f e. made_trans lw a
     (subst (λ (p : List ℕ). Made (enter u m t i).mem root n w p (make u (enter u m t i).mem f is)) (append_assoc q (i ∷ []) is)
     (make_made lw u is a.grew.order (q ++ (i ∷ [])) f (a.there f e) (omega (arith, length-append q (i ∷ []))) (λ k. small (suc k)) first)))
+
+-- once they are made, each leading run of the path is reached
+pub made_lead : {m : Memory} {root n : ℕ} {w q : List ℕ} {o : Out} → Made m root n w q o → (t : ℕ) → o.walked ≡ Value t → {p : List ℕ} → Leads p q
+    → (s : ℕ) × (reach_in o.mem root p ≡ Value s)
+made_lead {root = root} {o = o} a t e l = reach_lead o.mem.words (start_frame o.mem) (total_of o.mem) root t l (a.there t e)

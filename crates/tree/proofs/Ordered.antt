@@ -107,6 +107,9 @@ module _ {m : Memory} {root up : ℕ} (o : Ordered m root (suc up)) (w : PlainIn
       translate_is (suc up) m.words (start_frame m) (total_of m) root v (ordered_walk o)
       ∙ translates (leaf_ends w (indices (suc up) v) (omega arith) (length_indices (suc up) v))
 
+  pub page_translates : (f : ℕ) → reach_in m root (indices (suc up) v) ≡ Value f → translate_in (suc up) m root v ≡ Value (f * 2 ^ 12 + v % 2 ^ 12)
+  page_translates f h = translate_reach ∙ rw h
+
   pub no_page_translates : ((f : ℕ) → reach_in m root (indices (suc up) v) ≡ Value f → ⊥) → translate_in (suc up) m root v ≡ Stop not_mapped
   no_page_translates none = translate_reach ∙ go (reach_in m root (indices (suc up) v)) refl
     where

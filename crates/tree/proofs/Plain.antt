@@ -16,7 +16,7 @@ use Rattle.answer.specs.declared.Outcome.{Outcome}
 use Rattle.answer.specs.declared.Outcome.TheVariants.{Value, Stop}
 use Rattle.paging.specs.declared.Leaf.{Leaf}
 use Rattle.paging.specs.declared.Leaf.TheVariants.{Page, NoLeaf}
-use Rattle.paging.specs.Walk.{place, present, entry_at, reach, judge, leaf}
+use Rattle.paging.specs.Walk.{place, present, entry_at, reach, judge, leaf, address}
 use Rattle.paging.proofs.Walk.{present_yes, present_no}
 use Rattle.tree.proofs.Walks.{nowhere, reach_step, entry_agree}
 use Rattle.tree.proofs.Tree.{Tree, idle_reach, stored, entry_now, entry_kept, reached, cut_reached}
@@ -58,6 +58,23 @@ module _ {ws : List ℕ} {start total root n : ℕ} (w : Plain ws start total ro
   unfolding reach
   leaf_ends [] l h = absurd (omega arith)
   leaf_ends (i ∷ p) l h = ends_below i p [] root refl h
+
+  -- what translates is reached
+  pub leaf_reached : (p : List ℕ) (v y : ℕ) → 0 < n → length p ≡ n → address v (leaf ws start total root p) ≡ Value y → (f : ℕ) × (reach ws start total root p ≡ Value f)
+  leaf_reached p v y l h k = go (leaf_ends p l h) refl k
+    where
+      go : {x : Outcome} {o : Leaf} → Ends x o → reach ws start total root p ≡ x → address v o ≡ Value y → (f : ℕ) × (reach ws start total root p ≡ Value f)
+      go (at_page {f = f} g) a b = (f, a)
+      go at_none a b = absurd (nowhere b)
+
+  -- where no page is reached, nothing translates
+  pub leaf_none : ((p : List ℕ) (f : ℕ) → length p ≡ n → reach ws start total root p ≡ Value f → ⊥) → 0 < n → (p : List ℕ) → length p ≡ n
+      → (a : ℕ) × (leaf ws start total root p ≡ NoLeaf a)
+  leaf_none none l p h = go (leaf_ends p l h) refl refl
+    where
+      go : {x : Outcome} {o : Leaf} → Ends x o → reach ws start total root p ≡ x → leaf ws start total root p ≡ o → (a : ℕ) × (leaf ws start total root p ≡ NoLeaf a)
+      go (at_page {f = f} g) a b = absurd (none p f h a)
+      go (at_none {n = a}) c d = (a, d)
 
 -- ---- what keeps tables plain
 

@@ -3,7 +3,8 @@ use Prim.Native.Nat.{ℕ, zero, suc, ◌+◌}
 use mathlib.Core.Path.{◌≡◌, refl, sym, ◌∙◌, ap, ap₂}
 use mathlib.Core.Bool.{Bool}
 use mathlib.Core.List.Memᴰ
-use mathlib.Core.List.{List, [], ◌∷◌, ◌++◌}
+use mathlib.Core.List.Permᴰ
+use mathlib.Core.List.{List, [], ◌∷◌, ◌++◌, foldl-append}
 use native.Mathlib.Omega.{arith}
 use Rattle.answer.specs.declared.Outcome.{Outcome}
 use Rattle.answer.specs.declared.Outcome.TheVariants.{Value, Stop}
@@ -16,7 +17,7 @@ use Rattle.tree.proofs.Ordered.{PlainIn, Ordered}
 use Rattle.tree.proofs.Accounts.{Accounted}
 use Rattle.tree.proofs.Books.{Takes, none, more, Live, Tabled}
 use Rattle.tree.proofs.Taking.{take_met}
-use Rattle.tree.proofs.Freeing.{way_to, free_found, free_ordered, free_plain, free_accounted, free_live, free_tabled, free_all}
+use Rattle.tree.proofs.Freeing.{way_to, free_found, free_ordered, free_plain, free_accounted, free_live, free_tabled, free_all, pages_end}
 
 -- the addresses of n pages from v on
 abbrev pub run : ℕ → ℕ → List ℕ
@@ -88,3 +89,14 @@ free_pages_found {root} {up} (suc n) {m} v k o a =
     let t = way_to up m root v b.0 b.1 in
     let one : 1 + n ≡ suc n = omega arith in
     ap₂ and_found (free_found o v t.0 b.0 t.1 b.1) (free_pages_found n (v + 4096) k (free_ordered o v) (free_live o a)) ∙ ap (λ (x : ℕ). tally x 0 0) one
+
+-- two runs are freed in either order alike
+pub free_runs : {m : Memory} {root up : ℕ} → Ordered m root (suc up) → (v n v' n' : ℕ)
+    → free_pages up (free_pages up m root v n) root v' n' ≡ free_pages up (free_pages up m root v' n') root v n
+free_runs {m} {root} {up} o v n v' n' =
+    both v n v' n' ∙ pages_end o (Permᴰ.append_comm (run v n) (run v' n')) ∙ sym (both v' n' v n)
+  where
+    both : (v n v' n' : ℕ) → free_pages up (free_pages up m root v n) root v' n' ≡ free_all up root m (run v n ++ run v' n')
+    both v n v' n' =
+        free_pages_lem up root n' (free_pages up m root v n) v' ∙ ap (λ (x : Memory). free_all up root x (run v' n')) (free_pages_lem up root n m v)
+        ∙ sym (foldl-append (λ (x : Memory) (v : ℕ). free_page up x root v) m (run v n) (run v' n'))

@@ -2,7 +2,9 @@
 use Prim.Native.Nat.{ℕ, suc, ◌+◌, ◌*◌, ◌^◌, ◌<◌}
 use mathlib.Core.Path.{◌≡◌, refl, sym}
 use mathlib.Core.Bool.{Bool}
+use mathlib.Core.List.{List, ◌∷◌}
 use mathlib.Core.Logic.{◌⊎◌, inl, inr}
+use native.Mathlib.Omega.{arith}
 use Rattle.answer.specs.Numbers.{no_free_frame, map_page_failed}
 use Rattle.address.specs.declared.FrameAnswer.{FrameAnswer}
 use Rattle.bitmap.specs.Bitmap.{marked}
@@ -16,6 +18,7 @@ use Rattle.paging.specs.Calls.{map_at}
 use Rattle.paging.specs.Pages.{zeroed, fresh_frame, or_failed, map_fresh}
 use Rattle.tree.proofs.Walks.{nowhere}
 use Rattle.tree.proofs.Ordered.{Ordered}
+use Rattle.tree.proofs.Accounts.{Accounted, took_accounted, lost_accounted}
 use Rattle.tree.proofs.Taken.{Took, Lost, map_frame, frame_took, frame_lost}
 
 module _ {m : Memory} {root up : ℕ} (o : Ordered m root (suc up)) (w u : Bool) (v : ℕ) where
@@ -41,8 +44,31 @@ module _ {m : Memory} {root up : ℕ} (o : Ordered m root (suc up)) (w u : Bool)
       take_page_cases (λ (r : Out). r.walked ≡ Value x → (f : ℕ) × Took m root up v f r.mem)
       (λ h. absurd (nowhere h)) (λ f m' l h. absurd (nowhere h)) (λ f y m' t h. (f, t))
 
+  -- 11: nothing is done
+  pub take_full : (map_fresh up w u m root v).walked ≡ Stop no_free_frame → (map_fresh up w u m root v).mem ≡ m
+  take_full =
+      take_page_cases (λ (r : Out). r.walked ≡ Stop no_free_frame → r.mem ≡ m)
+      (λ h. refl) (λ f m' l h. let z : ◌≡◌ {A = ℕ} 13 11 = cc in absurd (omega arith)) (λ f y m' t h. absurd (nowhere (sym h)))
+
+  -- 13: a frame is lost
+  pub take_failed : (map_fresh up w u m root v).walked ≡ Stop map_page_failed → (f : ℕ) × Lost m root up v f (map_fresh up w u m root v).mem
+  take_failed =
+      take_page_cases (λ (r : Out). r.walked ≡ Stop map_page_failed → (f : ℕ) × Lost m root up v f r.mem)
+      (λ h. let z : ◌≡◌ {A = ℕ} 11 13 = cc in absurd (omega arith)) (λ f m' l h. (f, l)) (λ f y m' t h. absurd (nowhere (sym h)))
+
   -- no other number is said
   pub take_number : (a : ℕ) → (map_fresh up w u m root v).walked ≡ Stop a → (a ≡ no_free_frame) ⊎ (a ≡ map_page_failed)
   take_number a =
       take_page_cases (λ (r : Out). r.walked ≡ Stop a → (a ≡ no_free_frame) ⊎ (a ≡ map_page_failed))
       (λ h. inl (cc)) (λ f m' l h. inr (cc)) (λ f y m' t h. absurd (nowhere (sym h)))
+
+-- the account of the frames: one is lost with 13 alone
+module _ {m : Memory} {root up : ℕ} {lost : List ℕ} (c : Accounted m root (suc up) lost) (w u : Bool) (v : ℕ) where
+  pub met_accounted : (x : ℕ) → (map_fresh up w u m root v).walked ≡ Value x → Accounted (map_fresh up w u m root v).mem root (suc up) lost
+  met_accounted x h = took_accounted c (take_met c.order w u v x h).1
+
+  pub full_accounted : (map_fresh up w u m root v).walked ≡ Stop no_free_frame → Accounted (map_fresh up w u m root v).mem root (suc up) lost
+  full_accounted h = rw (take_full c.order w u v h) c
+
+  pub failed_accounted : (map_fresh up w u m root v).walked ≡ Stop map_page_failed → (f : ℕ) × Accounted (map_fresh up w u m root v).mem root (suc up) (f ∷ lost)
+  failed_accounted h = let t = take_failed c.order w u v h in (t.0, lost_accounted c t.1)
