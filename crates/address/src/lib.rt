@@ -1,11 +1,11 @@
-// Virtual and physical addresses and frame numbers: three number types that do not mix, and the answers that hand one back.
+// Virtual and physical addresses and frame numbers: three number types that do not mix.
 #![tactic(auto)]
 
 ghost use Rattle.std.specs.Prelude.{◌≡◌, ◌*◌, ◌/◌, ◌%◌, ◌^◌};
 ghost use Rattle.allocator.specs.Round.{align_down};
-ghost use Rattle.address.specs.Address.{aligned, virt_up, phys_up, zone_of, virt_line, phys_line, frame_line};
+ghost use Rattle.address.specs.Address.{aligned, virt_up, phys_up, zone_of};
 
-use answer::{Line, Outcome};
+use answer::{Refusal, Shown};
 
 #[derive(Clone, Copy)]
 pub struct VirtAddr(pub u64);
@@ -17,66 +17,28 @@ pub struct PhysAddr(pub u64);
 #[derive(Clone, Copy)]
 pub struct Frame(pub u64);
 
-#[derive(Clone, Copy)]
-pub enum VirtAnswer {
-    AtVirt(VirtAddr),
-    NoVirt(u64),
-}
+// An address or a frame that a call hands back is printed by its number.
+impl Shown for VirtAddr {
+    ghost shown = { λ a. a.0 };
 
-#[derive(Clone, Copy)]
-pub enum PhysAnswer {
-    AtPhys(PhysAddr),
-    NoPhys(u64),
-}
-
-#[derive(Clone, Copy)]
-pub enum FrameAnswer {
-    AtFrame(Frame),
-    NoFrame(u64),
-}
-
-pub fn virt_line(a: VirtAnswer) -> Line
-    ensures { result ≡ virt_line a }
-{
-    match a {
-        VirtAnswer::AtVirt(v) => Line {
-            number: 0,
-            value: v.0,
-        },
-        VirtAnswer::NoVirt(n) => Line {
-            number: n,
-            value: 0,
-        },
+    fn value(self) -> u64 {
+        self.0
     }
 }
 
-pub fn phys_line(a: PhysAnswer) -> Line
-    ensures { result ≡ phys_line a }
-{
-    match a {
-        PhysAnswer::AtPhys(p) => Line {
-            number: 0,
-            value: p.0,
-        },
-        PhysAnswer::NoPhys(n) => Line {
-            number: n,
-            value: 0,
-        },
+impl Shown for PhysAddr {
+    ghost shown = { λ a. a.0 };
+
+    fn value(self) -> u64 {
+        self.0
     }
 }
 
-pub fn frame_line(a: FrameAnswer) -> Line
-    ensures { result ≡ frame_line a }
-{
-    match a {
-        FrameAnswer::AtFrame(f) => Line {
-            number: 0,
-            value: f.0,
-        },
-        FrameAnswer::NoFrame(n) => Line {
-            number: n,
-            value: 0,
-        },
+impl Shown for Frame {
+    ghost shown = { λ f. f.0 };
+
+    fn value(self) -> u64 {
+        self.0
     }
 }
 
@@ -117,13 +79,10 @@ impl VirtAddr {
         VirtAddr(allocator::align_down(self.0, align))
     }
 
-    pub fn align_up(self, align: u64) -> VirtAnswer
+    pub fn align_up(self, align: u64) -> Result<VirtAddr, Refusal>
         ensures { result ≡ virt_up self.0 align }
     {
-        match allocator::align_up(self.0, align) {
-            Outcome::Value(a) => VirtAnswer::AtVirt(VirtAddr(a)),
-            Outcome::Stop(n) => VirtAnswer::NoVirt(n),
-        }
+        Ok(VirtAddr(allocator::align_up(self.0, align)?))
     }
 
     pub fn is_aligned(self, align: u64) -> bool
@@ -164,13 +123,10 @@ impl PhysAddr {
         PhysAddr(allocator::align_down(self.0, align))
     }
 
-    pub fn align_up(self, align: u64) -> PhysAnswer
+    pub fn align_up(self, align: u64) -> Result<PhysAddr, Refusal>
         ensures { result ≡ phys_up self.0 align }
     {
-        match allocator::align_up(self.0, align) {
-            Outcome::Value(a) => PhysAnswer::AtPhys(PhysAddr(a)),
-            Outcome::Stop(n) => PhysAnswer::NoPhys(n),
-        }
+        Ok(PhysAddr(allocator::align_up(self.0, align)?))
     }
 
     pub fn is_aligned(self, align: u64) -> bool

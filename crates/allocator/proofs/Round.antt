@@ -9,9 +9,9 @@ use lib.Dec.{leb, lit≤}
 use lib.Bits.{bit_and, and_high}
 use lib.Pow.{pow_pos, pow_mono, shr_mod, high_ones}
 use borrow.Author.Tests.{le-leb, lt-leb, leb-true, leb-false}
+use Rattle.std.specs.Prelude.{Ok, Err}
+use Rattle.answer.specs.declared.Refusal.TheVariants.{TooLarge}
 use Rattle.bits.specs.Bit.{pick}
-use Rattle.answer.specs.declared.Outcome.TheVariants.{Value, Stop}
-use Rattle.answer.specs.Numbers.{too_large}
 use Rattle.allocator.specs.Round.{align_down, align_up, round_up, last_page, rounded}
 
 -- a mask of all but the k low bits, in a word of j + k bits
@@ -27,14 +27,14 @@ align_down_lem k x l h =
     let e : (64 - k) + k ≡ 64 = omega arith in
     subst (λ (n : ℕ). x < 2 ^ n → bit_and x (2 ^ n - 1 - (2 ^ k - 1)) ≡ x / 2 ^ k * 2 ^ k) e (high_mask (64 - k) k x) h
 
-pub align_up_lem : (k x : ℕ) → k ≤ 63 → align_up x (2 ^ k) ≡ pick (leb x (2 ^ 64 - 2 ^ k)) (Value (round_up k x)) (Stop too_large)
+pub align_up_lem : (k x : ℕ) → k ≤ 63 → align_up x (2 ^ k) ≡ pick (leb x (2 ^ 64 - 2 ^ k)) (Ok (round_up k x)) (Err TooLarge)
 unfolding align_up
 align_up_lem k x l = by-test (leb x (2 ^ 64 - 2 ^ k)) refl
   where
     small : 2 ^ k ≤ 2 ^ 63
     small = pow_mono l
 
-    by-test : (t : Bool) → leb x (2 ^ 64 - 2 ^ k) ≡ t → align_up x (2 ^ k) ≡ pick t (Value (round_up k x)) (Stop too_large)
+    by-test : (t : Bool) → leb x (2 ^ 64 - 2 ^ k) ≡ t → align_up x (2 ^ k) ≡ pick t (Ok (round_up k x)) (Err TooLarge)
     by-test true e =
         let sum : x + (2 ^ k - 1) ≤ 2 ^ 64 - 1 = omega (arith, leb-true x (2 ^ 64 - 2 ^ k) e, pow_pos k, small) in
         simp (le-leb _ _ sum, align_down_lem k (x + (2 ^ k - 1)) l (omega arith))
@@ -48,11 +48,11 @@ unfolding rounded
 rounded_align x = sym (align_up_lem 12 x (lit≤ tt))
 
 -- up to the last page a size is rounded, and above it is 3
-pub rounded_met : (x : ℕ) → x ≤ last_page → rounded x ≡ Value (round_up 12 x)
+pub rounded_met : (x : ℕ) → x ≤ last_page → rounded x ≡ Ok (round_up 12 x)
 unfolding rounded
 rounded_met x h = simp (le-leb _ _ h)
 
-pub rounded_above : (x : ℕ) → last_page < x → rounded x ≡ Stop too_large
+pub rounded_above : (x : ℕ) → last_page < x → rounded x ≡ Err TooLarge
 unfolding rounded
 rounded_above x h = simp (lt-leb _ _ h)
 

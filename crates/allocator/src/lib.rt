@@ -4,7 +4,7 @@
 ghost use Rattle.std.specs.Prelude.{◌≡◌, ◌-◌};
 ghost use Rattle.allocator.specs.Round.{align_down, align_up, rounded};
 
-use answer::Outcome;
+use answer::Refusal;
 
 // The alignment's low bits: an alignment of 0 counts as 1.
 fn low_bits(align: u64) -> u64
@@ -22,18 +22,18 @@ pub fn align_down(addr: u64, align: u64) -> u64
     addr & !low_bits(align)
 }
 
-pub fn align_up(addr: u64, align: u64) -> Outcome
+pub fn align_up(addr: u64, align: u64) -> Result<u64, Refusal>
     ensures { result ≡ align_up addr align }
 {
     let low = low_bits(align);
     if addr > 0xFFFF_FFFF_FFFF_FFFF - low {
-        return Outcome::Stop(answer::TOO_LARGE);
+        return Err(Refusal::TooLarge);
     }
-    Outcome::Value(align_down(addr + low, align))
+    Ok(align_down(addr + low, align))
 }
 
 // A size in whole pages, in bytes: the rounding of every size in the project.
-pub fn page_align_up(size: u64) -> Outcome
+pub fn page_align_up(size: u64) -> Result<u64, Refusal>
     ensures { result ≡ rounded size }
 {
     align_up(size, 4096)

@@ -1,68 +1,40 @@
-// Answers: a call is met, or refused with one of document 01's numbers.
+// Answers: a call is met, or refused for one of document 01's reasons, which the key prints by number.
 #![tactic(auto)]
 
-ghost use Rattle.std.specs.Prelude.{◌≡◌};
-ghost use Rattle.answer.specs.Numbers.{answer_line, count_line, flag_line};
+ghost use Rattle.std.specs.Prelude.{◌≡◌, ℕ};
+ghost use Rattle.bits.specs.Bit.{one};
+ghost use Rattle.answer.specs.Numbers.{number_of, line_of};
 
-// Numbers caused by the input.
-pub const SIZE_ZERO: u64 = 1;
-
-pub const UNALIGNED: u64 = 2;
-
-pub const TOO_LARGE: u64 = 3;
-
-pub const HUGE_UNALIGNED: u64 = 4;
-
-pub const RESERVED_BIT: u64 = 5;
-
-pub const INVALID_ADDRESS: u64 = 6;
-
-pub const INSTRUCTION_FETCH: u64 = 7;
-
-pub const PROTECTION_VIOLATION: u64 = 8;
-
-pub const BROKEN_RECORD: u64 = 10;
-
-// Numbers caused by the state.
-pub const NO_FREE_FRAME: u64 = 11;
-
-pub const ALREADY_MAPPED: u64 = 12;
-
-pub const MAP_PAGE_FAILED: u64 = 13;
-
-pub const NOT_MAPPED: u64 = 14;
-
-pub const NO_REGION: u64 = 15;
-
-pub const REGION_NOT_FOUND: u64 = 16;
-
-pub const WRITE_TO_READ_ONLY: u64 = 17;
-
-pub const PAGE_TABLE_ERROR: u64 = 18;
-
-pub const OUTSIDE: u64 = 19;
-
-pub const LIST_FULL: u64 = 20;
-
-// A call that hands back nothing.
-#[derive(Clone, Copy)]
-pub enum Answer {
-    Met,
-    Refused(u64),
+// Why a call is refused, with document 01's numbers: the first ten by the input, the others by the state. No call answers 9.
+#[derive(Clone, Copy, Debug, PartialEq, Eq)]
+pub enum Refusal {
+    SizeZero = 1,
+    Unaligned = 2,
+    TooLarge = 3,
+    HugeUnaligned = 4,
+    ReservedBit = 5,
+    InvalidAddress = 6,
+    InstructionFetch = 7,
+    ProtectionViolation = 8,
+    BrokenRecord = 10,
+    NoFreeFrame = 11,
+    AlreadyMapped = 12,
+    MapPageFailed = 13,
+    NotMapped = 14,
+    NoRegion = 15,
+    RegionNotFound = 16,
+    WriteToReadOnly = 17,
+    PageTableError = 18,
+    TableOutside = 19,
+    ListFull = 20,
 }
 
-// A call or a step that comes to a number (a count, a size, a frame, an address; 0 where it hands back nothing), or the number of its refusal.
-#[derive(Clone, Copy)]
-pub enum Outcome {
-    Value(u64),
-    Stop(u64),
-}
+impl From<Refusal> for u64 {
+    ghost from_gives = { λ refusal n. n ≡ number_of refusal };
 
-// A call that hands back yes or no.
-#[derive(Clone, Copy)]
-pub enum FlagAnswer {
-    Flag(bool),
-    NoFlag(u64),
+    fn from(refusal: Refusal) -> u64 {
+        refusal as u64
+    }
 }
 
 // What the key prints of a call: its number, 0 if met, and its value, 0 if none.
@@ -73,46 +45,50 @@ pub struct Line {
     pub value: u64,
 }
 
-pub fn answer_line(a: Answer) -> Line
-    ensures { result ≡ answer_line a }
-{
-    match a {
-        Answer::Met => Line {
-            number: 0,
-            value: 0,
-        },
-        Answer::Refused(n) => Line {
-            number: n,
-            value: 0,
-        },
+// What a met call hands back, by the number that the key prints of it.
+pub trait Shown {
+    ghost shown: { Self → ℕ };
+
+    fn value(self) -> u64
+        ensures { result ≡ shown self };
+}
+
+// 0, of a call that hands back nothing.
+impl Shown for () {
+    ghost shown = { λ _. 0 };
+
+    fn value(self) -> u64 {
+        0
     }
 }
 
-pub fn count_line(a: Outcome) -> Line
-    ensures { result ≡ count_line a }
-{
-    match a {
-        Outcome::Value(v) => Line {
-            number: 0,
-            value: v,
-        },
-        Outcome::Stop(n) => Line {
-            number: n,
-            value: 0,
-        },
+impl Shown for u64 {
+    ghost shown = { λ n. n };
+
+    fn value(self) -> u64 {
+        self
     }
 }
 
-pub fn flag_line(a: FlagAnswer) -> Line
-    ensures { result ≡ flag_line a }
+impl Shown for bool {
+    ghost shown = { one };
+
+    fn value(self) -> u64 {
+        u64::from(self)
+    }
+}
+
+// The line of a call, whatever it hands back.
+pub fn line_of<T: Shown>(answer: Result<T, Refusal>) -> Line
+    ensures { result ≡ line_of T.shown answer }
 {
-    match a {
-        FlagAnswer::Flag(b) => Line {
+    match answer {
+        Ok(met) => Line {
             number: 0,
-            value: b as u64,
+            value: met.value(),
         },
-        FlagAnswer::NoFlag(n) => Line {
-            number: n,
+        Err(refusal) => Line {
+            number: u64::from(refusal),
             value: 0,
         },
     }

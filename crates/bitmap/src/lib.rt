@@ -2,12 +2,12 @@
 // and write one of them, and nothing else touches the bytes.
 #![tactic(auto)]
 
-ghost use Rattle.std.specs.Prelude.{◌≡◌, true, ℕ, ◌+◌, ◌*◌, ◌<◌, ◌≤◌, length, get_or, set, replicate};
+ghost use Rattle.std.specs.Prelude.{◌≡◌, true, ℕ, ◌+◌, ◌*◌, ◌<◌, ◌≤◌, length, get_or, set, replicate, MatchOption};
 ghost use Rattle.std.specs.Int.Count.{ones as ones_of};
 ghost use Rattle.bits.specs.Bit.{bit};
 ghost use Rattle.bitmap.specs.Bitmap.{marked, is_marked, free_from, mark as marking, unmark as unmarking, count as count_below, bitmap_size, marks_in};
 
-// The bytes of all 128 words.
+// The bytes of all 128 words. The functions take a slice of so many bytes or more (`bitmap_size_in_bounds`): an array by its type would ask more of their callers.
 pub const BITMAP_SIZE: usize = 1024;
 
 pub fn is_marked(bitmap: &[u8], i: usize) -> bool
@@ -58,41 +58,37 @@ pub fn unmark(bitmap: &mut [u8], i: usize)
     put_word(bitmap, k, w & !(1 << (i % 64)));
 }
 
-// How many of a word's lowest bits are marked before the first that is not.
+// How many of a word's lowest bits are marked before the first that is not, in a word that is not full.
 fn marked_run(w: u64) -> usize
-    ensures within { result ≤ 64 }
+    requires { w < u64.MAX }
+    ensures within { result < 64 }
     ensures below { (i : ℕ) → i < result → bit i w ≡ 1 }
-    ensures next { result < 64 → bit result w ≡ 0 }
+    ensures next { bit result w ≡ 0 }
 {
-    u64::trailing_zeros(!w) as usize
+    (!w).trailing_zeros() as usize
 }
 
-// The lowest number below n that is not marked, n if there is none: full words are passed over whole.
-pub fn lowest_free(bitmap: &[u8], n: usize) -> usize
+// The lowest number below n that is not marked: full words are passed over whole.
+pub fn lowest_free(bitmap: &[u8], n: usize) -> Option<usize>
     requires bitmap_size_in_bounds { bitmap_size ≤ length bitmap.now }
     requires n_bound { n ≤ 8192 }
-    ensures { result ≡ free_from (marks_in bitmap.now) 0 n }
+    ensures { MatchOption result (free_from (marks_in bitmap.now) 0 n ≡ n) (λ i. (i ≡ free_from (marks_in bitmap.now) 0 n) × (i < n)) }
 {
-    let mut k = 0;
-    while k * 64 < n {
-        let run = marked_run(word(bitmap, k));
-        if run < 64 {
-            let i = k * 64 + run;
-            if i < n {
-                return i;
-            }
-            return n;
+    for k in 0..n.div_ceil(64) {
+        let w = word(bitmap, k);
+        if w != u64::MAX {
+            let i = k * 64 + marked_run(w);
+            return (i < n).then_some(i);
         }
-        k += 1;
     }
-    n
+    None
 }
 
 // How many bits of a word are 1.
 fn ones(w: u64) -> usize
     ensures { result ≡ ones_of w }
 {
-    u64::count_ones(w) as usize
+    w.count_ones() as usize
 }
 
 // How many of the first n words have every bit marked before the first that has not.
@@ -102,14 +98,12 @@ fn full_words(bitmap: &[u8], n: usize) -> usize
     ensures upper_bound { result ≤ n }
     ensures result_value { count_below (marks_in bitmap.now) (result * 64) ≡ result * 64 }
 {
-    let mut k = 0;
-    while k < n {
-        if word(bitmap, k) != 0xFFFF_FFFF_FFFF_FFFF {
+    for k in 0..n {
+        if word(bitmap, k) != u64::MAX {
             return k;
         }
-        k += 1;
     }
-    k
+    n
 }
 
 // Whether no bit of the words from `from` up to `end` is marked. One flag is tested at the end, since a test for each word takes longer.
@@ -119,9 +113,9 @@ fn is_clear(bitmap: &[u8], from: usize, end: usize) -> bool
     requires end_bound { end ≤ 128 }
     ensures { result ≡ true → count_below (marks_in bitmap.now) (end * 64) ≡ count_below (marks_in bitmap.now) (from * 64) }
 {
-    let mut any: u64 = 0;
+    let mut any = 0;
     for k in from..end {
-        any = any | word(bitmap, k);
+        any |= word(bitmap, k);
     }
     any == 0
 }
@@ -174,5 +168,5 @@ pub fn count(bitmap: &[u8], n: usize) -> usize
 pub fn clear_all(bitmap: &mut [u8; BITMAP_SIZE])
     ensures { marks_in bitmap.new ≡ replicate 128 0 }
 {
-    *bitmap = [0u8; BITMAP_SIZE];
+    bitmap.fill(0);
 }

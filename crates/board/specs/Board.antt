@@ -1,14 +1,11 @@
 -- The board, all of its parts together, and its start.
+use Rattle.std.specs.Prelude.{Ok, Err, Result, ⊤}
+use Rattle.answer.specs.declared.Refusal.{Refusal}
+use Rattle.answer.specs.declared.Refusal.TheVariants.{BrokenRecord, NoFreeFrame}
+use Rattle.address.specs.declared.Frame.{Frame}
 use Rattle.std.specs.Prelude.{ℕ, ◌-◌, ◌*◌, ◌/◌, min, eqb, leb, length}
 use Rattle.bits.specs.Bit.{pick, unless, both}
-use Rattle.answer.specs.Numbers.{broken_record, no_free_frame}
-use Rattle.answer.specs.declared.Answer.{Answer}
-use Rattle.answer.specs.declared.Answer.TheVariants.{Met, Refused}
-use Rattle.address.specs.declared.FrameAnswer.{FrameAnswer}
-use Rattle.address.specs.declared.FrameAnswer.TheVariants.{AtFrame, NoFrame}
 use Rattle.frame.specs.Frames.{Frames, frames, address_end, is_levels, with_levels, init, take_frame}
-use Rattle.answer.specs.declared.Outcome.{Outcome}
-use Rattle.answer.specs.declared.Outcome.TheVariants.{Value, Stop}
 use Rattle.paging.specs.Map.{Memory, memory, zero_frame}
 use Rattle.slots.specs.Slots.{Slots}
 use Rattle.regions.specs.declared.VMRegion.{VMRegion}
@@ -27,10 +24,10 @@ pub record Board : Type 0 where
   pub marked : Slots ℕ
 
 pub record BoardDid : Type 0 where
-  pub answer : Outcome
+  pub answer : Result ℕ Refusal
   pub board : Board
 
-abbrev pub board_did : Outcome → Board → BoardDid
+abbrev pub board_did : Result ℕ Refusal → Board → BoardDid
 board_did a b = record { answer = a; board = b }
 
 -- the board once its root is taken: the root zeroed, the window one free region, the other lists empty, all their slots zero
@@ -44,15 +41,15 @@ begun b root fr = record {
   marked = no_pages;
 }
 
-abbrev pub rooted : Board → FrameAnswer → Frames → BoardDid
-rooted b (AtFrame f) fr = board_did (Value 0) (begun b f.0 fr)
-rooted b (NoFrame n) fr = board_did (Stop n) b
+abbrev pub rooted : Board → Result Frame Refusal → Frames → BoardDid
+rooted b (Ok f) fr = board_did (Ok 0) (begun b f.0 fr)
+rooted b (Err n) fr = board_did (Err n) b
 
 -- 10 also for 'fewer lent words than total × 512'
-abbrev pub ready : Board → Answer → Frames → BoardDid
-ready b (Refused n) fr = board_did (Stop n) b
-ready b Met fr =
-    unless (leb (fr.fa.total * 512) (length b.mem.words)) (board_did (Stop broken_record) b)
+abbrev pub ready : Board → Result ⊤ Refusal → Frames → BoardDid
+ready b (Err n) fr = board_did (Err n) b
+ready b (Ok tt) fr =
+    unless (leb (fr.fa.total * 512) (length b.mem.words)) (board_did (Err BrokenRecord) b)
     (rooted b (take_frame fr).answer (take_frame fr).frames)
 
 -- the allocator of a board of n levels
@@ -63,16 +60,16 @@ with_frame_levels fr n = frames fr.bits (with_levels fr.fa n)
 -- total is 0), zeroes it, and makes the vmalloc window one free region'. A refused start changes nothing
 unfoldable pub start : Board → ℕ → ℕ → ℕ → BoardDid
 start b from to levels =
-    unless (is_levels levels) (board_did (Stop broken_record) b)
+    unless (is_levels levels) (board_did (Err BrokenRecord) b)
     (ready b (init b.mem.frames from to).answer (with_frame_levels (init b.mem.frames from to).frames levels))
 
 -- The same told before anything is written, as code has to: what a start answers by the words lent, the two addresses and the levels (law `start-refused` of proofs/Outcomes).
 abbrev pub frame_count : ℕ → ℕ → ℕ
 frame_count from to = min ((to - from) / 4096) 8192
 
-unfoldable pub may_start : ℕ → ℕ → ℕ → ℕ → Answer
+unfoldable pub may_start : ℕ → ℕ → ℕ → ℕ → Result ⊤ Refusal
 may_start len from to levels =
-    unless (is_levels levels) (Refused broken_record)
-    (unless (both (leb from to) (leb to address_end)) (Refused broken_record)
-    (unless (leb (frame_count from to * 512) len) (Refused broken_record)
-    (pick (eqb (frame_count from to) 0) (Refused no_free_frame) Met)))
+    unless (is_levels levels) (Err BrokenRecord)
+    (unless (both (leb from to) (leb to address_end)) (Err BrokenRecord)
+    (unless (leb (frame_count from to * 512) len) (Err BrokenRecord)
+    (pick (eqb (frame_count from to) 0) (Err NoFreeFrame) (Ok tt))))

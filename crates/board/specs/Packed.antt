@@ -1,11 +1,9 @@
 -- The board whose lists stay packed bytes (docs/LAYOUT.md), as code is lent it, and its start.
+use Rattle.std.specs.Prelude.{Ok, Err, Result, ⊤}
+use Rattle.answer.specs.declared.Refusal.{Refusal}
+use Rattle.answer.specs.declared.Refusal.TheVariants.{BrokenRecord}
 use Rattle.std.specs.Prelude.{ℕ, ◌≡◌, Bool, true, List, eqb, length}
 use Rattle.bits.specs.Bit.{unless, both}
-use Rattle.answer.specs.Numbers.{broken_record}
-use Rattle.answer.specs.declared.Answer.{Answer}
-use Rattle.answer.specs.declared.Answer.TheVariants.{Met, Refused}
-use Rattle.answer.specs.declared.Outcome.{Outcome}
-use Rattle.answer.specs.declared.Outcome.TheVariants.{Value, Stop}
 use Rattle.paging.specs.Map.{Memory}
 use Rattle.paging.specs.Kept.{lent_memory}
 use Rattle.vm_list.specs.Packed.{vm_size, vm_in, vm_out, vm_fit}
@@ -69,19 +67,19 @@ lists_long p = both (eqb (length p.kernel) vm_size) (both (mmap_fit p.user) (mar
 
 -- an answer, and the board afterwards
 pub record StartedBytes : Type 0 where
-  pub answer : Answer
+  pub answer : Result ⊤ Refusal
   pub board : BoardBytes
 
 abbrev pub started_bytes : Started → List ℕ → List ℕ → List ℕ → List ℕ → List ℕ → StartedBytes
 started_bytes r words bitmap kernel user marked = record { answer = r.answer; board = board_bytes words bitmap kernel user marked r.records }
 
 -- a board that was started is packed again; a refused start changes nothing
-abbrev pub packed_by : BoardBytes → Outcome → Board → StartedBytes
-packed_by p (Value x) b = record { answer = Met; board = board_out b }
-packed_by p (Stop n) b = record { answer = Refused n; board = p }
+abbrev pub packed_by : BoardBytes → Result ℕ Refusal → Board → StartedBytes
+packed_by p (Ok x) b = record { answer = Ok tt; board = board_out b }
+packed_by p (Err n) b = record { answer = Err n; board = p }
 
 -- 10 and nothing changed where a list has another length
 unfoldable pub start_on : BoardBytes → ℕ → ℕ → ℕ → StartedBytes
 start_on p from to levels =
-    unless (lists_long p) (record { answer = Refused broken_record; board = p })
+    unless (lists_long p) (record { answer = Err BrokenRecord; board = p })
     (let d = start (board_in p) from to levels in packed_by p d.answer d.board)

@@ -10,7 +10,7 @@ ghost use Rattle.board.specs.Board.{frame_count, may_start, start as start_of};
 ghost use Rattle.board.specs.Packed.{board_bytes, board_out, board_of, BoardStands, lists_long, started_bytes, start_on};
 
 use address::Frame;
-use answer::Answer;
+use answer::Refusal;
 use frame::{FrameAllocator, Marks};
 
 // A board's records, beside its words, its bitmap and its lists.
@@ -22,7 +22,7 @@ pub struct Records {
 
 #[derive(Clone, Copy)]
 pub struct Started {
-    pub answer: Answer,
+    pub answer: Result<(), Refusal>,
     pub records: Records,
 }
 
@@ -39,26 +39,26 @@ fn frame_count(from: u64, to: u64) -> u64
 }
 
 // Whether a board with `len` words can start: 10 or 11, before anything is written.
-fn may_start(len: usize, from: u64, to: u64, levels: u64) -> Answer
+fn may_start(len: usize, from: u64, to: u64, levels: u64) -> Result<(), Refusal>
     ensures { result ≡ may_start len from to levels }
 {
     if !frame::is_levels(levels) {
-        return Answer::Refused(answer::BROKEN_RECORD);
+        return Err(Refusal::BrokenRecord);
     }
     if from > to {
-        return Answer::Refused(answer::BROKEN_RECORD);
+        return Err(Refusal::BrokenRecord);
     }
     if to > frame::ADDRESS_END {
-        return Answer::Refused(answer::BROKEN_RECORD);
+        return Err(Refusal::BrokenRecord);
     }
     let total = frame_count(from, to) as usize;
     if total * 512 > len {
-        return Answer::Refused(answer::BROKEN_RECORD);
+        return Err(Refusal::BrokenRecord);
     }
     if total == 0 {
-        return Answer::Refused(answer::NO_FREE_FRAME);
+        return Err(Refusal::NoFreeFrame);
     }
-    Answer::Met
+    Ok(())
 }
 
 // Whether lists of so many bytes have their lengths.
@@ -86,7 +86,7 @@ fn begin(
     to: u64,
     levels: u64,
 ) -> Records
-    requires levels_value { may_start (length words.old) from to levels ≡ Answer.Met }
+    requires levels_value { may_start (length words.old) from to levels ≡ Ok tt }
     requires records_value { lists_long (board_bytes words.old bitmap.old kernel.old user.old marked.old records) ≡ true }
     ensures result_after { board_bytes words.new bitmap.new kernel.new user.new marked.new result
         ≡ board_out (start_of (board_of words.old bitmap.old kernel.old user.old marked.old records)
@@ -94,12 +94,11 @@ fn begin(
     ensures board_stands { BoardStands (board_bytes words.new bitmap.new kernel.new user.new marked.new result)
         (start_of (board_of words.old bitmap.old kernel.old user.old marked.old records) from to levels).board }
 {
-    let old = records.frames;
-    let fresh = frame::held::init(old, bitmap, from, to);
-    let mut unused = fresh.frames;
-    unused.levels = levels;
-    let root = unused.start;
-    let frames = frame::inner::mark_frame(bitmap, unused, root);
+    let mut frames = records.frames;
+    let _ = frames.init(bitmap, from, to);
+    frames.levels = levels;
+    let root = frames.start;
+    frame::inner::mark_frame(bitmap, &mut frames, root);
     tables::zero_frame(words, 0);
     vm_list::start(kernel);
     mappings::start(user);
@@ -124,23 +123,23 @@ pub fn start(
 ) -> Started
     ensures marked_after { started_bytes result words.new bitmap.new kernel.new user.new marked.new
         ≡ start_on (board_bytes words.old bitmap.old kernel.old user.old marked.old records) from to levels }
-    ensures board_stands { result.answer ≡ Answer.Met
+    ensures board_stands { result.answer ≡ Ok tt
         → BoardStands (board_bytes words.new bitmap.new kernel.new user.new marked.new result.records)
         (start_of (board_of words.old bitmap.old kernel.old user.old marked.old records) from to levels).board }
 {
     if !are_long(kernel.len(), user.len(), marked.len()) {
         return Started {
-            answer: Answer::Refused(answer::BROKEN_RECORD),
+            answer: Err(Refusal::BrokenRecord),
             records,
         };
     }
     match may_start(words.len(), from, to, levels) {
-        Answer::Refused(n) => Started {
-            answer: Answer::Refused(n),
+        Err(n) => Started {
+            answer: Err(n),
             records,
         },
-        Answer::Met => Started {
-            answer: Answer::Met,
+        Ok(()) => Started {
+            answer: Ok(()),
             records: begin(
                 words, bitmap, kernel, user, marked, records, from, to, levels,
             ),

@@ -7,6 +7,7 @@ use mathlib.Core.List.{List, [], ◌∷◌}
 use native.Mathlib.Omega.{arith}
 use lib.ListN.{get_or}
 use lib.Seq.{get_or-set_same, get_or-set_other}
+use Rattle.std.specs.Prelude.{Ok}
 use Rattle.bits.specs.Bit.{flag}
 use Rattle.bits.proofs.Choice.{pick_cases}
 use Rattle.bitmap.proofs.Marks.{mark_more}
@@ -14,7 +15,6 @@ use Rattle.entry.specs.Entry.{entry_of}
 use Rattle.entry.proofs.Entry.{maps_entry}
 use Rattle.frame.specs.Frames.{inside, with_mark}
 use Rattle.frame.proofs.Laws.{inside_yes}
-use Rattle.answer.specs.declared.Outcome.TheVariants.{Value}
 use Rattle.paging.specs.Walk.{place, WordsLent}
 use Rattle.paging.specs.Map.{Memory, start_frame, total_of, Out, zero_frame, enter, make, Left, put_entry, map_entry}
 use Rattle.paging.specs.Calls.{whole, map_page}
@@ -92,10 +92,10 @@ pub record MadeFor (u : Bool) (m : Memory) (r i : ℕ) : Type 0 where
 
 module _ (u : Bool) (m : Memory) (root i : ℕ) (lent : inside_in m root ≡ true) (mine : mark_in m root ≡ 1) (sizes : WordsLent m.words (start_frame m) (total_of m)) (small : i < 512)
     (absent : flag 0 (get_or m.words (place (start_frame m) root i) 0) ≡ false) where
-  enter_makes : (x : ℕ) → (enter u m root i).walked ≡ Value x → MadeFor u (enter u m root i).mem root i
+  enter_makes : (x : ℕ) → (enter u m root i).walked ≡ Ok x → MadeFor u (enter u m root i).mem root i
   unfolding with_mark
   enter_makes =
-      enter_cases u m root i (λ (o : Out). (x : ℕ) → o.walked ≡ Value x → MadeFor u o.mem root i) (λ out. absurd (true≢false (sym lent ∙ out)))
+      enter_cases u m root i (λ (o : Out). (x : ℕ) → o.walked ≡ Ok x → MadeFor u o.mem root i) (λ out. absurd (true≢false (sym lent ∙ out)))
       (λ _ present. absurd (true≢false (sym present ∙ absent)))
       (λ _ _ j _ free _ x e. record {
         names = start_frame m + j;
@@ -110,18 +110,18 @@ module _ (u : Bool) (m : Memory) (root i : ℕ) (lent : inside_in m root ≡ tru
       (λ _ _ _ x e. absurd (no_value (sym e)))
 
   -- and stays while the page is mapped
-  make_makes : (is : List ℕ) (x : ℕ) → (make u m root (i ∷ is)).walked ≡ Value x → MadeFor u (make u m root (i ∷ is)).mem root i
+  make_makes : (is : List ℕ) (x : ℕ) → (make u m root (i ∷ is)).walked ≡ Ok x → MadeFor u (make u m root (i ∷ is)).mem root i
   unfolding make
   make_makes is =
-      go_on_cases (λ (o : Out). (x : ℕ) → o.walked ≡ Value x → MadeFor u o.mem root i) (enter u m root i) (λ f m'. make u m' f is) (λ _ _ x e. absurd (no_value (sym e)))
+      go_on_cases (λ (o : Out). (x : ℕ) → o.walked ≡ Ok x → MadeFor u o.mem root i) (enter u m root i) (λ f m'. make u m' f is) (λ _ _ x e. absurd (no_value (sym e)))
       (λ f h x _.
       let a = enter_makes f h in
       record { names = a.names; there = make_stays root i _ small (maps_entry (a.names * 2 ^ 12) true u).present u is (enter u m root i).mem f a.there })
 
-  pub map_makes : (is : List ℕ) (j e x : ℕ) → (map_entry u m root (i ∷ is) j e).walked ≡ Value x → MadeFor u (map_entry u m root (i ∷ is) j e).mem root i
+  pub map_makes : (is : List ℕ) (j e x : ℕ) → (map_entry u m root (i ∷ is) j e).walked ≡ Ok x → MadeFor u (map_entry u m root (i ∷ is) j e).mem root i
   unfolding map_entry
   map_makes is j e =
-      go_on_cases (λ (o : Out). (x : ℕ) → o.walked ≡ Value x → MadeFor u o.mem root i) (make u m root (i ∷ is)) _ (λ _ _ x z. absurd (no_value (sym z)))
+      go_on_cases (λ (o : Out). (x : ℕ) → o.walked ≡ Ok x → MadeFor u o.mem root i) (make u m root (i ∷ is)) _ (λ _ _ x z. absurd (no_value (sym z)))
       (λ t h x _.
       let a = make_makes is t h in
       let b = a.there in

@@ -7,14 +7,15 @@ use native.Mathlib.Omega.{arith}
 use lib.Dec.{eqb, leb}
 use lib.ListN.{replicate}
 use borrow.Author.Tests.{eqb-true}
+use Rattle.std.specs.Prelude.{Result}
+use Rattle.answer.specs.declared.Refusal.{Refusal}
+use Rattle.std.specs.Prelude.{Ok, Err}
 use Rattle.bits.specs.Bit.{pick}
 use Rattle.bits.proofs.Choice.{both_true}
 use Rattle.allocator.specs.Round.{rounded}
-use Rattle.answer.specs.declared.Outcome.TheVariants.{Value, Stop}
 use Rattle.paging.specs.Calls.{whole}
 use Rattle.frame.specs.Frames.{init, is_allocated}
 use Rattle.frame.proofs.Laws.{inside_low, inside_high, reads_outside}
-use Rattle.answer.specs.declared.FlagAnswer.TheVariants.{Flag}
 use Rattle.slots.specs.Slots.{listed, every}
 use Rattle.regions.specs.Regions.{window, first_fit}
 use Rattle.regions.specs.Regions.{no_vm_region}
@@ -65,17 +66,17 @@ pub record Fresh (b : Board) : Type 0 where
   pub user : b.user ≡ empty_slots
   pub next : b.next ≡ user_start
 
-fresh_lists : (old fresh : Board) (from to levels : ℕ) → start old from to levels ≡ board_did (Value 0) fresh → Fresh fresh
+fresh_lists : (old fresh : Board) (from to levels : ℕ) → start old from to levels ≡ board_did (Ok 0) fresh → Fresh fresh
 fresh_lists old fresh from to levels =
-    start_cases old from to levels (λ (d : BoardDid). d ≡ board_did (Value 0) fresh → Fresh fresh)
+    start_cases old from to levels (λ (d : BoardDid). d ≡ board_did (Ok 0) fresh → Fresh fresh)
     (λ _ _ _ _ _ e. subst Fresh (ap (λ (d : BoardDid). d.board) e) (record { kernel = refl; user = refl; next = refl }))
     (λ e. absurd (refused (ap (λ (d : BoardDid). d.answer) e))) (λ e. absurd (refused (ap (λ (d : BoardDid). d.answer) e)))
   where
-    refused : {n : ℕ} → Stop n ≡ Value 0 → ⊥
+    refused : {n : Refusal} → ◌≡◌ {A = Result ℕ Refusal} (Err n) (Ok 0) → ⊥
     refused q = let z : ◌≡◌ {A = ℕ} 0 1 = cc in omega arith
 
 -- and it is not broken
-fresh_sound : (old fresh : Board) (from to levels : ℕ) → start old from to levels ≡ board_did (Value 0) fresh → sound_kernel (kernel_of fresh) fresh.root ≡ true
+fresh_sound : (old fresh : Board) (from to levels : ℕ) → start old from to levels ≡ board_did (Ok 0) fresh → sound_kernel (kernel_of fresh) fresh.root ≡ true
 fresh_sound old fresh from to zero h = absurd (some_levels old fresh from to h)
 fresh_sound old fresh from to (suc up) h = kernel_sound (fresh_inv old fresh from to up h)
 
@@ -90,8 +91,8 @@ key_cases = record {
   k6 = refl;
   k7 = λ fr. (refl, refl, refl);
   k8 = λ fr s t h. (
-    rw h (ap Flag (reads_outside fr 255 (inside_low fr.fa.start fr.fa.total 255 (omega arith)))),
-    rw h (ap Flag (reads_outside fr 8448 (inside_high fr.fa.start fr.fa.total 8448 (omega arith) (omega arith)))),
+    rw h (ap Ok (reads_outside fr 255 (inside_low fr.fa.start fr.fa.total 255 (omega arith)))),
+    rw h (ap Ok (reads_outside fr 8448 (inside_high fr.fa.start fr.fa.total 8448 (omega arith) (omega arith)))),
   );
   k9 = λ old fresh from to levels h. let f = fresh_lists old fresh from to levels h in (rw (f.user, f.next), rw (f.user, f.next));
   k10 = λ old fresh from to levels h. let f = fresh_lists old fresh from to levels h in rw (fresh_sound old fresh from to levels h, ap listed f.kernel);

@@ -9,14 +9,14 @@ use native.Mathlib.Omega.{arith}
 use lib.ListN.{length, get_or, length-append, length-set}
 use lib.Pow.{shr-shr}
 use lib.Seq.{get_or-set_same, get_or-set_other}
+use Rattle.std.specs.Prelude.{Ok, Result}
+use Rattle.answer.specs.declared.Refusal.{Refusal}
 use Rattle.bits.specs.Bit.{flag}
 use Rattle.bitmap.proofs.Marks.{count_all}
 use Rattle.entry.specs.Entry.{frame_of, addr_of, entry_of, index}
 use Rattle.entry.proofs.Entry.{maps_entry, index_last}
 use Rattle.frame.specs.Frames.{inside, with_mark}
 use Rattle.frame.proofs.Laws.{inside_from}
-use Rattle.answer.specs.declared.Outcome.{Outcome}
-use Rattle.answer.specs.declared.Outcome.TheVariants.{Value}
 use Rattle.paging.specs.declared.Leaf.{Leaf}
 use Rattle.paging.specs.Walk.{place, present, entry_at, reach, leaf, address}
 use Rattle.paging.specs.Map.{Memory, start_frame, total_of, Out, out, enter, make, with_words}
@@ -47,11 +47,11 @@ FreeAtLeast k m = m.frames.fa.allocated + k ≤ total_of m
 -- a step that came somewhere and left so many
 record Arrived (k : ℕ) (o : Out) : Type 0 where
   pub table : ℕ
-  pub comes : o.walked ≡ Value table
+  pub comes : o.walked ≡ Ok table
   pub room : FreeAtLeast k o.mem
 
 -- a table that is entered is there or finds a frame
-enter_met : {m : Memory} {root n : ℕ} → Ordered m root n → (u : Bool) (q : List ℕ) (t i k : ℕ) → length q ≤ n → reach_in m root q ≡ Value t → FreeAtLeast (suc k) m
+enter_met : {m : Memory} {root n : ℕ} → Ordered m root n → (u : Bool) (q : List ℕ) (t i k : ℕ) → length q ≤ n → reach_in m root q ≡ Ok t → FreeAtLeast (suc k) m
     → Arrived k (enter u m t i)
 unfolding with_mark
 enter_met {m} {root} {n} o u q t i k lq hq r =
@@ -61,7 +61,7 @@ enter_met {m} {root} {n} o u q t i k lq hq r =
     (λ _ _ all. absurd (omega (arith, o.counted, count_all m.frames.bits (total_of m) all)))
 
 -- and so are all the tables along a path
-make_met : {root n : ℕ} (u : Bool) (is : List ℕ) {m : Memory} → Ordered m root n → (q : List ℕ) (t : ℕ) → reach_in m root q ≡ Value t → length q + length is < n → Small is
+make_met : {root n : ℕ} (u : Bool) (is : List ℕ) {m : Memory} → Ordered m root n → (q : List ℕ) (t : ℕ) → reach_in m root q ≡ Ok t → length q + length is < n → Small is
     → FreeAtLeast (length is) m → Arrived 0 (make u m t is)
 unfolding make
 make_met u [] {m} o q t hq l small r = record { table = t; comes = refl; room = r }
@@ -74,10 +74,10 @@ make_met u (i ∷ is) {m} o q t hq l small r =
 
 -- ---- one table of the last level
 
-module _ {m : Memory} {root up : ℕ} (o : Ordered m root (suc up)) (q : List ℕ) (t : ℕ) (lq : length q ≡ up) (hq : reach_in m root q ≡ Value t) where
+module _ {m : Memory} {root up : ℕ} (o : Ordered m root (suc up)) (q : List ℕ) (t : ℕ) (lq : length q ≡ up) (hq : reach_in m root q ≡ Ok t) where
   -- no shorter path comes to it
-  not_above : (a : List ℕ) (s : ℕ) → length a < up → reach_in m root a ≡ Value s → s ≡ t → ⊥
-  not_above a s la h e = let same = o.tree.once a q t (omega arith) (omega arith) (h ∙ ap Value e) hq in omega (arith, ap length same)
+  not_above : (a : List ℕ) (s : ℕ) → length a < up → reach_in m root a ≡ Ok s → s ≡ t → ⊥
+  not_above a s la h e = let same = o.tree.once a q t (omega arith) (omega arith) (h ∙ ap Ok e) hq in omega (arith, ap length same)
 
   -- words that differ from those of m in this table alone
   module _ (ws : List ℕ)
@@ -98,14 +98,14 @@ module _ {m : Memory} {root up : ℕ} (o : Ordered m root (suc up)) (q : List �
     }
 
     -- so an address translates by the entry that it has there
-    translates : PlainIn m root (suc up) → (v j e : ℕ) → entry_at ws (start_frame m) (total_of m) t j ≡ Value e
-        → address v (leaf ws (start_frame m) (total_of m) root (q ++ (j ∷ []))) ≡ Value (addr_of e + v % 2 ^ 12)
+    translates : PlainIn m root (suc up) → (v j e : ℕ) → entry_at ws (start_frame m) (total_of m) t j ≡ Ok e
+        → address v (leaf ws (start_frame m) (total_of m) root (q ++ (j ∷ []))) ≡ Ok (addr_of e + v % 2 ^ 12)
     translates w v j e k =
         at (leaf_ends (still-plain w) (q ++ (j ∷ [])) (omega arith) (omega (arith, length-append q (j ∷ []))))
         (reach_step ws (start_frame m) (total_of m) q root t j e (way q (omega arith) ∙ hq) k)
       where
-        at : {x : Outcome} {l : Leaf} → Ends x l → x ≡ Value (frame_of e) → address v l ≡ Value (addr_of e + v % 2 ^ 12)
-        at (at_page {f = f} g) h = let k : f ≡ frame_of e = cc in ap (λ (y : ℕ). Value (y * 2 ^ 12 + v % 2 ^ 12)) (g ∙ k)
+        at : {x : Result ℕ Refusal} {l : Result Leaf Refusal} → Ends x l → x ≡ Ok (frame_of e) → address v l ≡ Ok (addr_of e + v % 2 ^ 12)
+        at (at_page {f = f} g) h = let k : f ≡ frame_of e = cc in ap (λ (y : ℕ). Ok (y * 2 ^ 12 + v % 2 ^ 12)) (g ∙ k)
         at at_none h = absurd (nowhere h)
 
 -- a word that is set in one table leaves the others
@@ -118,8 +118,8 @@ set_other ws start total t j e ins small s i ins' small' d =
 -- ---- one page
 
 -- a call that comes to a lent table with no entry for the page puts one there
-page_put : (up : ℕ) (m m' : Memory) (root v p : ℕ) (w u : Bool) (t : ℕ) → whole m root ≡ true → make u m root (upper up v) ≡ out (Value t) m' → inside_in m' t ≡ true
-    → flag 0 (get_or m'.words (place (start_frame m') t (last up v)) 0) ≡ false → map_page up m root v p w u ≡ out (Value 0) (written m' t (last up v) (entry_of p w u))
+page_put : (up : ℕ) (m m' : Memory) (root v p : ℕ) (w u : Bool) (t : ℕ) → whole m root ≡ true → make u m root (upper up v) ≡ out (Ok t) m' → inside_in m' t ≡ true
+    → flag 0 (get_or m'.words (place (start_frame m') t (last up v)) 0) ≡ false → map_page up m root v p w u ≡ out (Ok 0) (written m' t (last up v) (entry_of p w u))
 page_put up m m' root v p w u t h k ins free =
     map_is up m root v p w u h ∙ map_entry_put u m root (upper up v) (last up v) (entry_of p w u) t m' k
     ∙ ap (with_words m') (put_free m'.words (start_frame m') (total_of m') t (last up v) (entry_of p w u) ins free)
@@ -166,7 +166,7 @@ module _ {m : Memory} {root up : ℕ} (o : Ordered m root (suc up)) (plain : Pla
   order : Ordered mid root (suc up)
   order = made.grew.order
 
-  there : reach_in mid root (upper up v) ≡ Value t
+  there : reach_in mid root (upper up v) ≡ Ok t
   there = made.there t met.comes
 
   lent : inside_in mid t ≡ true
@@ -192,18 +192,18 @@ module _ {m : Memory} {root up : ℕ} (o : Ordered m root (suc up)) (plain : Pla
   abbrev one : Memory
   one = written mid t (last up v) (entry_of p w u)
 
-  one_put : map_page up m root v p w u ≡ out (Value 0) one
+  one_put : map_page up m root v p w u ≡ out (Ok 0) one
   one_put =
-      page_put up m mid root v p w u t (ordered_whole o) (ap (λ (x : Outcome). out x mid) met.comes) lent (empty (last up v) (last_small up v))
+      page_put up m mid root v p w u t (ordered_whole o) (ap (λ (x : Result ℕ Refusal). out x mid) met.comes) lent (empty (last up v) (last_small up v))
 
   -- no record is broken by it
   one_whole : whole one root ≡ true
   one_whole = rw length-set (ordered_whole order)
 
   -- the second page has the same way, and its index is free still
-  one_there : reach_in one root (upper up v') ≡ Value t
+  one_there : reach_in one root (upper up v') ≡ Ok t
   one_there =
-      subst (λ (l : List ℕ). reach_in one root l ≡ Value t) (same_upper up v v' same)
+      subst (λ (l : List ℕ). reach_in one root l ≡ Ok t) (same_upper up v v' same)
       (way_kept order.tree order.sizes.enough (upper up v) t (last up v) (omega (arith, length_upper up v)) there (last_small up v) (entry_of p w u))
 
   one_empty : flag 0 (get_or one.words (place (start_frame mid) t (last up v')) 0) ≡ false
@@ -216,7 +216,7 @@ module _ {m : Memory} {root up : ℕ} (o : Ordered m root (suc up)) (plain : Pla
   abbrev two : Memory
   two = written one t (last up v') (entry_of p' w' true)
 
-  two_put : map_page up one root v' p' w' true ≡ out (Value 0) two
+  two_put : map_page up one root v' p' w' true ≡ out (Ok 0) two
   two_put = page_put up one one root v' p' w' true t one_whole (make_there true one root t (upper up v') one_there) lent one_empty
 
   -- two words set leave a walk's sizes
@@ -224,7 +224,7 @@ module _ {m : Memory} {root up : ℕ} (o : Ordered m root (suc up)) (plain : Pla
   two_lent = rw (length-set one.words _ _, length-set mid.words _ _) (ordered_walk order)
 
   -- its entry is the one that was put
-  two_entry : entry_at two.words (start_frame mid) (total_of mid) t (last up v') ≡ Value (entry_of p' w' true)
+  two_entry : entry_at two.words (start_frame mid) (total_of mid) t (last up v') ≡ Ok (entry_of p' w' true)
   two_entry =
       let same_long = length-set mid.words (place (start_frame mid) t (last up v)) (entry_of p w u) in
       let within = place_lent t (last up v') order.sizes lent (last_small up v') in
@@ -239,41 +239,41 @@ module _ {m : Memory} {root up : ℕ} (o : Ordered m root (suc up)) (plain : Pla
       ∙ set_other mid.words (start_frame mid) (total_of mid) t (last up v) _ lent (last_small up v) s i ins small d
 
   -- so the page translates
-  two_translates : translate_in (suc up) two root v' ≡ Value (addr_of p' + v' % 2 ^ 12)
+  two_translates : translate_in (suc up) two root v' ≡ Ok (addr_of p' + v' % 2 ^ 12)
   two_translates =
       let way = ap (λ (l : List ℕ). l ++ (last up v' ∷ [])) (same_upper up v v' same) ∙ path_split up v' in
       translate_is (suc up) two.words (start_frame two) (total_of two) root v' two_lent
       ∙ ap (λ (l : List ℕ). address v' (leaf two.words (start_frame mid) (total_of mid) root l)) (sym way)
       ∙ translates order (upper up v) t (length_upper up v) there two.words two_rest (made.grew.plain plain) v' (last up v') _ two_entry
-      ∙ ap (λ (f : ℕ). Value (f * 2 ^ 12 + v' % 2 ^ 12)) (maps_entry p' w' true).frame
+      ∙ ap (λ (f : ℕ). Ok (f * 2 ^ 12 + v' % 2 ^ 12)) (maps_entry p' w' true).frame
 
   -- the two calls, by the levels that the memory's record says,
-  first : map_page_of m root v p w u ≡ out (Value 0) one
+  first : map_page_of m root v p w u ≡ out (Ok 0) one
   first = let top : above_last m ≡ up = omega (arith, o.levels) in rw top one_put
 
-  second : map_page_of one root v' p' w' true ≡ out (Value 0) two
+  second : map_page_of one root v' p' w' true ≡ out (Ok 0) two
   second = let top : above_last one ≡ up = omega (arith, order.levels) in rw top two_put
 
   -- are both met, and the second page translates
   both_mapped : let a = map_page_of m root v p w u in let b = map_page_of a.mem root v' p' w' true in
-      (a.walked ≡ Value 0) × (b.walked ≡ Value 0) × (translate_in (suc up) b.mem root v' ≡ Value (addr_of p' + v' % 2 ^ 12))
+      (a.walked ≡ Ok 0) × (b.walked ≡ Ok 0) × (translate_in (suc up) b.mem root v' ≡ Ok (addr_of p' + v' % 2 ^ 12))
   both_mapped = rw (first, second) (refl, refl, two_translates)
 
 -- ---- the fresh board
 
 -- it has one frame taken
-one_taken : (old fresh : Board) (from to levels : ℕ) → start old from to levels ≡ board_did (Value 0) fresh → fresh.mem.frames.fa.allocated ≡ 1
+one_taken : (old fresh : Board) (from to levels : ℕ) → start old from to levels ≡ board_did (Ok 0) fresh → fresh.mem.frames.fa.allocated ≡ 1
 unfolding with_mark
 one_taken old fresh from to levels =
-    start_cases old from to levels (λ (d : BoardDid). d ≡ board_did (Value 0) fresh → fresh.mem.frames.fa.allocated ≡ 1)
+    start_cases old from to levels (λ (d : BoardDid). d ≡ board_did (Ok 0) fresh → fresh.mem.frames.fa.allocated ≡ 1)
     (λ _ _ _ _ _ e. ap (λ (d : BoardDid). d.board.mem.frames.fa.allocated) (sym e)) (λ e. absurd (nowhere (ap (λ (d : BoardDid). d.answer) e)))
     (λ e. absurd (nowhere (ap (λ (d : BoardDid). d.answer) e)))
 
 -- so it has room for the tables of one way, whoever the first page is for
-pub fresh_mapped : (old fresh : Board) (from to levels : ℕ) → start old from to levels ≡ board_did (Value 0) fresh → levels ≤ total_of fresh.mem
+pub fresh_mapped : (old fresh : Board) (from to levels : ℕ) → start old from to levels ≡ board_did (Ok 0) fresh → levels ≤ total_of fresh.mem
     → (v p : ℕ) (w u : Bool) (v' p' : ℕ) (w' : Bool) → v / 2 ^ 21 ≡ v' / 2 ^ 21 → (v / 2 ^ 12 ≡ v' / 2 ^ 12 → ⊥)
     → let one = map_page_of fresh.mem fresh.root v p w u in let two = then_user_page one fresh.root v' p' w' in
-    (one.walked ≡ Value 0) × (two.walked ≡ Value 0) × (translate_in levels two.mem fresh.root v' ≡ Value (addr_of p' + v' % 2 ^ 12))
+    (one.walked ≡ Ok 0) × (two.walked ≡ Ok 0) × (translate_in levels two.mem fresh.root v' ≡ Ok (addr_of p' + v' % 2 ^ 12))
 fresh_mapped old fresh from to zero h enough = absurd (some_levels old fresh from to h)
 fresh_mapped old fresh from to (suc up) h enough =
     let i = (fresh_inv old fresh from to up h).paged in

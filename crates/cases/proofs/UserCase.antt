@@ -6,13 +6,12 @@ use mathlib.Core.List.Memᴰ
 use mathlib.Core.List.{[], ◌∷◌}
 use native.Mathlib.Omega.{arith}
 use lib.ListN.{length, get_or, take}
+use Rattle.std.specs.Prelude.{Ok}
 use Rattle.bits.specs.Bit.{flag}
 use Rattle.bits.proofs.Choice.{pick_cases}
 use Rattle.entry.specs.Entry.{entry_of, frame_of, index, indices}
 use Rattle.entry.proofs.Entry.{maps_entry}
 use Rattle.frame.specs.Frames.{is_levels}
-use Rattle.answer.specs.declared.Outcome.TheVariants.{Value}
-use Rattle.answer.specs.declared.FlagAnswer.TheVariants.{Flag}
 use Rattle.paging.specs.Walk.{place}
 use Rattle.paging.specs.Map.{Memory, start_frame, total_of, Out}
 use Rattle.paging.specs.Calls.{whole, lent_walk, map_page}
@@ -37,9 +36,9 @@ page_kept up m root v p w u =
     pick_cases (λ (o : Out). KeptSpan m o.mem) (whole m root) _ _ (λ _. map_entry_kept u m root _ _ _) (λ _. record { start = refl; total = refl; words = refl })
 
 -- a record that is not broken, of a call that is met
-page_whole : (up : ℕ) (m : Memory) (root v p : ℕ) (w u : Bool) (x : ℕ) → (map_page up m root v p w u).walked ≡ Value x → whole m root ≡ true
+page_whole : (up : ℕ) (m : Memory) (root v p : ℕ) (w u : Bool) (x : ℕ) → (map_page up m root v p w u).walked ≡ Ok x → whole m root ≡ true
 unfolding map_page
-page_whole up m root v p w u x = pick_cases (λ (o : Out). o.walked ≡ Value x → whole m root ≡ true) (whole m root) _ _ (λ h _. h) (λ _ e. absurd (no_value (sym e)))
+page_whole up m root v p w u x = pick_cases (λ (o : Out). o.walked ≡ Ok x → whole m root ≡ true) (whole m root) _ _ (λ h _. h) (λ _ e. absurd (no_value (sym e)))
 
 -- ---- a memory in which nothing is reached but the root
 
@@ -52,13 +51,13 @@ module _ {m : Memory} {root k : ℕ} (o : Ordered m root (suc (suc k))) (bare : 
       by false e = e
       by true e =
           let w = get_or m.words (place (start_frame m) root i) 0 in
-          let there : reach_in m root (i ∷ []) ≡ Value (frame_of w) =
+          let there : reach_in m root (i ∷ []) ≡ Ok (frame_of w) =
           reach_on m.words (start_frame m) (total_of m) root refl w (entry_in _ _ _ root i (root_inside o) small ∙ present_yes w e)
           ∙ reach_end m.words (start_frame m) (total_of m) (frame_of w) refl in
           absurd (Memᴰ.not-nil (bare.tables (i ∷ []) (frame_of w) (omega arith) (omega arith) there).1)
 
   -- a page that is mapped for the kernel makes its first entry the kernel's
-  first_made : (v p : ℕ) (w : Bool) (x : ℕ) → (map_page (suc k) m root v p w false).walked ≡ Value x → MadeFor false (map_page (suc k) m root v p w false).mem root (index (suc k) v)
+  first_made : (v p : ℕ) (w : Bool) (x : ℕ) → (map_page (suc k) m root v p w false).walked ≡ Ok x → MadeFor false (map_page (suc k) m root v p w false).mem root (index (suc k) v)
   first_made v p w x h =
       let e = map_is (suc k) m root v p w false (page_whole (suc k) m root v p w false x h) in
       subst (λ (q : Out). MadeFor false q.mem root (index (suc k) v)) (sym e)
@@ -70,13 +69,13 @@ module _ {m : Memory} {root k : ℕ} (o : Ordered m root (suc (suc k))) (bare : 
 
 -- the answer is no where the first entry of the walk is the kernel's
 no_by_first : (up : ℕ) (m : Memory) (root v e : ℕ) (write : Bool) → lent_walk (suc up) (length m.words) (start_frame m) (total_of m) root ≡ true
-    → Entered m root (index up v) e → flag 2 e ≡ false → user_may (suc up) m.words (start_frame m) (total_of m) root v write ≡ Flag false
+    → Entered m root (index up v) e → flag 2 e ≡ false → user_may (suc up) m.words (start_frame m) (total_of m) root v write ≡ Ok false
 no_by_first up m root v e write h first kernel =
     may_is (suc up) m.words (start_frame m) (total_of m) root v write h
-    ∙ ap Flag (user_none write m.words (start_frame m) (total_of m) root refl refl (rw (first.word, kernel)))
+    ∙ ap Ok (user_none write m.words (start_frame m) (total_of m) root refl refl (rw (first.word, kernel)))
 
-module _ (old fresh : Board) (from to k : ℕ) (h : start old from to (suc (suc k)) ≡ board_did (Value 0) fresh) (v p : ℕ) (w : Bool) (v' p' : ℕ) (w' : Bool)
-    (same : v / 2 ^ 21 ≡ v' / 2 ^ 21) (met : (kernel_page fresh v p w).walked ≡ Value 0) where
+module _ (old fresh : Board) (from to k : ℕ) (h : start old from to (suc (suc k)) ≡ board_did (Ok 0) fresh) (v p : ℕ) (w : Bool) (v' p' : ℕ) (w' : Bool)
+    (same : v / 2 ^ 21 ≡ v' / 2 ^ 21) (met : (kernel_page fresh v p w).walked ≡ Ok 0) where
   -- the memory that each call leaves
   abbrev one : Memory
   one = (kernel_page fresh v p w).mem
@@ -91,7 +90,7 @@ module _ (old fresh : Board) (from to k : ℕ) (h : start old from to (suc (suc 
   made =
       let o = (fresh_inv old fresh from to (suc k) h).paged.account.order in
       let top : suc k ≡ above_last fresh.mem = omega (arith, o.levels) in
-      subst (λ n. (map_page n fresh.mem fresh.root v p w false).walked ≡ Value 0 → MadeFor false (map_page n fresh.mem fresh.root v p w false).mem fresh.root (index (suc k) v))
+      subst (λ n. (map_page n fresh.mem fresh.root v p w false).walked ≡ Ok 0 → MadeFor false (map_page n fresh.mem fresh.root v p w false).mem fresh.root (index (suc k) v))
       top (first_made o (fresh_tidy old fresh from to (suc k) h).tabled v p w 0) met
 
   kernel_first : Entered two fresh.root (index (suc k) v') (entry_of (made.names * 2 ^ 12) true false)
@@ -107,7 +106,7 @@ module _ (old fresh : Board) (from to k : ℕ) (h : start old from to (suc (suc 
       ∙ rw (b.words ∙ a.words, b.start ∙ a.start, b.total ∙ a.total)
       (whole_lent fresh.mem fresh.root (page_whole (above_last fresh.mem) fresh.mem fresh.root v p w false 0 met))
 
-  unreached_by : (write : Bool) → user_may (suc (suc k)) two.words (start_frame two) (total_of two) fresh.root v' write ≡ Flag false
+  unreached_by : (write : Bool) → user_may (suc (suc k)) two.words (start_frame two) (total_of two) fresh.root v' write ≡ Ok false
   unreached_by write = no_by_first (suc k) two fresh.root v' _ write two_lent kernel_first (maps_entry (made.names * 2 ^ 12) true false).user
 
 pub user_case : UserCase
@@ -116,13 +115,13 @@ user_case = record {
   unreached = λ old fresh from to levels. by old fresh from to levels;
 }
   where
-    few : (old fresh : Board) (from to : ℕ) → start old from to 1 ≡ board_did (Value 0) fresh → ⊥
+    few : (old fresh : Board) (from to : ℕ) → start old from to 1 ≡ board_did (Ok 0) fresh → ⊥
     few old fresh from to h = false≢true (met_levels old fresh from to 1 h)
 
-    by : (old fresh : Board) (from to levels : ℕ) → start old from to levels ≡ board_did (Value 0) fresh
-        → (v p : ℕ) (w : Bool) (v' p' : ℕ) (w' : Bool) → v / 2 ^ 21 ≡ v' / 2 ^ 21 → (kernel_page fresh v p w).walked ≡ Value 0
+    by : (old fresh : Board) (from to levels : ℕ) → start old from to levels ≡ board_did (Ok 0) fresh
+        → (v p : ℕ) (w : Bool) (v' p' : ℕ) (w' : Bool) → v / 2 ^ 21 ≡ v' / 2 ^ 21 → (kernel_page fresh v p w).walked ≡ Ok 0
         → let m = (then_user_page (kernel_page fresh v p w) fresh.root v' p' w').mem in
-        (write : Bool) → user_may levels m.words (start_frame m) (total_of m) fresh.root v' write ≡ Flag false
+        (write : Bool) → user_may levels m.words (start_frame m) (total_of m) fresh.root v' write ≡ Ok false
     by old fresh from to zero h = absurd (some_levels old fresh from to h)
     by old fresh from to (suc zero) h = absurd (few old fresh from to h)
     by old fresh from to (suc (suc k)) h = unreached_by old fresh from to k h

@@ -1,16 +1,15 @@
 -- The copy of a copy-on-write page, and the two steps that demand paging shares with it: a frame taken, and a page mapped to it. A board has `up` levels above the last.
+use Rattle.std.specs.Prelude.{Ok, Err, Result}
+use Rattle.answer.specs.declared.Refusal.{Refusal}
+use Rattle.answer.specs.declared.Refusal.TheVariants.{PageTableError}
+use Rattle.address.specs.declared.Frame.{Frame}
 use Rattle.std.specs.Prelude.{ℕ, zero, suc, ◌*◌, ◌/◌, ◌^◌, Bool, true, false, List, get_or, set}
 use Rattle.bits.specs.Bit.{unless}
-use Rattle.answer.specs.Numbers.{page_table_error}
 use Rattle.answer.specs.Outcomes.{and_then}
-use Rattle.address.specs.declared.FrameAnswer.{FrameAnswer}
-use Rattle.address.specs.declared.FrameAnswer.TheVariants.{AtFrame, NoFrame}
 use Rattle.entry.specs.Entry.{entry_of, indices}
 use Rattle.frame.specs.declared.Tally.{Tally}
 use Rattle.frame.specs.Frames.{Frames, inside, take_frame}
 use Rattle.frame.specs.Found.{none_found}
-use Rattle.answer.specs.declared.Outcome.{Outcome}
-use Rattle.answer.specs.declared.Outcome.TheVariants.{Value, Stop}
 use Rattle.paging.specs.Walk.{place, leaf, address}
 use Rattle.paging.specs.Map.{Memory, memory, start_frame, total_of, Out, out, go_on}
 use Rattle.paging.specs.Calls.{map_at}
@@ -20,17 +19,17 @@ use Rattle.paging.specs.declared.Entered.{Entered}
 use Rattle.paging.specs.Kept.{lent_memory}
 
 -- a frame taken as it is, unzeroed; 11 where there is none
-abbrev pub as_taken : Memory → FrameAnswer → Frames → Out
-as_taken m (AtFrame f) fr = out (Value f.0) (memory m.words fr)
-as_taken m (NoFrame n) fr = out (Stop n) (memory m.words fr)
+abbrev pub as_taken : Memory → Result Frame Refusal → Frames → Out
+as_taken m (Ok f) fr = out (Ok f.0) (memory m.words fr)
+as_taken m (Err n) fr = out (Err n) (memory m.words fr)
 
 unfoldable pub raw_frame : Memory → Out
 raw_frame m = as_taken m (take_frame m.frames).answer (take_frame m.frames).frames
 
 -- '18 mapping failed, by 11, 12 or 19, in the first fault path'
-abbrev pub only_error : Outcome → Outcome
-only_error (Value x) = Value x
-only_error (Stop n) = Stop page_table_error
+abbrev pub only_error : Result ℕ Refusal → Result ℕ Refusal
+only_error (Ok x) = Ok x
+only_error (Err n) = Err PageTableError
 
 abbrev pub or_table_error : Out → Out
 or_table_error o = out (only_error o.walked) o.mem
@@ -46,13 +45,13 @@ abbrev pub temporary : ℕ
 temporary = 0xFFFF_FFFF_FFFF_0000
 
 -- where `translate` puts an address
-abbrev pub translated : ℕ → Memory → ℕ → ℕ → Outcome
+abbrev pub translated : ℕ → Memory → ℕ → ℕ → Result ℕ Refusal
 translated up m root v = address v (leaf m.words (start_frame m) (total_of m) root (indices (suc up) v))
 
 -- 'unmap that page if mapped'
-abbrev pub cleared_if : Outcome → ℕ → Memory → ℕ → ℕ → Memory
-cleared_if (Value a) up m root v = clear_page up m root v
-cleared_if (Stop n) up m root v = m
+abbrev pub cleared_if : Result ℕ Refusal → ℕ → Memory → ℕ → ℕ → Memory
+cleared_if (Ok a) up m root v = clear_page up m root v
+cleared_if (Err n) up m root v = m
 
 abbrev pub cleared_if_mapped : ℕ → Memory → ℕ → ℕ → Memory
 cleared_if_mapped up m root v = cleared_if (translated up m root v) up m root v
@@ -63,11 +62,11 @@ copy_words ws from to zero = ws
 copy_words ws from to (suc n) = copy_words (set ws to (get_or ws from 0)) (suc from) (suc to) n
 
 -- the words of the frame at address a, copied to frame f; '18 .. the page to copy is not in a lent frame'
-abbrev pub copied : Memory → Outcome → ℕ → Out
-copied m (Value a) f =
-    unless (inside (start_frame m) (total_of m) (a / 4096)) (out (Stop page_table_error) m)
-    (out (Value 0) (memory (copy_words m.words (place (start_frame m) (a / 4096) 0) (place (start_frame m) f 0) 512) m.frames))
-copied m (Stop n) f = out (Stop page_table_error) m
+abbrev pub copied : Memory → Result ℕ Refusal → ℕ → Out
+copied m (Ok a) f =
+    unless (inside (start_frame m) (total_of m) (a / 4096)) (out (Err PageTableError) m)
+    (out (Ok 0) (memory (copy_words m.words (place (start_frame m) (a / 4096) 0) (place (start_frame m) f 0) 512) m.frames))
+copied m (Err n) f = out (Err PageTableError) m
 
 -- .. of the frame that page v is mapped to
 abbrev pub copied_from : ℕ → Memory → ℕ → ℕ → ℕ → Out

@@ -13,8 +13,8 @@ ghost use Rattle.paging.specs.Kept.{lent_memory};
 ghost use Rattle.copying.specs.Copying.{out_of, raw_frame, map_frame, cleared_if_mapped, copy_words, copied_from, copy_page, remapped, copy_to, copy_on_write};
 ghost use Rattle.copying.specs.Copying.{remap_found, copy_to_found, copy_found};
 
-use address::{Frame, FrameAnswer, PhysAddr, PhysAnswer, VirtAddr};
-use answer::{Answer, Outcome};
+use address::{Frame, PhysAddr, VirtAddr};
+use answer::Refusal;
 use entry::paging::PageTableEntry;
 use frame::{FrameAllocator, Marks, Tally, tallies};
 use paging::Entered;
@@ -25,26 +25,25 @@ pub const TEMP_MAP_ADDR: u64 = 0xFFFF_FFFF_FFFF_0000;
 // What a copy comes to, beside what the old frame was found to be and the record that is left.
 #[derive(Clone, Copy)]
 pub struct Copied {
-    pub walked: Outcome,
+    pub walked: Result<u64, Refusal>,
     pub found: Tally,
     pub frames: FrameAllocator,
 }
 
 // The lowest free frame, as it is.
+#[tactic(auto, unfolding(crate::specs::Copying::raw_frame))]
 pub fn raw_frame(bitmap: &mut Marks, frames: FrameAllocator) -> Entered
     requires { RoomToCount frames 1 }
     ensures { (ws : List ℕ) → out_of result ws bitmap.new ≡ raw_frame (lent_memory ws bitmap.old frames) }
 {
-    let taken = frame::inner::take_frame(bitmap, frames);
-    let answer = taken.answer;
-    let left = taken.frames;
-    match answer {
-        FrameAnswer::NoFrame(n) => Entered {
-            walked: Outcome::Stop(n),
+    let mut left = frames;
+    match frame::inner::take_frame(bitmap, &mut left) {
+        Err(n) => Entered {
+            walked: Err(n),
             frames: left,
         },
-        FrameAnswer::AtFrame(f) => Entered {
-            walked: Outcome::Value(f.0),
+        Ok(f) => Entered {
+            walked: Ok(f.0),
             frames: left,
         },
     }
@@ -73,12 +72,12 @@ pub fn map_frame(
     let answer = mapped.answer;
     let left = mapped.frames;
     match answer {
-        Answer::Met => Entered {
-            walked: Outcome::Value(0),
+        Ok(()) => Entered {
+            walked: Ok(0),
             frames: left,
         },
-        Answer::Refused(_) => Entered {
-            walked: Outcome::Stop(answer::PAGE_TABLE_ERROR),
+        Err(_) => Entered {
+            walked: Err(Refusal::PageTableError),
             frames: left,
         },
     }
@@ -103,10 +102,10 @@ fn clear_if_mapped(words: &mut [u64], frames: FrameAllocator, up: u64, root: Fra
         ≡ cleared_if_mapped up (lent_memory words.old b frames) root.0 virt.0 }
 {
     match walk::walk(words, frames.start, frames.total, up + 1, root, virt) {
-        PhysAnswer::AtPhys(_) => {
+        Ok(_) => {
             pages::clear_page(words, frames, up, root, virt);
         }
-        PhysAnswer::NoPhys(_) => {}
+        Err(_) => {}
     }
 }
 
@@ -118,7 +117,7 @@ fn copy_from(
     root: Frame,
     page: VirtAddr,
     f: u64,
-) -> Outcome
+) -> Result<u64, Refusal>
     requires words_lent { WordsLent words.old frames.start frames.total }
     requires f_value { inside frames.start frames.total f ≡ true }
     requires up_le_most_above { up ≤ most_above }
@@ -126,16 +125,16 @@ fn copy_from(
         ≡ copied_from up (lent_memory words.old b frames) root.0 page.0 f }
 {
     match walk::walk(words, frames.start, frames.total, up + 1, root, page) {
-        PhysAnswer::NoPhys(_) => Outcome::Stop(answer::PAGE_TABLE_ERROR),
-        PhysAnswer::AtPhys(a) => {
+        Err(_) => Err(Refusal::PageTableError),
+        Ok(a) => {
             let old = Frame::containing_address(a.0).0;
             if !frame::inner::is_inside(frames.start, frames.total, old) {
-                return Outcome::Stop(answer::PAGE_TABLE_ERROR);
+                return Err(Refusal::PageTableError);
             }
             let from = walk::entry_place(frames.start, old, 0);
             let to = walk::entry_place(frames.start, f, 0);
             copy_words(words, from, to);
-            Outcome::Value(0)
+            Ok(0)
         }
     }
 }
@@ -162,11 +161,11 @@ fn copy_page(
     let walked = mapped.walked;
     let left = mapped.frames;
     match walked {
-        Outcome::Stop(n) => Entered {
-            walked: Outcome::Stop(n),
+        Err(n) => Entered {
+            walked: Err(n),
             frames: left,
         },
-        Outcome::Value(_) => {
+        Ok(_) => {
             let copied = copy_from(words, left, up, root, page, f);
             pages::clear_page(words, left, up, root, temp);
             Entered {
@@ -178,12 +177,12 @@ fn copy_page(
 }
 
 // A tally where the step was met, and none where it was refused.
-fn if_met(walked: Outcome, found: Tally) -> Tally
+fn if_met(walked: Result<u64, Refusal>, found: Tally) -> Tally
     ensures { result ≡ and_then walked (λ _. none_found) (λ _. found) }
 {
     match walked {
-        Outcome::Stop(_) => tallies::none(),
-        Outcome::Value(_) => found,
+        Err(_) => tallies::none(),
+        Ok(_) => found,
     }
 }
 
@@ -238,12 +237,12 @@ pub fn copy_on_write(
     let walked = taken.walked;
     let left = taken.frames;
     match walked {
-        Outcome::Stop(n) => Copied {
-            walked: Outcome::Stop(n),
+        Err(n) => Copied {
+            walked: Err(n),
             found: tallies::none(),
             frames: left,
         },
-        Outcome::Value(f) => copy_to(words, bitmap, left, up, root, page, f, user),
+        Ok(f) => copy_to(words, bitmap, left, up, root, page, f, user),
     }
 }
 
@@ -269,11 +268,11 @@ fn copy_to(
     let walked = copied.walked;
     let left = copied.frames;
     match walked {
-        Outcome::Stop(n) => Copied {
-            walked: Outcome::Stop(n),
+        Err(n) => Copied {
+            walked: Err(n),
             found: tallies::none(),
             frames: left,
         },
-        Outcome::Value(_) => remap_page(words, bitmap, left, up, root, page, f, user),
+        Ok(_) => remap_page(words, bitmap, left, up, root, page, f, user),
     }
 }

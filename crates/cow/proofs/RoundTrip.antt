@@ -88,12 +88,12 @@ module _ (bs : List ℕ) (fit : marked_fit bs ≡ true) (b : Bytes bs) where
 zeros_fit : (n : ℕ) → Words (replicate n 0)
 zeros_fit n i = omega (arith, zero_at {A = ℕ} 0 n i)
 
-zeros_out : pack (replicate 257 0) ≡ marked_out no_pages
-unfolding pack
+zeros_out : replicate 2056 0 ≡ marked_out no_pages
+unfolding pack bytes
 zeros_out = refl
 
--- once 257 zeros are packed
-pub started : {bs : List ℕ} → bs ≡ pack (replicate 257 0) → (bs ≡ marked_out no_pages) × ((marked_in bs ≡ no_pages) × (marked_fit bs ≡ true))
+-- once the bytes are zero
+pub started : {bs : List ℕ} → bs ≡ replicate 2056 0 → (bs ≡ marked_out no_pages) × ((marked_in bs ≡ no_pages) × (marked_fit bs ≡ true))
 started e =
     let long : length no_pages.slots ≡ 256 = length-replicate {A = ℕ} 256 0 in
     let o = e ∙ zeros_out in

@@ -1,11 +1,9 @@
 -- The pages marked copy-on-write, document 01's '256 copy-on-write pages', sorted; and the three calls on them.
+use Rattle.std.specs.Prelude.{Ok, Err, Result, ⊤}
+use Rattle.answer.specs.declared.Refusal.{Refusal}
+use Rattle.answer.specs.declared.Refusal.TheVariants.{BrokenRecord, ListFull}
 use Rattle.std.specs.Prelude.{ℕ, ◌*◌, ◌/◌, Bool, false, List, leb, length, replicate}
 use Rattle.bits.specs.Bit.{pick, unless, both}
-use Rattle.answer.specs.Numbers.{broken_record, list_full}
-use Rattle.answer.specs.declared.Answer.{Answer}
-use Rattle.answer.specs.declared.Answer.TheVariants.{Met, Refused}
-use Rattle.answer.specs.declared.FlagAnswer.{FlagAnswer}
-use Rattle.answer.specs.declared.FlagAnswer.TheVariants.{Flag, NoFlag}
 use Rattle.slots.specs.Slots.{Slots, slotted, listed, store}
 use Rattle.slots.specs.Sorted.{rising_from, has_key, insert, remove}
 
@@ -31,10 +29,10 @@ abbrev pub store_pages : List ℕ → Slots ℕ → Slots ℕ
 store_pages l s = store 0 l s
 
 pub record MarkedDid : Type 0 where
-  pub answer : Answer
+  pub answer : Result ⊤ Refusal
   pub marked : Slots ℕ
 
-abbrev pub marked_did : Answer → Slots ℕ → MarkedDid
+abbrev pub marked_did : Result ⊤ Refusal → Slots ℕ → MarkedDid
 marked_did a s = record { answer = a; marked = s }
 
 -- '20: .. marked pages are full and the key is not among them'
@@ -43,15 +41,15 @@ full_of_pages s v = pick (has_key page_key v (listed s)) false (leb 256 (length 
 
 unfoldable pub mark_cow : Slots ℕ → ℕ → MarkedDid
 mark_cow s a =
-    unless (sound_marked s) (marked_did (Refused broken_record) s)
-    (pick (full_of_pages s (page_of a)) (marked_did (Refused list_full) s)
-    (marked_did Met (store_pages (insert page_key (page_of a) (listed s)) s)))
+    unless (sound_marked s) (marked_did (Err BrokenRecord) s)
+    (pick (full_of_pages s (page_of a)) (marked_did (Err ListFull) s)
+    (marked_did (Ok tt) (store_pages (insert page_key (page_of a) (listed s)) s)))
 
 -- met also where the page is not marked
 unfoldable pub unmark_cow : Slots ℕ → ℕ → MarkedDid
 unmark_cow s a =
-    unless (sound_marked s) (marked_did (Refused broken_record) s)
-    (marked_did Met (store_pages (remove page_key (page_of a) (listed s)) s))
+    unless (sound_marked s) (marked_did (Err BrokenRecord) s)
+    (marked_did (Ok tt) (store_pages (remove page_key (page_of a) (listed s)) s))
 
-unfoldable pub is_cow : Slots ℕ → ℕ → FlagAnswer
-is_cow s a = unless (sound_marked s) (NoFlag broken_record) (Flag (has_key page_key (page_of a) (listed s)))
+unfoldable pub is_cow : Slots ℕ → ℕ → Result Bool Refusal
+is_cow s a = unless (sound_marked s) (Err BrokenRecord) (Ok (has_key page_key (page_of a) (listed s)))

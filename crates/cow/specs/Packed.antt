@@ -1,9 +1,9 @@
 -- The marked pages as packed bytes (docs/LAYOUT.md), and the calls on them.
+use Rattle.std.specs.Prelude.{Err, Result, ⊤}
+use Rattle.answer.specs.declared.Refusal.{Refusal}
+use Rattle.answer.specs.declared.Refusal.TheVariants.{BrokenRecord}
 use Rattle.std.specs.Prelude.{ℕ, ◌≡◌, Bool, true, List, ◌++◌, eqb, length, drop}
 use Rattle.bits.specs.Bit.{unless}
-use Rattle.answer.specs.Numbers.{broken_record}
-use Rattle.answer.specs.declared.Answer.{Answer}
-use Rattle.answer.specs.declared.Answer.TheVariants.{Refused}
 use Rattle.packed.specs.Words.{number, bytes, pack, unpack}
 use Rattle.slots.specs.Slots.{Slots, slotted}
 use Rattle.cow.specs.Marked.{MarkedDid}
@@ -26,16 +26,16 @@ marked_fit bs = eqb (length bs) marked_size
 
 -- an answer, and the bytes afterwards
 pub record MarkedBytes : Type 0 where
-  pub answer : Answer
+  pub answer : Result ⊤ Refusal
   pub list : List ℕ
 
-abbrev pub marked_bytes : Answer → List ℕ → MarkedBytes
+abbrev pub marked_bytes : Result ⊤ Refusal → List ℕ → MarkedBytes
 marked_bytes a l = record { answer = a; list = l }
 
 -- a call on the pages that packed bytes stand for, and what it leaves packed again; 10 and nothing changed where they stand for none
 unfoldable pub on_marked : (Slots ℕ → MarkedDid) → List ℕ → MarkedBytes
 on_marked call list =
-    unless (marked_fit list) (marked_bytes (Refused broken_record) list)
+    unless (marked_fit list) (marked_bytes (Err BrokenRecord) list)
     (let d = call (marked_in list) in marked_bytes d.answer (marked_out d.marked))
 
 -- bytes that stood for pages stand for those that the call leaves

@@ -3,15 +3,16 @@
 
 pub mod list;
 
+ghost use Rattle.answer.specs.declared.Refusal.TheVariants.{BrokenRecord};
 ghost use Rattle.std.specs.Prelude.{◌≡◌};
 ghost use Rattle.bits.specs.Bit.{unless};
-ghost use Rattle.answer.specs.Numbers.{broken_record};
-ghost use Rattle.answer.specs.declared.FlagAnswer.TheVariants.{NoFlag};
 ghost use Rattle.cow.specs.Marked.{page_of, mark_cow, unmark_cow, is_cow};
 ghost use Rattle.cow.specs.Packed.{marked_in, marked_fit, marked_bytes, on_marked, MarkedReads};
 
 use address::VirtAddr;
-use answer::{Answer, FlagAnswer};
+use answer::Refusal;
+use list::Marked;
+use slots::SlotList;
 
 // The most pages that are marked copy-on-write.
 pub const MAX_COW_PAGES: usize = 256;
@@ -27,43 +28,41 @@ pub fn page_of(addr: VirtAddr) -> VirtAddr
 }
 
 // Marks a page copy-on-write: 20 where 256 others are.
-pub fn mark_cow(marked: &mut [u8], addr: VirtAddr) -> Answer
+pub fn mark_cow(marked: &mut [u8], addr: VirtAddr) -> Result<(), Refusal>
     ensures marked_after { marked_bytes result marked.new ≡ on_marked (λ s. mark_cow s addr.0) marked.old }
     ensures marked_reads { MarkedReads (λ s. mark_cow s addr.0) marked.old marked.new }
 {
     if !list::is_sound(marked) {
-        return Answer::Refused(answer::BROKEN_RECORD);
+        return Err(Refusal::BrokenRecord);
     }
     let page = page_of(addr).0;
-    let n = list::count(marked) as usize;
-    let at = list::place_of(marked, n, page);
-    if list::stands_at(marked, n, at, page) {
-        return Answer::Met;
+    match list::find(marked, page) {
+        Ok(_) => Ok(()),
+        Err(_) if Marked::count(marked) >= MAX_COW_PAGES => Err(Refusal::ListFull),
+        Err(at) => {
+            slots::put_in::<Marked>(marked, at, page);
+            Ok(())
+        }
     }
-    if n >= MAX_COW_PAGES {
-        return Answer::Refused(answer::LIST_FULL);
-    }
-    list::put_in(marked, n, at, page);
-    Answer::Met
 }
 
 // Met also where the page is not marked.
-pub fn unmark_cow(marked: &mut [u8], addr: VirtAddr) -> Answer
+pub fn unmark_cow(marked: &mut [u8], addr: VirtAddr) -> Result<(), Refusal>
     ensures marked_after { marked_bytes result marked.new ≡ on_marked (λ s. unmark_cow s addr.0) marked.old }
     ensures marked_reads { MarkedReads (λ s. unmark_cow s addr.0) marked.old marked.new }
 {
     if !list::is_sound(marked) {
-        return Answer::Refused(answer::BROKEN_RECORD);
+        return Err(Refusal::BrokenRecord);
     }
     list::unmark(marked, page_of(addr).0);
-    Answer::Met
+    Ok(())
 }
 
-pub fn is_cow(marked: &[u8], addr: VirtAddr) -> FlagAnswer
-    ensures { result ≡ unless (marked_fit marked.now) (NoFlag broken_record) (is_cow (marked_in marked.now) addr.0) }
+pub fn is_cow(marked: &[u8], addr: VirtAddr) -> Result<bool, Refusal>
+    ensures { result ≡ unless (marked_fit marked.now) (Err BrokenRecord) (is_cow (marked_in marked.now) addr.0) }
 {
     if !list::is_sound(marked) {
-        return FlagAnswer::NoFlag(answer::BROKEN_RECORD);
+        return Err(Refusal::BrokenRecord);
     }
-    FlagAnswer::Flag(list::is_listed(marked, page_of(addr).0))
+    Ok(list::is_listed(marked, page_of(addr).0))
 }

@@ -5,14 +5,13 @@ use mathlib.Core.Bool.{Bool, true, false}
 use mathlib.Core.List.{List}
 use lib.Dec.{eqb}
 use lib.ListN.{length}
+use Rattle.std.specs.Prelude.{Ok, Err, Result, ⊤}
+use Rattle.answer.specs.declared.Refusal.{Refusal}
+use Rattle.answer.specs.declared.Refusal.TheVariants.{BrokenRecord}
 use Rattle.bits.specs.Bit.{unless, both}
-use Rattle.answer.specs.Numbers.{broken_record, answer_line}
+use Rattle.answer.specs.Numbers.{answer_line}
 use Rattle.answer.specs.Outcomes.{as_answer}
-use Rattle.answer.specs.declared.Answer.{Answer}
-use Rattle.answer.specs.declared.Answer.TheVariants.{Met, Refused}
 use Rattle.answer.specs.declared.Line.{Line}
-use Rattle.answer.specs.declared.Outcome.{Outcome}
-use Rattle.answer.specs.declared.Outcome.TheVariants.{Value, Stop}
 use Rattle.vm_list.specs.Packed.{vm_size}
 use Rattle.mappings.specs.Packed.{mmap_fit}
 use Rattle.cow.specs.Packed.{marked_fit}
@@ -55,14 +54,14 @@ module _ (words fields bits : List ℕ) (root : ℕ) (kernel user marked : List 
     abbrev given : BoardBytes
     given = board_bytes words bits kernel user marked none
 
-    started : (a : Answer) → may_start (length words) from to levels ≡ a
+    started : (a : Result ⊤ Refusal) → may_start (length words) from to levels ≡ a
         → let d = start (board_in given) from to levels in wrote (packed_by given d.answer d.board) ≡ start_left lent (start (board_of_parts lent) from to levels)
-    started Met e = rw (start_met (board_in given) from to levels e, start_met (board_of_parts lent) from to levels e) refl
-    started (Refused n) e = rw (start_stopped (board_in given) from to levels n e, start_stopped (board_of_parts lent) from to levels n e) refl
+    started (Ok tt) e = rw (start_met (board_in given) from to levels e, start_met (board_of_parts lent) from to levels e) refl
+    started (Err n) e = rw (start_stopped (board_in given) from to levels n e, start_stopped (board_of_parts lent) from to levels n e) refl
 
     tested : (ok : Bool) → fields_fit fields ≡ true
         → let d = start (board_in given) from to levels in
-        wrote (unless ok (record { answer = Refused broken_record; board = given }) (packed_by given d.answer d.board))
+        wrote (unless ok (record { answer = Err BrokenRecord; board = given }) (packed_by given d.answer d.board))
         ≡ unless_fit (both (fields_fit fields) ok) lent (start_left lent (start (board_of_parts lent) from to levels))
     tested true fit = rw fit (started (may_start (length words) from to levels) refl)
     tested false fit = rw fit refl
@@ -80,6 +79,6 @@ module _ (words fields bits : List ℕ) (root : ℕ) (kernel user marked : List 
   unfolding packed_start
   start_refused = unchanged_left no_leftovers (board_fit lent) lent _ (λ _. by (start (board_of_parts lent) from to levels).answer)
     where
-      by : (w : Outcome) → IsRefusal no_leftovers (plain_line w).number → left_of (as_answer w) lent (board_packed (start (board_of_parts lent) from to levels).board) ≡ lent
-      by (Value x) h = absurd (h refl)
-      by (Stop n) h = refl
+      by : (w : Result ℕ Refusal) → IsRefusal no_leftovers (plain_line w).number → left_of (as_answer w) lent (board_packed (start (board_of_parts lent) from to levels).board) ≡ lent
+      by (Ok x) h = absurd (h refl)
+      by (Err n) h = refl

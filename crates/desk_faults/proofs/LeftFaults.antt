@@ -4,15 +4,14 @@ use mathlib.Core.Path.{◌≡◌, refl, ◌∙◌, ap, subst}
 use mathlib.Core.Bool.{Bool, true, false}
 use mathlib.Core.List.{List}
 use lib.ListN.{get_or, take}
+use Rattle.std.specs.Prelude.{Ok, Err, Result, ⊤}
+use Rattle.answer.specs.declared.Refusal.{Refusal}
+use Rattle.answer.specs.declared.Refusal.TheVariants.{BrokenRecord, NoFreeFrame}
+use Rattle.address.specs.declared.Frame.{Frame}
 use Rattle.bits.specs.Bit.{pick, unless, both}
 use Rattle.bits.proofs.Choice.{pick_cases, both_true}
-use Rattle.answer.specs.Numbers.{broken_record, no_free_frame, answer_line, flag_line}
-use Rattle.answer.specs.declared.Answer.{Answer}
-use Rattle.answer.specs.declared.Answer.TheVariants.{Refused}
-use Rattle.answer.specs.declared.FlagAnswer.{FlagAnswer}
-use Rattle.answer.specs.declared.FlagAnswer.TheVariants.{NoFlag}
+use Rattle.answer.specs.Numbers.{answer_line, flag_line}
 use Rattle.answer.specs.declared.Line.{Line}
-use Rattle.address.specs.declared.FrameAnswer.{FrameAnswer}
 use Rattle.entry.specs.Entry.{entry_of, indices}
 use Rattle.packed.proofs.RoundTrip.{Bytes}
 use Rattle.frame.specs.declared.FrameAllocator.{FrameAllocator}
@@ -21,8 +20,6 @@ use Rattle.frame.specs.declared.TallyLine.{TallyLine}
 use Rattle.frame.specs.Frames.{FramesDid, inside, with_mark}
 use Rattle.frame.specs.Found.{none_found, tally_line, tally_of}
 use Rattle.frame.proofs.Laws.{take_cases}
-use Rattle.answer.specs.declared.Outcome.{Outcome}
-use Rattle.answer.specs.declared.Outcome.TheVariants.{Value, Stop}
 use Rattle.paging.specs.Levels.{above_last}
 use Rattle.paging.specs.Map.{Memory, memory, start_frame, total_of, Out, out, go_on, make}
 use Rattle.paging.specs.Calls.{whole, map_at}
@@ -54,7 +51,7 @@ told_of told true a b = refl
 told_of told false a b = refl
 
 module _ (call : Slots ℕ → MarkedDid) (marked : List ℕ) where
-  pub marked_did_lem : {x : Answer} {ms : List ℕ} {r : Line} → marked_bytes x ms ≡ on_marked call marked → r ≡ answer_line x → left r ms ≡ left_marked call marked
+  pub marked_did_lem : {x : Result ⊤ Refusal} {ms : List ℕ} {r : Line} → marked_bytes x ms ≡ on_marked call marked → r ≡ answer_line x → left r ms ≡ left_marked call marked
   unfolding on_marked left_marked
   marked_did_lem {ms = ms} e r =
       (λ j. left (r j) ms) ∙ ap (λ (d : MarkedBytes). left (answer_line d.answer) d.list) e
@@ -65,7 +62,7 @@ module _ (call : Slots ℕ → MarkedDid) (marked : List ℕ) where
   unfolding left_marked
   marked_unchanged b law = unchanged_left no_leftovers (marked_fit marked) marked _ (λ fit n. ap marked_out (law _ n) ∙ marked_back marked fit b)
 
-pub cow_did : (marked : List ℕ) (addr : ℕ) {x : FlagAnswer} {r : Line} → x ≡ unless (marked_fit marked) (NoFlag broken_record) (is_cow (marked_in marked) addr) → r ≡ flag_line x
+pub cow_did : (marked : List ℕ) (addr : ℕ) {x : Result Bool Refusal} {r : Line} → x ≡ unless (marked_fit marked) (Err BrokenRecord) (is_cow (marked_in marked) addr) → r ≡ flag_line x
     → r ≡ packed_is_cow marked addr
 cow_did marked addr e r = r ∙ ap flag_line e ∙ told_of flag_line (marked_fit marked) _ _
 
@@ -79,14 +76,14 @@ module _ (call : Faulting → FaultDid) (words fields bits marked : List ℕ) wh
   unfolding on_fault
   fault_broken h e = broken_left {ok = fault_fit fault_lent} fault_lent _ (rw h refl) e
 
-  pub fault_met : {ws fs ms : List ℕ} (bs : List ℕ) {f g : FrameAllocator} {x : Answer} {r : Line}
+  pub fault_met : {ws fs ms : List ℕ} (bs : List ℕ) {f g : FrameAllocator} {x : Result ⊤ Refusal} {r : Line}
       → fields_fit fields ≡ true → Bytes fields → f ≡ fields_in fields
       → kept x (lent_memory ws bs g) ms ≡ on_pages call (lent_memory words bits f) marked
       → r ≡ answer_line x → fs ≡ fields_out g → left r (list_parts ws fs bs ms) ≡ on_fault call fault_lent
   unfolding on_fault on_pages
-  fault_met = list_met answer_line words fields bits marked (λ (m : Memory). on_pages call m marked) (marked_fit marked) (Refused broken_record) _ refl refl
+  fault_met = list_met answer_line words fields bits marked (λ (m : Memory). on_pages call m marked) (marked_fit marked) (Err BrokenRecord) _ refl refl
 
-  fault_unchanged : (leftovers : List ℕ) → Bytes fields → Bytes marked
+  fault_unchanged : (leftovers : List Refusal) → Bytes fields → Bytes marked
       → ((s : Faulting) → IsRefusal leftovers (plain_line (call s).answer).number → (call s).state ≡ s)
       → Unchanged leftovers fault_lent (on_fault call fault_lent)
   unfolding on_fault
@@ -96,7 +93,7 @@ module _ (call : Faulting → FaultDid) (words fields bits marked : List ℕ) wh
       ap fault_packed (law _ n) ∙ (λ j. list_parts words (fields_same fields f.0 b j) bits (marked_back marked f.1 c j)))
 
 -- what it found
-module _ (words fields bits marked : List ℕ) (root addr code : ℕ) (a : Answer) {r : TallyLine} where
+module _ (words fields bits marked : List ℕ) (root addr code : ℕ) (a : Result ⊤ Refusal) {r : TallyLine} where
   pub fault_unfit_none : fields_fit fields ≡ false → r ≡ tally_line a none_found → tally_of r ≡ packed_fault_found (list_parts words fields bits marked) root addr code
   unfolding packed_fault_found
   fault_unfit_none h l = rw h (ap tally_of l)
@@ -131,20 +128,20 @@ module _ (marked : List ℕ) (b : Bytes marked) (addr : ℕ) where
 -- ---- refusals of the first path: 11 where no frame is left, and nothing changed; then 18 alone
 
 -- both outcomes of a frame taken as it is
-raw_cases : (m : Memory) (P : Out → Type 0) → ((j : ℕ) → P (out (Value (start_frame m + j)) (memory m.words (with_mark m.frames j)))) → P (out (Stop no_free_frame) m) → P (raw_frame m)
+raw_cases : (m : Memory) (P : Out → Type 0) → ((j : ℕ) → P (out (Ok (start_frame m + j)) (memory m.words (with_mark m.frames j)))) → P (out (Err NoFreeFrame) m) → P (raw_frame m)
 unfolding raw_frame
-raw_cases m P met none = take_cases m.frames (λ (d : FramesDid FrameAnswer). P (as_taken m d.answer d.frames)) (λ j _ _ _. met j) (λ _. none)
+raw_cases m P met none = take_cases m.frames (λ (d : FramesDid (Result Frame Refusal)). P (as_taken m d.answer d.frames)) (λ j _ _ _. met j) (λ _. none)
 
-error_listed : (w : Outcome) → Listed fault_leftovers (only_error w)
-error_listed (Value x) h = h.1 refl
-error_listed (Stop n) h = h.0 refl
+error_listed : (w : Result ℕ Refusal) → Listed fault_leftovers (only_error w)
+error_listed (Ok x) h = h.1 refl
+error_listed (Err n) h = h.0 refl
 
 frame_listed : (up : ℕ) (m : Memory) (root v f : ℕ) (w u : Bool) → Listed fault_leftovers (map_frame up m root v f w u).walked
 frame_listed up m root v f w u = error_listed (map_at up up u m root v (entry_of (f * 2 ^ 12) w u)).walked
 
-copied_listed : (m : Memory) (w : Outcome) (f : ℕ) → Listed fault_leftovers (copied m w f).walked
-copied_listed m (Stop n) f h = h.0 refl
-copied_listed m (Value a) f h =
+copied_listed : (m : Memory) (w : Result ℕ Refusal) (f : ℕ) → Listed fault_leftovers (copied m w f).walked
+copied_listed m (Err n) f h = h.0 refl
+copied_listed m (Ok a) f h =
     pick_cases (λ (o : Out). Listed fault_leftovers o.walked) (inside (start_frame m) (total_of m) (a / 4096)) _ _ (λ _ h. h.1 refl) (λ _ h. h.0 refl) h
 
 module _ (up root v : ℕ) where
@@ -186,9 +183,9 @@ module _ (up root v code : ℕ) (s : Faulting) where
   copy_clean =
       raw_cases s.mem (λ (o : Out). CleanStep (go_on o (λ f m'. copy_to up m' root v f (is_user code)))) (λ j h. absurd (copy_listed up root v _ _ (is_user code) h)) (λ _. refl)
 
-  unmarking_clean : (w : Outcome) (m : Memory) → CleanStep (out w m) → Clean (unmarking v s.marked (out w m))
-  unmarking_clean (Value x) m law h = absurd (h.1 refl)
-  unmarking_clean (Stop n) m law h = ap (λ (m : Memory). faulting m s.marked) (law h)
+  unmarking_clean : (w : Result ℕ Refusal) (m : Memory) → CleanStep (out w m) → Clean (unmarking v s.marked (out w m))
+  unmarking_clean (Ok x) m law h = absurd (h.1 refl)
+  unmarking_clean (Err n) m law h = ap (λ (m : Memory). faulting m s.marked) (law h)
 
   handled_clean : Clean (handled up s root v code)
   handled_clean =

@@ -1,8 +1,8 @@
 -- The board of all packed parts, and what a start leaves of them.
+use Rattle.std.specs.Prelude.{Ok, Err, Result, ⊤}
+use Rattle.answer.specs.declared.Refusal.{Refusal}
 use Rattle.std.specs.Prelude.{ℕ, Bool, List, eqb, length}
 use Rattle.bits.specs.Bit.{both}
-use Rattle.answer.specs.declared.Answer.{Answer}
-use Rattle.answer.specs.declared.Answer.TheVariants.{Met, Refused}
 use Rattle.bitmap.specs.Bitmap.{marks_in}
 use Rattle.answer.specs.Outcomes.{as_answer}
 use Rattle.paging.specs.Map.{memory}
@@ -52,9 +52,9 @@ board_packed b = record {
 }
 
 -- what only a met start writes
-abbrev pub left_of : {A : Type 0} → Answer → A → A → A
-left_of Met old new = new
-left_of (Refused n) old new = old
+abbrev pub left_of : {A : Type 0} → Result ⊤ Refusal → A → A → A
+left_of (Ok tt) old new = new
+left_of (Err n) old new = old
 
 abbrev pub start_left : BoardParts → BoardDid → Left BoardParts
 start_left p d = left (plain_line d.answer) (left_of (as_answer d.answer) p (board_packed d.board))

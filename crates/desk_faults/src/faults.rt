@@ -17,7 +17,7 @@ pub extern "C" fn gadulnos_mark_cow(marked: &mut [u8], addr: u64) -> Line
     ensures refused { Unchanged no_leftovers marked.old
         (left result marked.new) }
 {
-    answer::answer_line(cow::mark_cow(marked, VirtAddr(addr)))
+    answer::line_of(cow::mark_cow(marked, VirtAddr(addr)))
 }
 
 #[unsafe(no_mangle)]
@@ -27,14 +27,14 @@ pub extern "C" fn gadulnos_unmark_cow(marked: &mut [u8], addr: u64) -> Line
     ensures refused { Unchanged no_leftovers marked.old
         (left result marked.new) }
 {
-    answer::answer_line(cow::unmark_cow(marked, VirtAddr(addr)))
+    answer::line_of(cow::unmark_cow(marked, VirtAddr(addr)))
 }
 
 #[unsafe(no_mangle)]
 pub extern "C" fn gadulnos_is_cow(marked: &[u8], addr: u64) -> Line
     ensures { result ≡ packed_is_cow marked.now addr }
 {
-    answer::flag_line(cow::is_cow(marked, VirtAddr(addr)))
+    answer::line_of(cow::is_cow(marked, VirtAddr(addr)))
 }
 
 // The first path.
@@ -98,5 +98,5 @@ pub extern "C" fn gadulnos_handle_page_fault_second(
     let left = did.frames;
     let a = did.answer;
     parts::put_fields(fields, left);
-    answer::answer_line(a)
+    answer::line_of(a)
 }

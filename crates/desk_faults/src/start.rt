@@ -5,25 +5,25 @@ ghost use Rattle.layout.specs.Left.{left, Unchanged, no_leftovers};
 ghost use Rattle.desk_faults.specs.Board.{board_parts, left_of, packed_start};
 
 use address::Frame;
-use answer::{Answer, Line};
+use answer::{Line, Refusal};
 use board::Records;
 use frame::{FrameAllocator, Marks};
 use layout::parts;
 
 // The frame record and the root that a start leaves: only a met one writes them.
-fn put_records(fields: &mut [u8], root: &mut u64, a: Answer, left: Records)
+fn put_records(fields: &mut [u8], root: &mut u64, a: Result<(), Refusal>, left: Records)
     requires { length fields.old ≡ fields_size }
     ensures fields_after { fields.new ≡ left_of a fields.old (fields_out left.frames) }
     ensures root_after { root.new ≡ left_of a root.old left.root.0 }
 {
     match a {
-        Answer::Met => {
+        Ok(()) => {
             let frames = left.frames;
             let first = left.root;
             parts::put_fields(fields, frames);
             *root = first.0;
         }
-        Answer::Refused(_) => {}
+        Err(_) => {}
     }
 }
 
@@ -61,7 +61,7 @@ pub extern "C" fn gadulnos_start_levels(
     let a = did.answer;
     let left = did.records;
     put_records(fields, root, a, left);
-    answer::answer_line(a)
+    answer::line_of(a)
 }
 
 // A start that names no number of levels: 4.

@@ -4,25 +4,24 @@ use mathlib.Core.Path.{◌≡◌, refl, ◌∙◌, ap}
 use mathlib.Core.Bool.{Bool, true, false}
 use mathlib.Core.List.{List}
 use lib.ListN.{length, get_or, take}
+use Rattle.std.specs.Prelude.{Ok, Err, Result, ⊤}
+use Rattle.answer.specs.declared.Refusal.{Refusal}
+use Rattle.address.specs.declared.PhysAddr.{PhysAddr}
+use Rattle.address.specs.declared.Frame.{Frame}
+use Rattle.frame.specs.declared.Found.{Found}
 use Rattle.bits.specs.Bit.{both, flag}
 use Rattle.bits.proofs.Choice.{pick_cases}
 use Rattle.answer.specs.Outcomes.{and_then}
 use Rattle.answer.specs.Numbers.{answer_line}
-use Rattle.answer.specs.declared.Answer.{Answer}
 use Rattle.answer.specs.declared.Line.{Line}
 use Rattle.address.specs.Address.{aligned, frame_line, as_frame, phys_line, as_phys}
-use Rattle.address.specs.declared.FrameAnswer.{FrameAnswer}
-use Rattle.address.specs.declared.PhysAnswer.{PhysAnswer}
 use Rattle.entry.specs.Entry.{indices}
 use Rattle.packed.proofs.RoundTrip.{Bytes}
 use Rattle.bitmap.specs.Bitmap.{marks_in}
 use Rattle.frame.specs.declared.FrameAllocator.{FrameAllocator}
-use Rattle.frame.specs.declared.FoundAnswer.{FoundAnswer}
 use Rattle.frame.specs.Found.{found_line}
-use Rattle.frame.specs.Frames.{Frames, lent_frames, FramesDid, inside, sound, init, mark_allocated, allocate, deallocate}
+use Rattle.frame.specs.Frames.{Frames, lent_frames, FramesDid, frames_did, inside, sound, init, mark_allocated, allocate, deallocate}
 use Rattle.frame.proofs.Laws.{init_cases, take_cases}
-use Rattle.answer.specs.declared.Outcome.{Outcome}
-use Rattle.answer.specs.declared.Outcome.TheVariants.{Value, Stop}
 use Rattle.paging.specs.declared.HugePageSize.{HugePageSize}
 use Rattle.paging.specs.Levels.{above_last}
 use Rattle.paging.specs.Walk.{place, reach}
@@ -45,23 +44,18 @@ module _ {A : Type 0} (said : A → Line) (call : Frames → FramesDid A) (field
   unfolding on_frames
   frames_broken h e = broken_left (frames_parts fields bits) _ h e
 
-  -- `of` is what code returns of a call, `line` and `fa` its parts
-  pub frames_met : {X : Type 0} (of : FramesDid A → X) (line : X → Line) (fa : X → FrameAllocator)
-      → ((d : FramesDid A) → (line (of d) ≡ said d.answer) × (fa (of d) ≡ d.frames.fa))
-      → {fs : List ℕ} (bs : List ℕ) {f : FrameAllocator} {x : X} {r : Line} → fields_fit fields ≡ true → f ≡ fields_in fields
-      → let d = call (lent_frames bits f) in (x ≡ of d) × (marks_in bs ≡ d.frames.bits)
-      → r ≡ line x → fs ≡ fields_out (fa x) → left r (frames_parts fs bs) ≡ on_frames said call (frames_parts fields bits)
+  -- the bitmap and the record that the call leaves, and its answer
+  pub frames_met : {fs : List ℕ} (bs : List ℕ) {f f' : FrameAllocator} {a : A} {r : Line} → fields_fit fields ≡ true → f ≡ fields_in fields
+      → frames_did a (lent_frames bs f') ≡ call (lent_frames bits f) → r ≡ said a → fs ≡ fields_out f' → left r (frames_parts fs bs) ≡ on_frames said call (frames_parts fields bits)
   unfolding on_frames
-  frames_met {X} of line fa parts bs h f (x, y) r fs =
-      let same : ◌≡◌ {A = FramesDid A} (call (lent_frames bits _)) (call (lent_frames bits (fields_in fields))) = λ j. call (lent_frames bits (f j)) in
-      let p = x ∙ ap of same in
-      let d = call (lent_frames bits (fields_in fields)) in
-      let l = r ∙ ap line p ∙ (parts d).0 in
-      let g = fs ∙ ap (λ (x : X). fields_out (fa x)) p ∙ ap fields_out (parts d).1 in
-      let k = y ∙ ap (λ (d : FramesDid A). d.frames.bits) same in
+  frames_met bs {f' = f'} {a = a} h f d r fs =
+      let same : ◌≡◌ {A = FramesDid A} (frames_did a (lent_frames bs f')) (call (lent_frames bits (fields_in fields))) = d ∙ (λ j. call (lent_frames bits (f j))) in
+      let l = r ∙ ap (λ (d : FramesDid A). said d.answer) same in
+      let g = fs ∙ ap (λ (d : FramesDid A). fields_out d.frames.fa) same in
+      let k = ap (λ (d : FramesDid A). d.frames.bits) same in
       met_left (frames_parts fields bits) h (λ j. left (l j) (record { fields = g j; marks = k j }))
 
-  pub frames_unchanged : (leftovers : List ℕ) → Bytes fields → ((fr : Frames) → IsRefusal leftovers (said (call fr).answer).number → (call fr).frames ≡ fr)
+  pub frames_unchanged : (leftovers : List Refusal) → Bytes fields → ((fr : Frames) → IsRefusal leftovers (said (call fr).answer).number → (call fr).frames ≡ fr)
       → Unchanged leftovers (frames_parts fields bits) (on_frames said call (frames_parts fields bits))
   unfolding on_frames
   frames_unchanged leftovers b law =
@@ -83,22 +77,22 @@ module _ {A : Type 0} (said : A → Line) (call : Frames → A) (fields bits : L
 
 pub init_clean : (from to : ℕ) (fr : Frames) → IsRefusal no_leftovers (answer_line (init fr from to).answer).number → (init fr from to).frames ≡ fr
 init_clean from to fr =
-    init_cases fr from to (λ (d : FramesDid Answer). IsRefusal no_leftovers (answer_line d.answer).number → d.frames ≡ fr) (λ _ _ h. absurd (h refl)) (λ _. refl)
+    init_cases fr from to (λ (d : FramesDid (Result ⊤ Refusal)). IsRefusal no_leftovers (answer_line d.answer).number → d.frames ≡ fr) (λ _ _ h. absurd (h refl)) (λ _. refl)
 
 pub mark_clean : (n : ℕ) (fr : Frames) → IsRefusal no_leftovers (answer_line (mark_allocated fr n).answer).number → (mark_allocated fr n).frames ≡ fr
 unfolding mark_allocated
-mark_clean n fr = pick_cases (λ (d : FramesDid Answer). IsRefusal no_leftovers (answer_line d.answer).number → d.frames ≡ fr) (sound fr) _ _ (λ _ h. absurd (h refl)) (λ _ _. refl)
+mark_clean n fr = pick_cases (λ (d : FramesDid (Result ⊤ Refusal)). IsRefusal no_leftovers (answer_line d.answer).number → d.frames ≡ fr) (sound fr) _ _ (λ _ h. absurd (h refl)) (λ _ _. refl)
 
 pub deallocate_clean : (n : ℕ) (fr : Frames) → IsRefusal no_leftovers (found_line (deallocate fr n).answer).number → (deallocate fr n).frames ≡ fr
 unfolding deallocate
 deallocate_clean n fr =
-    pick_cases (λ (d : FramesDid FoundAnswer). IsRefusal no_leftovers (found_line d.answer).number → d.frames ≡ fr) (sound fr) _ _ (λ _ h. absurd (h refl)) (λ _ _. refl)
+    pick_cases (λ (d : FramesDid (Result Found Refusal)). IsRefusal no_leftovers (found_line d.answer).number → d.frames ≡ fr) (sound fr) _ _ (λ _ h. absurd (h refl)) (λ _ _. refl)
 
 pub allocate_clean : (fr : Frames) → IsRefusal no_leftovers (frame_line (allocate fr).answer).number → (allocate fr).frames ≡ fr
 unfolding allocate
 allocate_clean fr = pick_cases P (sound fr) _ _ (λ _. take_cases fr P (λ _ _ _ _ h. absurd (h refl)) (λ _ _. refl)) (λ _ _. refl)
   where
-    P : FramesDid FrameAnswer → Type 0
+    P : FramesDid (Result Frame Refusal) → Type 0
     P d = IsRefusal no_leftovers (frame_line d.answer).number → d.frames ≡ fr
 
 -- ---- refusals of the mapper: 10 and 4; 11, 12 and 19 may leave tables
@@ -128,13 +122,13 @@ module _ (words fields bits : List ℕ) (b : Bytes fields) (root v p : ℕ) (w u
 
 -- ---- a translation with its working
 
-pub show_left : (words : List ℕ) (start total levels root v : ℕ) {a : PhysAnswer} {ns : List ℕ} {r : Line}
+pub show_left : (words : List ℕ) (start total levels root v : ℕ) {a : Result PhysAddr Refusal} {ns : List ℕ} {r : Line}
     → let s = show_translate levels words start total root v in (a ≡ as_phys s.answer) × (ns ≡ shown_numbers s.rows) → r ≡ phys_line a → left r ns ≡ left_show words start total levels root v
 show_left words start total levels root v (a, n) r = λ j. left ((r ∙ ap phys_line (a ∙ ap as_phys (shows.same levels words start total root v))) j) (n j)
 
 -- ---- unmap_page
 
-pub unmap_left : (ws : List ℕ) (start total levels root v : ℕ) {x : FrameAnswer} {rest : List ℕ} {r : Line}
+pub unmap_left : (ws : List ℕ) (start total levels root v : ℕ) {x : Result Frame Refusal} {rest : List ℕ} {r : Line}
     → let d = unmap_page levels ws start total root v in (x ≡ as_frame d.walked) × (rest ≡ d.words) → r ≡ frame_line x → left r rest ≡ left_unmap ws start total levels root v
 unmap_left ws start total levels root v (x, w) r = λ j. left ((r ∙ ap frame_line x) j) (w j)
 
@@ -150,8 +144,8 @@ unmap_refused ws start total levels root v =
     Clean : Stored → Type 0
     Clean l = IsRefusal no_leftovers (frame_line (as_frame l.walked)).number → l.words ≡ ws
 
-    by : (w : Outcome) → Clean (and_then w (λ n. stored (Stop n) ws) (λ t. take_leaf ws start total t (get_or (indices (suc up) v) up 0)))
-    by (Stop n) = λ _. refl
-    by (Value t) =
+    by : (w : Result ℕ Refusal) → Clean (and_then w (λ n. stored (Err n) ws) (λ t. take_leaf ws start total t (get_or (indices (suc up) v) up 0)))
+    by (Err n) = λ _. refl
+    by (Ok t) =
         pick_cases Clean (inside start total t) _ _
         (λ _. pick_cases Clean (flag 0 (get_or ws (place start t (get_or (indices (suc up) v) up 0)) 0)) _ _ (λ _ h. absurd (h refl)) (λ _ _. refl)) (λ _ _. refl)

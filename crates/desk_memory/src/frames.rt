@@ -6,7 +6,7 @@ ghost use Rattle.desk_memory.specs.Memory.{packed_free_frames, packed_allocated_
 
 use address::Frame;
 use answer::Line;
-use frame::{Marks, held, tallies};
+use frame::Marks;
 use layout::parts;
 
 #[unsafe(no_mangle)]
@@ -19,11 +19,10 @@ pub extern "C" fn gadulnos_init(fields: &mut [u8], bits: &mut Marks, from: u64, 
     if fields.len() != parts::FIELDS_SIZE {
         return parts::broken();
     }
-    let did = held::init(parts::get_fields(fields), bits, from, to);
-    let left = did.frames;
-    let a = did.answer;
-    parts::put_fields(fields, left);
-    answer::answer_line(a)
+    let mut frames = parts::get_fields(fields);
+    let answer = frames.init(bits, from, to);
+    parts::put_fields(fields, frames);
+    answer::line_of(answer)
 }
 
 #[unsafe(no_mangle)]
@@ -33,7 +32,7 @@ pub extern "C" fn gadulnos_is_allocated(fields: &[u8], bits: &Marks, number: u64
     if fields.len() != parts::FIELDS_SIZE {
         return parts::broken();
     }
-    answer::flag_line(held::is_allocated(parts::get_fields(fields), bits, number))
+    answer::line_of(parts::get_fields(fields).is_allocated(bits, number))
 }
 
 #[unsafe(no_mangle)]
@@ -46,11 +45,10 @@ pub extern "C" fn gadulnos_mark_allocated(fields: &mut [u8], bits: &mut Marks, n
     if fields.len() != parts::FIELDS_SIZE {
         return parts::broken();
     }
-    let did = held::mark_allocated(parts::get_fields(fields), bits, number);
-    let left = did.frames;
-    let a = did.answer;
-    parts::put_fields(fields, left);
-    answer::answer_line(a)
+    let mut frames = parts::get_fields(fields);
+    let answer = frames.mark_allocated(bits, number);
+    parts::put_fields(fields, frames);
+    answer::line_of(answer)
 }
 
 #[unsafe(no_mangle)]
@@ -63,11 +61,10 @@ pub extern "C" fn gadulnos_allocate_frame(fields: &mut [u8], bits: &mut Marks) -
     if fields.len() != parts::FIELDS_SIZE {
         return parts::broken();
     }
-    let did = held::allocate_frame(parts::get_fields(fields), bits);
-    let left = did.frames;
-    let a = did.answer;
-    parts::put_fields(fields, left);
-    address::frame_line(a)
+    let mut frames = parts::get_fields(fields);
+    let answer = frames.allocate_frame(bits);
+    parts::put_fields(fields, frames);
+    answer::line_of(answer)
 }
 
 #[unsafe(no_mangle)]
@@ -84,11 +81,10 @@ pub extern "C" fn gadulnos_deallocate_frame(
     if fields.len() != parts::FIELDS_SIZE {
         return parts::broken();
     }
-    let did = held::deallocate_frame(parts::get_fields(fields), bits, Frame(number));
-    let left = did.frames;
-    let a = did.answer;
-    parts::put_fields(fields, left);
-    tallies::found_line(a)
+    let mut frames = parts::get_fields(fields);
+    let answer = frames.deallocate_frame(bits, Frame(number));
+    parts::put_fields(fields, frames);
+    answer::line_of(answer)
 }
 
 #[unsafe(no_mangle)]
@@ -98,7 +94,7 @@ pub extern "C" fn gadulnos_free_frames(fields: &[u8], bits: &Marks) -> Line
     if fields.len() != parts::FIELDS_SIZE {
         return parts::broken();
     }
-    answer::count_line(held::free_frames(parts::get_fields(fields), bits))
+    answer::line_of(parts::get_fields(fields).free_frames(bits))
 }
 
 #[unsafe(no_mangle)]
@@ -108,7 +104,7 @@ pub extern "C" fn gadulnos_allocated_frames(fields: &[u8], bits: &Marks) -> Line
     if fields.len() != parts::FIELDS_SIZE {
         return parts::broken();
     }
-    answer::count_line(held::allocated_frames(parts::get_fields(fields), bits))
+    answer::line_of(parts::get_fields(fields).allocated_frames(bits))
 }
 
 #[unsafe(no_mangle)]
@@ -118,5 +114,5 @@ pub extern "C" fn gadulnos_total_frames(fields: &[u8], bits: &Marks) -> Line
     if fields.len() != parts::FIELDS_SIZE {
         return parts::broken();
     }
-    answer::count_line(held::total_frames(parts::get_fields(fields), bits))
+    answer::line_of(parts::get_fields(fields).total_frames(bits))
 }

@@ -22,7 +22,7 @@ pub extern "C" fn gadulnos_translate(
 ) -> Line
     ensures { result ≡ line_translate words.now start total levels root virt }
 {
-    address::phys_line(walk::translate(words, start, total, levels, Frame(root), VirtAddr(virt)))
+    answer::line_of(walk::translate(words, start, total, levels, Frame(root), VirtAddr(virt)))
 }
 
 #[unsafe(no_mangle)]
@@ -46,7 +46,7 @@ pub extern "C" fn gadulnos_show_translate(
         VirtAddr(virt),
         out,
     );
-    address::phys_line(found)
+    answer::line_of(found)
 }
 
 #[unsafe(no_mangle)]
@@ -61,7 +61,7 @@ pub extern "C" fn gadulnos_user_may(
 ) -> Line
     ensures { result ≡ line_user_may words.now start total levels root virt write }
 {
-    answer::flag_line(walk::user_may(
+    answer::line_of(walk::user_may(
         words,
         start,
         total,
@@ -105,7 +105,7 @@ pub extern "C" fn gadulnos_map_page(
     let left = did.frames;
     let a = did.answer;
     parts::put_fields(fields, left);
-    answer::answer_line(a)
+    answer::line_of(a)
 }
 
 fn huge_size(gigabyte: bool) -> HugePageSize
@@ -167,7 +167,7 @@ pub extern "C" fn gadulnos_map_huge_page(
     let left = did.frames;
     let a = did.answer;
     parts::put_fields(fields, left);
-    answer::answer_line(a)
+    answer::line_of(a)
 }
 
 #[unsafe(no_mangle)]
@@ -184,12 +184,5 @@ pub extern "C" fn gadulnos_unmap_page(
     ensures refused { Unchanged no_leftovers words.old
         (left result words.new) }
 {
-    address::frame_line(mapper::unmap_page(
-        words,
-        start,
-        total,
-        levels,
-        Frame(root),
-        VirtAddr(virt),
-    ))
+    answer::line_of(mapper::unmap_page(words, start, total, levels, Frame(root), VirtAddr(virt)))
 }

@@ -1,16 +1,17 @@
 -- The number and value of a table's entry, the record of ten flags, and the number of a zone.
+use Rattle.std.specs.Prelude.{Ok, Err, Result}
+use Rattle.answer.specs.declared.Refusal.{Refusal}
+use Rattle.entry.specs.declared.paging.PageTableEntry.{PageTableEntry}
 use Rattle.std.specs.Prelude.{ℕ, Bool}
 use Rattle.address.specs.declared.MemoryZone.{MemoryZone}
 use Rattle.address.specs.declared.MemoryZone.TheVariants.{Dma, Normal, High}
 use Rattle.answer.specs.declared.Line.{Line}
-use Rattle.entry.specs.declared.EntryAnswer.{EntryAnswer}
-use Rattle.entry.specs.declared.EntryAnswer.TheVariants.{AtEntry, NoEntry}
+use Rattle.answer.specs.Numbers.{line_of}
 use Rattle.entry.specs.declared.page_handler.PageFlags.{PageFlags}
 
 -- the word, or 14
-abbrev pub entry_line : EntryAnswer → Line
-entry_line (AtEntry e) = record { number = 0; value = e.0 }
-entry_line (NoEntry n) = record { number = n; value = 0 }
+abbrev pub entry_line : Result PageTableEntry Refusal → Line
+entry_line = line_of (λ e. e.0)
 
 -- ten flags in the order of the fields
 abbrev pub ten_flags : Bool → Bool → Bool → Bool → Bool → Bool → Bool → Bool → Bool → Bool → PageFlags

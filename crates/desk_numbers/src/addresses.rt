@@ -3,7 +3,7 @@ ghost use Rattle.std.specs.Prelude.{◌≡◌, ◌*◌, ◌/◌, ◌%◌, ◌^�
 ghost use Rattle.address.specs.Address.{aligned, zone_of};
 ghost use Rattle.desk_numbers.specs.Line.{zone_number};
 
-use address::{Frame, MemoryZone, PhysAddr, VirtAddr};
+use address::{Frame, PhysAddr, VirtAddr};
 
 #[unsafe(no_mangle)]
 pub extern "C" fn gadulnos_is_aligned(addr: u64, align: u64) -> bool
@@ -31,11 +31,7 @@ pub extern "C" fn gadulnos_page_number(virt: u64) -> u64
 pub extern "C" fn gadulnos_zone(phys: u64) -> u64
     ensures { result ≡ zone_number (zone_of phys) }
 {
-    match PhysAddr(phys).zone() {
-        MemoryZone::Dma => 0,
-        MemoryZone::Normal => 1,
-        MemoryZone::High => 2,
-    }
+    PhysAddr(phys).zone() as u64
 }
 
 // The number of the frame that holds a physical address.

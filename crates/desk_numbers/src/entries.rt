@@ -8,9 +8,9 @@ ghost use Rattle.entry.specs.Flags.{bits_of, flags_of, flag_entry_of};
 ghost use Rattle.desk_numbers.specs.Line.{entry_line, ten_flags};
 
 use address::{PhysAddr, VirtAddr};
-use answer::Line;
+use answer::{Line, Refusal};
+use entry::page_handler;
 use entry::paging::PageTableEntry;
-use entry::{EntryAnswer, page_handler};
 
 #[unsafe(no_mangle)]
 pub extern "C" fn gadulnos_align_down(addr: u64, align: u64) -> u64
@@ -23,14 +23,14 @@ pub extern "C" fn gadulnos_align_down(addr: u64, align: u64) -> u64
 pub extern "C" fn gadulnos_align_up(addr: u64, align: u64) -> Line
     ensures { result ≡ count_line (align_up addr align) }
 {
-    answer::count_line(allocator::align_up(addr, align))
+    answer::line_of(allocator::align_up(addr, align))
 }
 
 #[unsafe(no_mangle)]
 pub extern "C" fn gadulnos_page_align_up(size: u64) -> Line
     ensures { result ≡ count_line (rounded size) }
 {
-    answer::count_line(allocator::page_align_up(size))
+    answer::line_of(allocator::page_align_up(size))
 }
 
 #[unsafe(no_mangle)]
@@ -153,26 +153,11 @@ pub extern "C" fn gadulnos_handler_flags(word: u64) -> u64
     e.flags().to_bits()
 }
 
-fn entry_line(a: EntryAnswer) -> Line
-    ensures { result ≡ entry_line a }
-{
-    match a {
-        EntryAnswer::AtEntry(e) => Line {
-            number: 0,
-            value: e.0,
-        },
-        EntryAnswer::NoEntry(n) => Line {
-            number: n,
-            value: 0,
-        },
-    }
-}
-
 #[unsafe(no_mangle)]
 pub extern "C" fn gadulnos_get_entry(table: &[u64; 512], index: usize) -> Line
     ensures { result ≡ entry_line (entry_of_table table.now index) }
 {
-    entry_line(entry::get_entry(table, index))
+    answer::line_of(entry::get_entry(table, index))
 }
 
 #[unsafe(no_mangle)]

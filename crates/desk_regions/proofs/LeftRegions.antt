@@ -6,14 +6,14 @@ use mathlib.Core.List.{List}
 use lib.Dec.{eqb}
 use lib.IntN.{ℤ}
 use lib.ListN.{length}
+use Rattle.std.specs.Prelude.{Ok, Err, Result, Option, ⊤}
+use Rattle.answer.specs.declared.Refusal.{Refusal}
+use Rattle.answer.specs.declared.Refusal.TheVariants.{BrokenRecord, RegionNotFound, SizeZero, TooLarge, Unaligned}
 use Rattle.bits.specs.Bit.{unless}
 use Rattle.bits.proofs.Choice.{pick_cases, both_true}
 use Rattle.allocator.specs.Round.{rounded}
-use Rattle.answer.specs.Numbers.{broken_record, answer_line, count_line}
+use Rattle.answer.specs.Numbers.{number_of, answer_line, count_line}
 use Rattle.answer.specs.Outcomes.{as_answer}
-use Rattle.answer.specs.declared.Answer.{Answer}
-use Rattle.answer.specs.declared.Outcome.{Outcome}
-use Rattle.answer.specs.declared.Outcome.TheVariants.{Value, Stop}
 use Rattle.answer.specs.declared.Line.{Line}
 use Rattle.address.specs.Address.{virt_line, as_virt}
 use Rattle.packed.proofs.RoundTrip.{Bytes}
@@ -37,7 +37,6 @@ use Rattle.free_range.specs.Compared.{compared, searched}
 use Rattle.mappings.specs.Packed.{mmap_in, next_in, mmap_fit, sound_list}
 use Rattle.free_range.proofs.Search.{Ends, search_ends}
 use Rattle.mappings.proofs.RoundTrip.{mmap_back}
-use Rattle.mmap.specs.declared.OptAddr.{OptAddr}
 use Rattle.user_space.specs.Flags.{writable}
 use Rattle.user_space.specs.User.{User, UserDid, sound_user, on_page}
 use Rattle.mmap.specs.Calls.{chosen, full, user_pages, user_mapped, user_placed, user_sized, mmap, mmap_of}
@@ -61,27 +60,27 @@ all_three e f g = λ j. (e j, (f j, g j))
 
 -- ---- vmalloc and vfree
 
-module _ {A : Type 0} (form : Outcome → A) (line : A → Line) (call : Kernel → KernelDid) (words fields bits list : List ℕ) where
+module _ {A : Type 0} (form : Result ℕ Refusal → A) (line : A → Line) (call : Kernel → KernelDid) (words fields bits list : List ℕ) where
   abbrev kernel_lent : ListParts
   kernel_lent = list_parts words fields bits list
 
-  abbrev kernel_said : Outcome → Line
+  abbrev kernel_said : Result ℕ Refusal → Line
   kernel_said a = line (form a)
 
   pub kernel_broken : {r : Line} → fields_fit fields ≡ false → r ≡ broken_line → left r kernel_lent ≡ on_kernel kernel_said call kernel_lent
   unfolding on_kernel
   kernel_broken h e = broken_left {ok = kernel_fit kernel_lent} kernel_lent _ (rw h refl) e
 
-  pub kernel_met : kernel_said (Stop broken_record) ≡ broken_line → {ws fs ls : List ℕ} (bs : List ℕ) {f g : FrameAllocator} {x : A} {r : Line}
+  pub kernel_met : kernel_said (Err BrokenRecord) ≡ broken_line → {ws fs ls : List ℕ} (bs : List ℕ) {f g : FrameAllocator} {x : A} {r : Line}
       → fields_fit fields ≡ true → Bytes fields → f ≡ fields_in fields
       → kept x (lent_memory ws bs g) ls ≡ on_vm_list form call (lent_memory words bits f) list
       → r ≡ line x → fs ≡ fields_out g → left r (list_parts ws fs bs ls) ≡ on_kernel kernel_said call kernel_lent
   unfolding on_kernel on_vm_list
   kernel_met e =
-      list_met line words fields bits list (λ (m : Memory). on_vm_list form call m list) (vm_fit list) (form (Stop broken_record))
+      list_met line words fields bits list (λ (m : Memory). on_vm_list form call m list) (vm_fit list) (form (Err BrokenRecord))
       (kept_kernel form (call (kernel_in kernel_lent))) e refl
 
-  kernel_unchanged : (leftovers : List ℕ) → Bytes fields → Bytes list
+  kernel_unchanged : (leftovers : List Refusal) → Bytes fields → Bytes list
       → ((k : Kernel) → IsRefusal leftovers (kernel_said (call k).answer).number → (call k).kernel ≡ k)
       → Unchanged leftovers kernel_lent (on_kernel kernel_said call kernel_lent)
   unfolding on_kernel
@@ -92,27 +91,27 @@ module _ {A : Type 0} (form : Outcome → A) (line : A → Line) (call : Kernel 
 
 -- ---- mmap and munmap
 
-module _ {A : Type 0} (form : Outcome → A) (line : A → Line) (call : User → UserDid) (words fields bits list : List ℕ) where
+module _ {A : Type 0} (form : Result ℕ Refusal → A) (line : A → Line) (call : User → UserDid) (words fields bits list : List ℕ) where
   abbrev user_lent : ListParts
   user_lent = list_parts words fields bits list
 
-  abbrev user_said : Outcome → Line
+  abbrev user_said : Result ℕ Refusal → Line
   user_said a = line (form a)
 
   pub user_broken : {r : Line} → fields_fit fields ≡ false → r ≡ broken_line → left r user_lent ≡ on_user user_said call user_lent
   unfolding on_user
   user_broken h e = broken_left {ok = user_fit user_lent} user_lent _ (rw h refl) e
 
-  pub user_met : user_said (Stop broken_record) ≡ broken_line → {ws fs ls : List ℕ} (bs : List ℕ) {f g : FrameAllocator} {x : A} {r : Line}
+  pub user_met : user_said (Err BrokenRecord) ≡ broken_line → {ws fs ls : List ℕ} (bs : List ℕ) {f g : FrameAllocator} {x : A} {r : Line}
       → fields_fit fields ≡ true → Bytes fields → f ≡ fields_in fields
       → kept x (lent_memory ws bs g) ls ≡ on_mmap_list form call (lent_memory words bits f) list
       → r ≡ line x → fs ≡ fields_out g → left r (list_parts ws fs bs ls) ≡ on_user user_said call user_lent
   unfolding on_user on_mmap_list
   user_met e =
-      list_met line words fields bits list (λ (m : Memory). on_mmap_list form call m list) (mmap_fit list) (form (Stop broken_record))
+      list_met line words fields bits list (λ (m : Memory). on_mmap_list form call m list) (mmap_fit list) (form (Err BrokenRecord))
       (kept_user form (call (user_in user_lent))) e refl
 
-  user_unchanged : (leftovers : List ℕ) → Bytes fields → Bytes list
+  user_unchanged : (leftovers : List Refusal) → Bytes fields → Bytes list
       → ((u : User) → IsRefusal leftovers (user_said (call u).answer).number → (call u).user ≡ u)
       → Unchanged leftovers user_lent (on_user user_said call user_lent)
   unfolding on_user
@@ -154,17 +153,17 @@ module _ (up : ℕ) (root size : ℕ) (k : Kernel) where
       Clean : KernelDid → Type 0
       Clean d = IsRefusal region_leftovers (address_line d.answer).number → d.kernel ≡ k
 
-      ran : (a n : ℕ) (m : Memory) (x : Outcome) → (kernel_pages up k.mem root a n).walked ≡ x → Clean (kernel_mapped a n k.regions x m)
-      ran a n m (Value x) e h = absurd (h.1.1 refl)
-      ran a n m (Stop b) e h = absurd (pages_listed up true false root (n / 4096) k.mem a 0 (subst (λ (x : Outcome). IsRefusal region_leftovers (plain_line x).number) (sym e) h))
+      ran : (a n : ℕ) (m : Memory) (x : Result ℕ Refusal) → (kernel_pages up k.mem root a n).walked ≡ x → Clean (kernel_mapped a n k.regions x m)
+      ran a n m (Ok x) e h = absurd (h.1.1 refl)
+      ran a n m (Err b) e h = absurd (pages_listed up true false root (n / 4096) k.mem a 0 (subst (λ (x : Result ℕ Refusal). IsRefusal region_leftovers (plain_line x).number) (sym e) h))
 
-      at : (n : ℕ) (x : Outcome) → Clean (kernel_placed up k root n x)
-      at n (Value a) = ran a n _ _ refl
-      at n (Stop e) = λ _. refl
+      at : (n : ℕ) (x : Result ℕ Refusal) → Clean (kernel_placed up k root n x)
+      at n (Ok a) = ran a n _ _ refl
+      at n (Err e) = λ _. refl
 
-      by : (n : Outcome) → Clean (kernel_sized up k root n)
-      by (Value n) = at n (first_fit n (listed k.regions))
-      by (Stop e) = λ _. refl
+      by : (n : Result ℕ Refusal) → Clean (kernel_sized up k root n)
+      by (Ok n) = at n (first_fit n (listed k.regions))
+      by (Err e) = λ _. refl
 
 -- .. of vfree: 10 and 16
 
@@ -177,9 +176,9 @@ module _ (up : ℕ) (root addr : ℕ) (k : Kernel) where
       Clean : KernelDid → Type 0
       Clean d = IsRefusal no_leftovers (plain_line d.answer).number → d.kernel ≡ k
 
-      by : (x : Outcome) → Clean (released up k root addr x)
-      by (Value n) h = absurd (h refl)
-      by (Stop e) h = refl
+      by : (x : Result ℕ Refusal) → Clean (released up k root addr x)
+      by (Ok n) h = absurd (h refl)
+      by (Err e) h = refl
 
 module _ (words fields bits list : List ℕ) (b : Bytes fields) (c : Bytes list) (root : ℕ) where
   pub vmalloc_refused : (size : ℕ) → let p = list_parts words fields bits list in Unchanged region_leftovers p (packed_vmalloc p root size)
@@ -190,7 +189,7 @@ module _ (words fields bits list : List ℕ) (b : Bytes fields) (c : Bytes list)
 
 -- ---- refusals of mmap: 10, 1, 3, 2, 15 and 20; 11 and 13 have leftovers
 
-module _ (up : ℕ) (root : ℕ) (hint : OptAddr) (size : ℕ) (prot flags : ℤ) (u : User) where
+module _ (up : ℕ) (root : ℕ) (hint : Option ℕ) (size : ℕ) (prot flags : ℤ) (u : User) where
   mmap_clean : IsRefusal region_leftovers (address_line (mmap up u root hint size prot flags).answer).number → (mmap up u root hint size prot flags).user ≡ u
   unfolding mmap
   mmap_clean =
@@ -199,17 +198,17 @@ module _ (up : ℕ) (root : ℕ) (hint : OptAddr) (size : ℕ) (prot flags : ℤ
       Clean : UserDid → Type 0
       Clean d = IsRefusal region_leftovers (address_line d.answer).number → d.user ≡ u
 
-      ran : (a n done : ℕ) (m : Memory) (x : Outcome) → (user_pages up u.mem root a n prot).walked ≡ x → Clean (user_mapped up u root a n prot flags x done m)
-      ran a n done m (Value x) e h = absurd (h.1.1 refl)
-      ran a n done m (Stop b) e h = absurd (pages_listed up (writable prot) true root (n / 4096) u.mem a 0 (subst (λ (x : Outcome). IsRefusal region_leftovers (plain_line x).number) (sym e) h))
+      ran : (a n done : ℕ) (m : Memory) (x : Result ℕ Refusal) → (user_pages up u.mem root a n prot).walked ≡ x → Clean (user_mapped up u root a n prot flags x done m)
+      ran a n done m (Ok x) e h = absurd (h.1.1 refl)
+      ran a n done m (Err b) e h = absurd (pages_listed up (writable prot) true root (n / 4096) u.mem a 0 (subst (λ (x : Result ℕ Refusal). IsRefusal region_leftovers (plain_line x).number) (sym e) h))
 
-      at : (n : ℕ) (x : Outcome) → Clean (user_placed up u root n prot flags x)
-      at n (Value a) = pick_cases Clean (full u a) _ _ (λ _ _. refl) (λ _. ran a n _ _ _ refl)
-      at n (Stop e) = λ _. refl
+      at : (n : ℕ) (x : Result ℕ Refusal) → Clean (user_placed up u root n prot flags x)
+      at n (Ok a) = pick_cases Clean (full u a) _ _ (λ _ _. refl) (λ _. ran a n _ _ _ refl)
+      at n (Err e) = λ _. refl
 
-      by : (n : Outcome) → Clean (user_sized up u root hint prot flags n)
-      by (Value n) = at n (chosen u hint n flags)
-      by (Stop e) = λ _. refl
+      by : (n : Result ℕ Refusal) → Clean (user_sized up u root hint prot flags n)
+      by (Ok n) = at n (chosen u hint n flags)
+      by (Err e) = λ _. refl
 
 -- .. of munmap: 10, 1, 2, 3 and 16
 
@@ -223,12 +222,12 @@ module _ (up : ℕ) (root a size : ℕ) (u : User) where
       Clean : UserDid → Type 0
       Clean d = IsRefusal no_leftovers (plain_line d.answer).number → d.user ≡ u
 
-      by : (n : Outcome) → Clean (unmapped up u root a n)
-      by (Value n) = pick_cases Clean (holds a n (listed u.regions)) _ _ (λ _ h. absurd (h refl)) (λ _ _. refl)
-      by (Stop e) = λ _. refl
+      by : (n : Result ℕ Refusal) → Clean (unmapped up u root a n)
+      by (Ok n) = pick_cases Clean (holds a n (listed u.regions)) _ _ (λ _ h. absurd (h refl)) (λ _ _. refl)
+      by (Err e) = λ _. refl
 
 module _ (words fields bits list : List ℕ) (b : Bytes fields) (c : Bytes list) (root : ℕ) where
-  pub mmap_refused : (hint : OptAddr) (size : ℕ) (prot flags : ℤ) → let p = list_parts words fields bits list in Unchanged region_leftovers p (packed_mmap p root hint size prot flags)
+  pub mmap_refused : (hint : Option ℕ) (size : ℕ) (prot flags : ℤ) → let p = list_parts words fields bits list in Unchanged region_leftovers p (packed_mmap p root hint size prot flags)
   mmap_refused hint size prot flags =
       user_unchanged as_virt virt_line (λ (u : User). mmap_of u root hint size prot flags) words fields bits list region_leftovers b c (λ u. mmap_clean (above_last u.mem) root hint size prot flags u)
 
@@ -242,7 +241,7 @@ module _ (words list : List ℕ) (start total levels root a size : ℕ) where
   protect_lent = protect_parts words list
 
   -- a signed number that is passed on is z, what its bits read back
-  pub mprotect_left : {prot z : ℤ} → z ≡ prot → {ws ls : List ℕ} {x : Answer} {r : Line} → protect_kept x ws ls ≡ mprotect_on levels words start total root list a size z → r ≡ answer_line x
+  pub mprotect_left : {prot z : ℤ} → z ≡ prot → {ws ls : List ℕ} {x : Result ⊤ Refusal} {r : Line} → protect_kept x ws ls ≡ mprotect_on levels words start total root list a size z → r ≡ answer_line x
       → left r (protect_parts ws ls) ≡ packed_mprotect protect_lent start total levels root a size prot
   unfolding packed_mprotect mprotect_on
   mprotect_left {prot} q {ws} {ls} e f =
@@ -254,7 +253,7 @@ module _ (words list : List ℕ) (start total levels root a size : ℕ) where
       did : ProtectDid
       did = mprotect levels words start total root (mmap_in list) (next_in list) a size prot
 
-      by : (fit : Bool) → said (unless fit (protect_kept (as_answer (Stop broken_record)) words list) (kept_protected did (next_in list)))
+      by : (fit : Bool) → said (unless fit (protect_kept (as_answer (Err BrokenRecord)) words list) (kept_protected did (next_in list)))
           ≡ unless_fit fit protect_lent (left (plain_line did.answer) (protect_packed did (next_in list)))
       by true = refl
       by false = refl
@@ -264,14 +263,14 @@ module _ (words list : List ℕ) (start total levels root a size : ℕ) where
   unfolding packed_mprotect
   mprotect_refused prot b =
       unchanged_left no_leftovers (mmap_fit list) protect_lent _ (λ fit.
-      mprotect_cases levels words start total root (mmap_in list) (next_in list) a size prot Clean (λ _. kept fit) (λ _. kept fit) (λ _. kept fit) (λ _. kept fit) (λ _. kept fit)
+      mprotect_cases levels words start total root (mmap_in list) (next_in list) a size prot Clean (λ _. kept fit BrokenRecord) (λ _. kept fit SizeZero) (λ _. kept fit Unaligned) (λ _. kept fit TooLarge) (λ _. kept fit RegionNotFound)
       (λ _ _ _ _ _ n. absurd (n refl)))
     where
       Clean : ProtectDid → Type 0
       Clean d = IsRefusal no_leftovers (plain_line d.answer).number → protect_packed d (next_in list) ≡ protect_lent
 
-      kept : mmap_fit list ≡ true → {k : ℕ} → Clean (protect_did (Stop k) words (mmap_in list))
-      kept fit n = ap (protect_parts words) (mmap_back list fit b)
+      kept : mmap_fit list ≡ true → (k : Refusal) → Clean (protect_did (Err k) words (mmap_in list))
+      kept fit k n = ap (protect_parts words) (mmap_back list fit b)
 
 -- ---- the search by itself
 
@@ -290,6 +289,6 @@ module _ (list : List ℕ) (size old : ℕ) where
   pub search_unchanged : Unchanged search_leftovers old (packed_find_free list size old)
   search_unchanged = unchanged_left search_leftovers (sound_list list) old _ (λ _. by (find_free regions (next_in list) size) (search_ends (suc (length regions)) regions size (next_in list)))
     where
-      by : (o : Outcome) → Ends o → IsRefusal search_leftovers (count_line o).number → compared regions (next_in list) size ≡ old
-      by (Value v) e n = absurd (n.1 refl)
-      by (Stop k) e n = absurd (n.0 e)
+      by : (o : Result ℕ Refusal) → Ends o → IsRefusal search_leftovers (count_line o).number → compared regions (next_in list) size ≡ old
+      by (Ok v) e n = absurd (n.1 refl)
+      by (Err k) e n = absurd (n.0 (ap number_of e))

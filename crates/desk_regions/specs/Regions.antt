@@ -1,10 +1,12 @@
 -- What the C functions of vmalloc and mmap leave: a call on the parts unpacked, and what it leaves packed again.
+use Rattle.std.specs.Prelude.{Result, Option}
+use Rattle.answer.specs.declared.Refusal.{Refusal}
+use Rattle.answer.specs.declared.Refusal.TheVariants.{NoRegion}
 use Rattle.std.specs.Prelude.{ℕ, Bool, List, [], ◌∷◌, ℤ}
 use Rattle.bits.specs.Bit.{unless, both}
-use Rattle.answer.specs.Numbers.{no_region, count_line}
+use Rattle.answer.specs.Numbers.{count_line}
 use Rattle.answer.specs.declared.Line.{Line}
 use Rattle.address.specs.Address.{virt_line, as_virt}
-use Rattle.answer.specs.declared.Outcome.{Outcome}
 use Rattle.frame.specs.declared.Tally.{Tally}
 use Rattle.frame.specs.Found.{none_found}
 use Rattle.vm_list.specs.Packed.{vm_in, vm_out, vm_fit}
@@ -16,14 +18,13 @@ use Rattle.vmalloc.specs.Calls.{Kernel, kernel, KernelDid, vmalloc_of, vfree_of,
 use Rattle.user_space.specs.User.{User, user, UserDid}
 use Rattle.mmap.specs.Calls.{mmap_of}
 use Rattle.munmap.specs.Calls.{munmap_of, munmap_found_of}
-use Rattle.mmap.specs.declared.OptAddr.{OptAddr}
 use Rattle.mprotect.specs.Calls.{ProtectDid, mprotect}
 use Rattle.layout.specs.Parts.{fields_fit}
 use Rattle.layout.specs.Left.{Left, left, unless_fit}
 use Rattle.layout.specs.Memory.{plain_line, ListParts, list_memory, list_packed}
 
 -- the number and value of a walk's answer, for a call that hands back an address
-abbrev pub address_line : Outcome → Line
+abbrev pub address_line : Result ℕ Refusal → Line
 address_line a = virt_line (as_virt a)
 
 -- ---- vmalloc and vfree: the list is the kernel's
@@ -37,7 +38,7 @@ kernel_in p = kernel (list_memory p) (vm_in p.list)
 abbrev pub kernel_packed : Kernel → ListParts
 kernel_packed k = list_packed k.mem (vm_out k.regions)
 
-unfoldable pub on_kernel : (Outcome → Line) → (Kernel → KernelDid) → ListParts → Left ListParts
+unfoldable pub on_kernel : ((Result ℕ Refusal) → Line) → (Kernel → KernelDid) → ListParts → Left ListParts
 on_kernel line call p = unless_fit (kernel_fit p) p (left (line (call (kernel_in p)).answer) (kernel_packed (call (kernel_in p)).kernel))
 
 abbrev pub packed_vmalloc : ListParts → ℕ → ℕ → Left ListParts
@@ -61,10 +62,10 @@ user_in p = user (list_memory p) (mmap_in p.list) (next_in p.list)
 abbrev pub user_packed : User → ListParts
 user_packed u = list_packed u.mem (mmap_out u.regions u.next)
 
-unfoldable pub on_user : (Outcome → Line) → (User → UserDid) → ListParts → Left ListParts
+unfoldable pub on_user : ((Result ℕ Refusal) → Line) → (User → UserDid) → ListParts → Left ListParts
 on_user line call p = unless_fit (user_fit p) p (left (line (call (user_in p)).answer) (user_packed (call (user_in p)).user))
 
-abbrev pub packed_mmap : ListParts → ℕ → OptAddr → ℕ → ℤ → ℤ → Left ListParts
+abbrev pub packed_mmap : ListParts → ℕ → Option ℕ → ℕ → ℤ → ℤ → Left ListParts
 packed_mmap p root hint size prot flags = on_user address_line (λ (u : User). mmap_of u root hint size prot flags) p
 
 abbrev pub packed_munmap : ListParts → ℕ → ℕ → ℕ → Left ListParts
@@ -99,5 +100,5 @@ packed_find_free list size old =
     (left (count_line (find_free (listed (mmap_in list)) (next_in list) size)) (compared (listed (mmap_in list)) (next_in list) size))
 
 -- of its refusals only 15 changes what it is lent
-abbrev pub search_leftovers : List ℕ
-search_leftovers = no_region ∷ []
+abbrev pub search_leftovers : List Refusal
+search_leftovers = NoRegion ∷ []

@@ -39,7 +39,7 @@ pub extern "C" fn gadulnos_vmalloc(
     let left = did.frames;
     let a = did.answer;
     parts::put_fields(fields, left);
-    address::virt_line(a)
+    answer::line_of(a)
 }
 
 #[unsafe(no_mangle)]

@@ -47,7 +47,7 @@ pub extern "C" fn gadulnos_mmap(
     let left = did.frames;
     let a = did.answer;
     parts::put_fields(fields, left);
-    address::virt_line(a)
+    answer::line_of(a)
 }
 
 #[unsafe(no_mangle)]
@@ -98,7 +98,7 @@ pub extern "C" fn gadulnos_find_free_region(list: &[u8], size: u64, compared: &m
     let found = free_range::find_free_region(list, size);
     let outcome = found.outcome;
     *compared = found.compared as u64;
-    answer::count_line(outcome)
+    answer::line_of(outcome)
 }
 
 // WRITABLE on a region's pages and its prot: of the frame record the start, the total and the levels are read.
@@ -119,7 +119,7 @@ pub extern "C" fn gadulnos_mprotect(
     ensures refused { Unchanged no_leftovers (protect_parts words.old list.old)
         (left result (protect_parts words.new list.new)) }
 {
-    answer::answer_line(mprotect::mprotect(
+    answer::line_of(mprotect::mprotect(
         words,
         start,
         total,

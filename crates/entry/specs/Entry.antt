@@ -1,9 +1,10 @@
 -- A page-table word's fields and an address's indices, by division and remainder of powers of two.
+use Rattle.std.specs.Prelude.{Ok, Err, Result}
+use Rattle.answer.specs.declared.Refusal.{Refusal}
+use Rattle.answer.specs.declared.Refusal.TheVariants.{NotMapped}
+use Rattle.entry.specs.declared.paging.PageTableEntry.{PageTableEntry}
 use Rattle.std.specs.Prelude.{ℕ, zero, suc, ◌+◌, ◌-◌, ◌*◌, ◌/◌, ◌%◌, ◌^◌, Bool, List, [], ◌∷◌, ltb, get_or}
 use Rattle.bits.specs.Bit.{pick, one, bit}
-use Rattle.answer.specs.Numbers.{not_mapped}
-use Rattle.entry.specs.declared.EntryAnswer.{EntryAnswer}
-use Rattle.entry.specs.declared.EntryAnswer.TheVariants.{AtEntry, NoEntry}
 
 -- the frame that a word's address field names: bits 51 to 12
 abbrev pub frame_of : ℕ → ℕ
@@ -35,5 +36,5 @@ indices zero v = []
 indices (suc n) v = index n v ∷ indices n v
 
 -- 'An index of 512 or more has no entry: 14'
-abbrev pub entry_of_table : List ℕ → ℕ → EntryAnswer
-entry_of_table table i = pick (ltb i 512) (AtEntry (record { 0 = get_or table i 0 })) (NoEntry not_mapped)
+abbrev pub entry_of_table : List ℕ → ℕ → Result PageTableEntry Refusal
+entry_of_table table i = pick (ltb i 512) (Ok (record { 0 = get_or table i 0 })) (Err NotMapped)

@@ -9,14 +9,8 @@ ghost use Rattle.bits.specs.Bit.{one};
 ghost use Rattle.entry.specs.Entry.{index as index_of, indices, entry_of_table};
 
 use address::VirtAddr;
+use answer::Refusal;
 use paging::PageTableEntry;
-
-// A table's entry by index.
-#[derive(Clone, Copy)]
-pub enum EntryAnswer {
-    AtEntry(PageTableEntry),
-    NoEntry(u64),
-}
 
 // A flag's power of two if it is set, for a sum of flags.
 fn power_if(set: bool, power: u64) -> u64
@@ -40,20 +34,20 @@ pub fn page_indices(virt: VirtAddr) -> [usize; 4]
     ensures value { result ≡ indices 4 virt.0 }
     ensures by_index { (k : ℕ) → get_or result k 0 < 512 }
 {
-    let addr = virt.0;
     [
-        ((addr >> 39) & 0x1FF) as usize,
-        ((addr >> 30) & 0x1FF) as usize,
-        ((addr >> 21) & 0x1FF) as usize,
-        ((addr >> 12) & 0x1FF) as usize,
+        page_index(virt, 3),
+        page_index(virt, 2),
+        page_index(virt, 1),
+        page_index(virt, 0),
     ]
 }
 
-pub fn get_entry(table: &[u64; 512], index: usize) -> EntryAnswer
+// A table's entry by index.
+pub fn get_entry(table: &[u64; 512], index: usize) -> Result<PageTableEntry, Refusal>
     ensures { result ≡ entry_of_table table.now index }
 {
-    if index < 512 {
-        return EntryAnswer::AtEntry(PageTableEntry(table[index]));
+    match table.get(index) {
+        Some(&word) => Ok(PageTableEntry(word)),
+        None => Err(Refusal::NotMapped),
     }
-    EntryAnswer::NoEntry(answer::NOT_MAPPED)
 }

@@ -6,7 +6,7 @@ ghost use Rattle.entry.specs.Flags.{no_flags, bits_of, flags_of, flag_entry_of};
 
 use crate::power_if;
 
-#[derive(Clone, Copy)]
+#[derive(Clone, Copy, Debug, Default, PartialEq, Eq)]
 pub struct PageFlags {
     pub present: bool,
     pub writable: bool,
@@ -24,18 +24,7 @@ impl PageFlags {
     pub fn new() -> Self
         ensures { result ≡ no_flags }
     {
-        Self {
-            present: false,
-            writable: false,
-            user: false,
-            write_through: false,
-            cache_disabled: false,
-            accessed: false,
-            dirty: false,
-            huge: false,
-            global: false,
-            no_execute: false,
-        }
+        Self::default()
     }
 
     // A sum of one power of two for each true flag.
@@ -72,7 +61,7 @@ impl PageFlags {
     }
 }
 
-#[derive(Clone, Copy)]
+#[derive(Clone, Copy, Debug, Default, PartialEq, Eq)]
 pub struct PageTableEntry {
     pub entry: u64,
 }
@@ -85,7 +74,7 @@ impl PageTableEntry {
     pub fn new() -> Self
         ensures { result.entry ≡ 0 }
     {
-        Self { entry: 0 }
+        Self::default()
     }
 
     pub fn is_present(self) -> bool

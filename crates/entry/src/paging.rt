@@ -1,13 +1,23 @@
-// The entry of paging.rs.
+// The entry of paging.rs. page_handler.rs has one of its own, with other fields and names: docs/API.md gives the functions of both, so that they stay two types.
 ghost use Rattle.std.specs.Prelude.{◌≡◌, ◌+◌, ◌*◌};
 ghost use Rattle.bits.specs.Bit.{one, flag};
 ghost use Rattle.entry.specs.Entry.{addr_of, entry_of, huge_entry_of, with_writable};
 
 use crate::power_if;
 use address::PhysAddr;
+use answer::Shown;
 
-#[derive(Clone, Copy)]
+#[derive(Clone, Copy, Debug, Default, PartialEq, Eq)]
 pub struct PageTableEntry(pub u64);
+
+// A word that a call hands back is printed as it is.
+impl Shown for PageTableEntry {
+    ghost shown = { λ e. e.0 };
+
+    fn value(self) -> u64 {
+        self.0
+    }
+}
 
 impl PageTableEntry {
     pub const PRESENT: u64 = 1 << 0;
@@ -23,7 +33,7 @@ impl PageTableEntry {
     pub fn new() -> Self
         ensures { result.0 ≡ 0 }
     {
-        PageTableEntry(0)
+        Self::default()
     }
 
     pub fn is_present(self) -> bool

@@ -1,7 +1,8 @@
 -- A page fault's error code.
+use Rattle.answer.specs.declared.Refusal.{Refusal}
+use Rattle.answer.specs.declared.Refusal.TheVariants.{InstructionFetch, ProtectionViolation}
 use Rattle.std.specs.Prelude.{ℕ, Bool}
 use Rattle.bits.specs.Bit.{pick, flag}
-use Rattle.answer.specs.Numbers.{instruction_fetch, protection_violation}
 
 -- 'Error bits 0 to 4: present, write, user, reserved, instruction'
 abbrev pub is_present : ℕ → Bool
@@ -20,5 +21,5 @@ abbrev pub is_fetch : ℕ → Bool
 is_fetch code = flag 4 code
 
 -- access denied to a page that is present, not for a write: 'fetch 7; else 8'
-abbrev pub denied : ℕ → ℕ
-denied code = pick (is_fetch code) instruction_fetch protection_violation
+abbrev pub denied : ℕ → Refusal
+denied code = pick (is_fetch code) InstructionFetch ProtectionViolation

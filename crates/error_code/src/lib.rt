@@ -4,6 +4,9 @@
 ghost use Rattle.std.specs.Prelude.{◌≡◌};
 ghost use Rattle.error_code.specs.ErrorCode.{is_present, is_write, is_user, is_reserved, is_fetch, denied as denied_by};
 
+use answer::Refusal;
+
+// A code stays the plain number that the C interface lends (`gadulnos_handle_page_fault`): bits above 4 may be set and are ignored, so that no enum holds it.
 // 0: the page was not present. 1: access to it was denied.
 pub const PRESENT: u64 = 1 << 0;
 
@@ -47,12 +50,12 @@ pub fn is_fetch(code: u64) -> bool
     (code & INSTRUCTION) != 0
 }
 
-// The number for access that was denied to a page, other than a write.
-pub fn denied(code: u64) -> u64
+// The refusal of access that was denied to a page, other than a write.
+pub fn denied(code: u64) -> Refusal
     ensures { result ≡ denied_by code }
 {
     if is_fetch(code) {
-        return answer::INSTRUCTION_FETCH;
+        return Refusal::InstructionFetch;
     }
-    answer::PROTECTION_VIOLATION
+    Refusal::ProtectionViolation
 }

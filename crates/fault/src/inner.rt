@@ -13,7 +13,7 @@ ghost use Rattle.fault.specs.Packed.{on_pages, found_on_pages, faulted, FaultRea
 
 use crate::Faulted;
 use address::{Frame, VirtAddr};
-use answer::{Answer, Outcome};
+use answer::Refusal;
 use frame::{FrameAllocator, Marks, tallies};
 use paging::Entered;
 
@@ -70,13 +70,13 @@ fn demand_page(
 {
     if !is_valid(page.0) {
         return Entered {
-            walked: Outcome::Stop(answer::INVALID_ADDRESS),
+            walked: Err(Refusal::InvalidAddress),
             frames,
         };
     }
     if is_heap_fetch(page.0, code) {
         return Entered {
-            walked: Outcome::Stop(answer::INSTRUCTION_FETCH),
+            walked: Err(Refusal::InstructionFetch),
             frames,
         };
     }
@@ -84,11 +84,11 @@ fn demand_page(
     let walked = taken.walked;
     let left = taken.frames;
     match walked {
-        Outcome::Stop(n) => Entered {
-            walked: Outcome::Stop(n),
+        Err(n) => Entered {
+            walked: Err(n),
             frames: left,
         },
-        Outcome::Value(f) => {
+        Ok(f) => {
             let writable = error_code::is_write(code);
             let user = error_code::is_user(code);
             copying::map_frame(words, bitmap, left, up, root, page, f, writable, user)
@@ -120,14 +120,14 @@ fn protected(
 {
     if !error_code::is_write(code) {
         return Faulted {
-            answer: Answer::Refused(error_code::denied(code)),
+            answer: Err(error_code::denied(code)),
             found: tallies::none(),
             frames,
         };
     }
     if !cow::list::is_listed(marked, page.0) {
         return Faulted {
-            answer: Answer::Refused(answer::WRITE_TO_READ_ONLY),
+            answer: Err(Refusal::WriteToReadOnly),
             found: tallies::none(),
             frames,
         };
@@ -138,15 +138,15 @@ fn protected(
     let found = r.found;
     let left = r.frames;
     match walked {
-        Outcome::Stop(n) => Faulted {
-            answer: Answer::Refused(n),
+        Err(n) => Faulted {
+            answer: Err(n),
             found,
             frames: left,
         },
-        Outcome::Value(_) => {
+        Ok(_) => {
             cow::list::unmark(marked, page.0);
             Faulted {
-                answer: Answer::Met,
+                answer: Ok(()),
                 found,
                 frames: left,
             }
@@ -178,7 +178,7 @@ pub fn handle(
 {
     if error_code::is_reserved(code) {
         return Faulted {
-            answer: Answer::Refused(answer::RESERVED_BIT),
+            answer: Err(Refusal::ReservedBit),
             found: tallies::none(),
             frames,
         };

@@ -9,13 +9,13 @@ ghost use Rattle.fault.specs.Faults.{handle_fault_of};
 ghost use Rattle.fault.specs.Packed.{fault_on, fault_found_on, faulted, FaultReads};
 
 use address::{Frame, VirtAddr};
-use answer::Answer;
+use answer::Refusal;
 use frame::{FrameAllocator, Marks, Tally, tallies};
 
 // The answer of the first path, beside what a copy's old frame was found to be and the frame record that is left.
 #[derive(Clone, Copy)]
 pub struct Faulted {
-    pub answer: Answer,
+    pub answer: Result<(), Refusal>,
     pub found: Tally,
     pub frames: FrameAllocator,
 }
@@ -38,14 +38,14 @@ pub fn handle_page_fault(
 {
     if !mapper::is_whole(words, bitmap, frames, root) {
         return Faulted {
-            answer: Answer::Refused(answer::BROKEN_RECORD),
+            answer: Err(Refusal::BrokenRecord),
             found: tallies::none(),
             frames,
         };
     }
     if !cow::list::is_sound(marked) {
         return Faulted {
-            answer: Answer::Refused(answer::BROKEN_RECORD),
+            answer: Err(Refusal::BrokenRecord),
             found: tallies::none(),
             frames,
         };

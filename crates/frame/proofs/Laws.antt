@@ -1,23 +1,19 @@
 -- What the frame allocator's definitions come to, by the tests that code makes.
-use Rattle.std.proofs.Common.{◌≡◌, ℕ, ◌+◌, ◌-◌, ◌/◌, ◌%◌, ◌^◌, ◌<◌, ◌≤◌, min, Bool, true, false, not, eqb, ltb, leb, List, replicate, sym, refl, ap, ◌∙◌, arith, ltb-false, ltb-true, le-ltb, lt-ltb, eq-eqb, eqb-true, le-leb, leb-true}
+use Rattle.std.specs.Prelude.{Ok, Err, Result, ⊤}
+use Rattle.answer.specs.declared.Refusal.{Refusal}
+use Rattle.answer.specs.declared.Refusal.TheVariants.{BrokenRecord, NoFreeFrame}
+use Rattle.address.specs.declared.Frame.{Frame}
+use Rattle.std.proofs.Common.{◌≡◌, ℕ, ◌+◌, ◌-◌, ◌/◌, ◌%◌, ◌^◌, ◌<◌, ◌≤◌, min, Bool, true, false, eqb, ltb, leb, List, replicate, sym, refl, ap, ◌∙◌, arith, ltb-false, ltb-true, le-ltb, lt-ltb, eq-eqb, eqb-true, le-leb, leb-true}
 use mathlib.Core.Bool.{false≢true}
 use native.Mathlib.Decide.{dec_le}
-use borrow.Author.Tests.{lt-leb, not-true, not-false}
+use borrow.Author.Tests.{lt-leb}
 use Rattle.bits.specs.Bit.{both}
 use Rattle.bits.proofs.Choice.{pick_cases, both_true}
-use Rattle.answer.specs.Numbers.{broken_record, no_free_frame}
-use Rattle.answer.specs.declared.Answer.{Answer}
-use Rattle.answer.specs.declared.Answer.TheVariants.{Met, Refused}
-use Rattle.answer.specs.declared.Outcome.TheVariants.{Value, Stop}
-use Rattle.answer.specs.declared.FlagAnswer.TheVariants.{Flag, NoFlag}
-use Rattle.address.specs.declared.FrameAnswer.{FrameAnswer}
-use Rattle.address.specs.declared.FrameAnswer.TheVariants.{AtFrame, NoFrame}
 use Rattle.bitmap.specs.Bitmap.{marked, is_marked, free_from, count}
 use Rattle.bitmap.proofs.Marks.{is_marked_lem, is_free, marked_true, marked_false, count_le}
 use Rattle.bitmap.proofs.Search.{free_is_free, free_below_marked}
 use Rattle.frame.specs.declared.Found.{Found}
 use Rattle.frame.specs.declared.Found.TheVariants.{Freed, AlreadyFree, NotHere}
-use Rattle.frame.specs.declared.FoundAnswer.TheVariants.{Was, NoFound}
 use Rattle.frame.specs.Frames.{Frames, frames, FramesDid, frames_did, inside, sound, init, with_mark, without_mark, take_frame, frame_marked, mark_frame, give_frame, is_allocated, mark_allocated, allocate, deallocate, counted, RoomToCount, is_levels, unused}
 
 -- what a contract says of a call: what the code returns of it, and the bitmap that it leaves
@@ -142,20 +138,20 @@ abbrev pub fresh : ℕ → ℕ → Frames
 fresh s e = frames (replicate 128 0) (unused (s / 4096) (min ((e - s) / 4096) 8192))
 
 module _ (fr : Frames) (s e : ℕ) where
-  pub init_crossed : e < s → init fr s e ≡ frames_did (Refused broken_record) fr
+  pub init_crossed : e < s → init fr s e ≡ frames_did (Err BrokenRecord) fr
   unfolding init
   init_crossed h = simp lt-leb
 
-  pub init_high : s ≤ e → 2 ^ 52 < e → init fr s e ≡ frames_did (Refused broken_record) fr
+  pub init_high : s ≤ e → 2 ^ 52 < e → init fr s e ≡ frames_did (Err BrokenRecord) fr
   unfolding init
   init_high h k = simp (le-leb, lt-leb)
 
-  pub init_met : s ≤ e → e ≤ 2 ^ 52 → init fr s e ≡ frames_did Met (fresh s e)
+  pub init_met : s ≤ e → e ≤ 2 ^ 52 → init fr s e ≡ frames_did (Ok tt) (fresh s e)
   unfolding init
   init_met h k = simp (le-leb _ _ h, le-leb _ _ k)
 
   -- both outcomes
-  pub init_cases : (P : FramesDid Answer → Type 0) → (s ≤ e → e ≤ 2 ^ 52 → P (frames_did Met (fresh s e))) → P (frames_did (Refused broken_record) fr) → P (init fr s e)
+  pub init_cases : (P : FramesDid (Result ⊤ Refusal) → Type 0) → (s ≤ e → e ≤ 2 ^ 52 → P (frames_did (Ok tt) (fresh s e))) → P (frames_did (Err BrokenRecord) fr) → P (init fr s e)
   unfolding init
   init_cases P met refused =
       pick_cases P (both (leb s e) (leb e (2 ^ 52))) _ _
@@ -166,19 +162,19 @@ pub lowest_free : (bm : List ℕ) (n j : ℕ) → j ≡ free_from bm 0 n → j <
 lowest_free bm n j e h = rw e (free_is_free bm 0 n (omega arith))
 
 module _ (fr : Frames) where
-  pub take_none : fr.fa.total ≤ free_from fr.bits 0 fr.fa.total → take_frame fr ≡ frames_did (NoFrame no_free_frame) fr
+  pub take_none : fr.fa.total ≤ free_from fr.bits 0 fr.fa.total → take_frame fr ≡ frames_did (Err NoFreeFrame) fr
   unfolding take_frame
   take_none h = rw (le-ltb _ _ h)
 
   pub take_found : (j : ℕ) → j ≡ free_from fr.bits 0 fr.fa.total → j < fr.fa.total
-      → take_frame fr ≡ frames_did (AtFrame (record { 0 = fr.fa.start + j })) (with_mark fr j)
+      → take_frame fr ≡ frames_did (Ok (record { 0 = fr.fa.start + j })) (with_mark fr j)
   unfolding take_frame
   take_found j e h = rw (← e, lt-ltb _ _ h)
 
   -- both outcomes of taking a frame
-  pub take_cases : (P : FramesDid FrameAnswer → Type 0)
-      → ((j : ℕ) → j < fr.fa.total → marked fr.bits j ≡ 0 → ((k : ℕ) → k < j → marked fr.bits k ≡ 1) → P (frames_did (AtFrame (record { 0 = fr.fa.start + j })) (with_mark fr j)))
-      → (((k : ℕ) → k < fr.fa.total → marked fr.bits k ≡ 1) → P (frames_did (NoFrame no_free_frame) fr)) → P (take_frame fr)
+  pub take_cases : (P : FramesDid (Result Frame Refusal) → Type 0)
+      → ((j : ℕ) → j < fr.fa.total → marked fr.bits j ≡ 0 → ((k : ℕ) → k < j → marked fr.bits k ≡ 1) → P (frames_did (Ok (record { 0 = fr.fa.start + j })) (with_mark fr j)))
+      → (((k : ℕ) → k < fr.fa.total → marked fr.bits k ≡ 1) → P (frames_did (Err NoFreeFrame) fr)) → P (take_frame fr)
   unfolding take_frame
   take_cases P found none =
       pick_cases P (ltb (free_from fr.bits 0 fr.fa.total) fr.fa.total) _ _
@@ -259,7 +255,7 @@ module _ (fr : Frames) (n : ℕ) where
 
 -- the calls: 10 on a broken record, and the step itself on a whole one
 module _ (fr : Frames) where
-  pub allocate_broken : sound fr ≡ false → allocate fr ≡ frames_did (NoFrame broken_record) fr
+  pub allocate_broken : sound fr ≡ false → allocate fr ≡ frames_did (Err BrokenRecord) fr
   unfolding allocate
   allocate_broken h = rw h
 
@@ -268,34 +264,34 @@ module _ (fr : Frames) where
   allocate_whole h = rw h
 
 module _ (fr : Frames) (n : ℕ) where
-  pub allocated_broken : sound fr ≡ false → is_allocated fr n ≡ NoFlag broken_record
+  pub allocated_broken : sound fr ≡ false → is_allocated fr n ≡ Err BrokenRecord
   unfolding is_allocated
   allocated_broken h = rw h
 
-  pub allocated_whole : sound fr ≡ true → is_allocated fr n ≡ Flag (frame_marked fr n)
+  pub allocated_whole : sound fr ≡ true → is_allocated fr n ≡ Ok (frame_marked fr n)
   unfolding is_allocated
   allocated_whole h = rw h
 
-  pub mark_broken : sound fr ≡ false → mark_allocated fr n ≡ frames_did (Refused broken_record) fr
+  pub mark_broken : sound fr ≡ false → mark_allocated fr n ≡ frames_did (Err BrokenRecord) fr
   unfolding mark_allocated
   mark_broken h = rw h
 
-  pub mark_whole : sound fr ≡ true → mark_allocated fr n ≡ frames_did Met (mark_frame fr n)
+  pub mark_whole : sound fr ≡ true → mark_allocated fr n ≡ frames_did (Ok tt) (mark_frame fr n)
   unfolding mark_allocated
   mark_whole h = rw h
 
-  pub deallocate_broken : sound fr ≡ false → deallocate fr n ≡ frames_did (NoFound broken_record) fr
+  pub deallocate_broken : sound fr ≡ false → deallocate fr n ≡ frames_did (Err BrokenRecord) fr
   unfolding deallocate
   deallocate_broken h = rw h
 
-  pub deallocate_whole : sound fr ≡ true → deallocate fr n ≡ frames_did (Was (give_frame fr n).answer) (give_frame fr n).frames
+  pub deallocate_whole : sound fr ≡ true → deallocate fr n ≡ frames_did (Ok (give_frame fr n).answer) (give_frame fr n).frames
   unfolding deallocate
   deallocate_whole h = rw h
 
-  pub counted_broken : sound fr ≡ false → counted fr n ≡ Stop broken_record
+  pub counted_broken : sound fr ≡ false → counted fr n ≡ Err BrokenRecord
   unfolding counted
   counted_broken h = rw h
 
-  pub counted_whole : sound fr ≡ true → counted fr n ≡ Value n
+  pub counted_whole : sound fr ≡ true → counted fr n ≡ Ok n
   unfolding counted
   counted_whole h = rw h

@@ -1,15 +1,13 @@
 -- What the steps of the frame allocator keep, and what they change. The layers above cite these laws and open none of its definitions.
+use Rattle.std.specs.Prelude.{Ok, Err, Result, ⊤}
+use Rattle.answer.specs.declared.Refusal.{Refusal}
+use Rattle.answer.specs.declared.Refusal.TheVariants.{NoFreeFrame}
 use Rattle.std.proofs.Common.{◌≡◌, ℕ, ◌+◌, ◌-◌, ◌/◌, ◌^◌, ◌<◌, ◌≤◌, Bool, true, false, eqb, length, sym, refl, ap, ◌∙◌, subst, ap₂, add-sub_cancel, arith}
 use native.Mathlib.Decide.{ℕ_discrete}
 use lib.ListN.{length-replicate}
 use Rattle.bits.specs.Bit.{pick, both}
 use Rattle.bits.proofs.Choice.{pick_comm, both_same}
-use Rattle.answer.specs.Numbers.{no_free_frame}
-use Rattle.answer.specs.declared.Answer.{Answer}
-use Rattle.answer.specs.declared.Answer.TheVariants.{Met}
 use Rattle.address.specs.declared.Frame.{Frame}
-use Rattle.address.specs.declared.FrameAnswer.{FrameAnswer}
-use Rattle.address.specs.declared.FrameAnswer.TheVariants.{AtFrame, NoFrame}
 use Rattle.bitmap.specs.Bitmap.{marked, is_marked, mark, unmark}
 use Rattle.bitmap.proofs.Marks.{Words, length_mark, length_unmark, mark_own, mark_other, unmark_own, unmark_other, mark_words, unmark_words, mark_unmark, unmark_mark, unmark_comm, is_marked_lem, is_free, count_mark, count_unmark, count_pos, count_all, count_replicate, marked_replicate, replicate_words}
 use Rattle.frame.specs.declared.Found.{Found}
@@ -153,55 +151,55 @@ without_comm fr i j = rw (unmark_comm fr.bits i j)
 
 -- ---- taking a frame
 
-at_or_none : {f : Frame} {n : ℕ} → NoFrame n ≡ AtFrame f → ⊥
+at_or_none : {f : Frame} {n : Refusal} → Err n ≡ Ok f → ⊥
 at_or_none e = let z : ◌≡◌ {A = ℕ} 0 1 = cc in omega arith
 
 module _ (fr : Frames) where
   pub span_take : SameSpan fr (take_frame fr).frames
-  span_take = take_cases fr (λ (d : FramesDid FrameAnswer). SameSpan fr d.frames) (λ j _ _ _. span_with fr j) (λ _. span_refl fr)
+  span_take = take_cases fr (λ (d : FramesDid (Result Frame Refusal)). SameSpan fr d.frames) (λ j _ _ _. span_with fr j) (λ _. span_refl fr)
 
   pub sound_take : Sound fr → Sound (take_frame fr).frames
-  sound_take s = take_cases fr (λ (d : FramesDid FrameAnswer). Sound d.frames) (λ j below free _. sound_with fr j s below free) (λ _. s)
+  sound_take s = take_cases fr (λ (d : FramesDid (Result Frame Refusal)). Sound d.frames) (λ j below free _. sound_with fr j s below free) (λ _. s)
 
   pub words_take : Words fr.bits → Words (take_frame fr).frames.bits
-  words_take w = take_cases fr (λ (d : FramesDid FrameAnswer). Words d.frames.bits) (λ j _ free _. words_with fr j free w) (λ _. w)
+  words_take w = take_cases fr (λ (d : FramesDid (Result Frame Refusal)). Words d.frames.bits) (λ j _ free _. words_with fr j free w) (λ _. w)
 
   -- the frame that is taken is free, and nothing but it is marked
-  pub more_take : Sound fr → (f : Frame) → (take_frame fr).answer ≡ AtFrame f → OneMore fr f.0 (take_frame fr).frames
+  pub more_take : Sound fr → (f : Frame) → (take_frame fr).answer ≡ Ok f → OneMore fr f.0 (take_frame fr).frames
   more_take s f =
-      take_cases fr (λ (d : FramesDid FrameAnswer). d.answer ≡ AtFrame f → OneMore fr f.0 d.frames)
+      take_cases fr (λ (d : FramesDid (Result Frame Refusal)). d.answer ≡ Ok f → OneMore fr f.0 d.frames)
       (λ j below free _ e. more_with fr j s below free f.0 (cc))
       (λ _ e. absurd (at_or_none e))
 
   -- no free frame lies below it
-  pub take_lowest : (f : Frame) → (take_frame fr).answer ≡ AtFrame f → (n : ℕ) → n < f.0 → frame_marked fr n ≡ true
+  pub take_lowest : (f : Frame) → (take_frame fr).answer ≡ Ok f → (n : ℕ) → n < f.0 → frame_marked fr n ≡ true
   take_lowest f =
-      take_cases fr (λ (d : FramesDid FrameAnswer). d.answer ≡ AtFrame f → (n : ℕ) → n < f.0 → frame_marked fr n ≡ true)
+      take_cases fr (λ (d : FramesDid (Result Frame Refusal)). d.answer ≡ Ok f → (n : ℕ) → n < f.0 → frame_marked fr n ≡ true)
       (λ j _ _ lower e n l. let z : fr.fa.start + j ≡ f.0 = cc in
       reads_marked fr n (λ h. lower (n - fr.fa.start) (omega (arith, inside_from fr.fa.start fr.fa.total n h))))
       (λ _ e. absurd (at_or_none e))
 
   -- a refused take, which is 11 only: nothing is changed and no frame is free
-  pub take_refused : (k : ℕ) → (take_frame fr).answer ≡ NoFrame k → take_frame fr ≡ frames_did (NoFrame no_free_frame) fr
+  pub take_refused : (k : Refusal) → (take_frame fr).answer ≡ Err k → take_frame fr ≡ frames_did (Err NoFreeFrame) fr
   take_refused k =
-      take_cases fr (λ (d : FramesDid FrameAnswer). d.answer ≡ NoFrame k → d ≡ frames_did (NoFrame no_free_frame) fr)
+      take_cases fr (λ (d : FramesDid (Result Frame Refusal)). d.answer ≡ Err k → d ≡ frames_did (Err NoFreeFrame) fr)
       (λ j _ _ _ e. absurd (at_or_none (sym e))) (λ _ _. refl)
 
-  pub take_full : (k : ℕ) → (take_frame fr).answer ≡ NoFrame k → (n : ℕ) → frame_marked fr n ≡ true
+  pub take_full : (k : Refusal) → (take_frame fr).answer ≡ Err k → (n : ℕ) → frame_marked fr n ≡ true
   take_full k =
-      take_cases fr (λ (d : FramesDid FrameAnswer). d.answer ≡ NoFrame k → (n : ℕ) → frame_marked fr n ≡ true)
+      take_cases fr (λ (d : FramesDid (Result Frame Refusal)). d.answer ≡ Err k → (n : ℕ) → frame_marked fr n ≡ true)
       (λ j _ _ _ e. absurd (at_or_none (sym e)))
       (λ all _ n. reads_marked fr n (λ h. all (n - fr.fa.start) (inside_under _ _ _ h)))
 
   -- it is refused just where the counter is total
-  pub take_met : Sound fr → fr.fa.allocated < fr.fa.total → (f : Frame) × ((take_frame fr).answer ≡ AtFrame f)
+  pub take_met : Sound fr → fr.fa.allocated < fr.fa.total → (f : Frame) × ((take_frame fr).answer ≡ Ok f)
   take_met s room =
-      take_cases fr (λ (d : FramesDid FrameAnswer). (f : Frame) × (d.answer ≡ AtFrame f)) (λ j _ _ _. (_, refl))
+      take_cases fr (λ (d : FramesDid (Result Frame Refusal)). (f : Frame) × (d.answer ≡ Ok f)) (λ j _ _ _. (_, refl))
       (λ all. absurd (omega (arith, sound_count fr s.tested, count_all fr.bits fr.fa.total all)))
 
-  pub take_count : Sound fr → (k : ℕ) → (take_frame fr).answer ≡ NoFrame k → fr.fa.allocated ≡ fr.fa.total
+  pub take_count : Sound fr → (k : Refusal) → (take_frame fr).answer ≡ Err k → fr.fa.allocated ≡ fr.fa.total
   take_count s k =
-      take_cases fr (λ (d : FramesDid FrameAnswer). d.answer ≡ NoFrame k → fr.fa.allocated ≡ fr.fa.total)
+      take_cases fr (λ (d : FramesDid (Result Frame Refusal)). d.answer ≡ Err k → fr.fa.allocated ≡ fr.fa.total)
       (λ j _ _ _ e. absurd (at_or_none (sym e))) (λ all _. sound_count fr s.tested ∙ count_all fr.bits fr.fa.total all)
 
 -- ---- marking a frame
@@ -260,9 +258,9 @@ with_give fr j s below free n e =
     give_there (with_mark fr j) n m.lent m.there
     ∙ ap (λ (i : ℕ). frames_did Freed (without_mark (with_mark fr j) i)) d ∙ ap (frames_did Freed) (without_with fr j)
 
-pub take_give : (fr : Frames) → Sound fr → (f : Frame) → (take_frame fr).answer ≡ AtFrame f → give_frame (take_frame fr).frames f.0 ≡ frames_did Freed fr
+pub take_give : (fr : Frames) → Sound fr → (f : Frame) → (take_frame fr).answer ≡ Ok f → give_frame (take_frame fr).frames f.0 ≡ frames_did Freed fr
 take_give fr s f =
-    take_cases fr (λ (d : FramesDid FrameAnswer). d.answer ≡ AtFrame f → give_frame d.frames f.0 ≡ frames_did Freed fr)
+    take_cases fr (λ (d : FramesDid (Result Frame Refusal)). d.answer ≡ Ok f → give_frame d.frames f.0 ≡ frames_did Freed fr)
     (λ j below free _ e. with_give fr j s below free f.0 (cc)) (λ _ e. absurd (at_or_none e))
 
 pub mark_give : (fr : Frames) (n : ℕ) → Sound fr → frame_marked fr n ≡ false → give_frame (mark_frame fr n) n ≡ frames_did Freed fr
@@ -330,12 +328,12 @@ fresh_free s e crossed low = record {
 }
 
 -- what a met `init` leaves does not depend on what was there
-pub init_fresh : (fr : Frames) (s e : ℕ) → (init fr s e).answer ≡ Met → (init fr s e).frames ≡ fresh s e
+pub init_fresh : (fr : Frames) (s e : ℕ) → (init fr s e).answer ≡ Ok tt → (init fr s e).frames ≡ fresh s e
 init_fresh fr s e =
-    init_cases fr s e (λ (d : FramesDid Answer). d.answer ≡ Met → d.frames ≡ fresh s e) (λ _ _ _. refl)
+    init_cases fr s e (λ (d : FramesDid (Result ⊤ Refusal)). d.answer ≡ Ok tt → d.frames ≡ fresh s e) (λ _ _ _. refl)
     (λ h. let z : ◌≡◌ {A = ℕ} 0 1 = cc in absurd (omega arith))
 
-pub init_free : (fr : Frames) (s e : ℕ) → (init fr s e).answer ≡ Met → AllFree (init fr s e).frames
+pub init_free : (fr : Frames) (s e : ℕ) → (init fr s e).answer ≡ Ok tt → AllFree (init fr s e).frames
 init_free fr s e =
-    init_cases fr s e (λ (d : FramesDid Answer). d.answer ≡ Met → AllFree d.frames) (λ a b _. fresh_free s e a b)
+    init_cases fr s e (λ (d : FramesDid (Result ⊤ Refusal)). d.answer ≡ Ok tt → AllFree d.frames) (λ a b _. fresh_free s e a b)
     (λ h. let z : ◌≡◌ {A = ℕ} 0 1 = cc in absurd (omega arith))

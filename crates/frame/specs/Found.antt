@@ -1,13 +1,12 @@
 -- What freeing found, document 02's slip 5: '`deallocate_frame` answers one of three: freed, already free, not on this board. munmap and vfree return how many frames
 -- fell in each.'
+use Rattle.std.specs.Prelude.{Result, ⊤}
+use Rattle.answer.specs.declared.Refusal.{Refusal}
 use Rattle.std.specs.Prelude.{ℕ, ◌+◌}
-use Rattle.answer.specs.Numbers.{answer_line}
-use Rattle.answer.specs.declared.Answer.{Answer}
+use Rattle.answer.specs.Numbers.{answer_line, line_of}
 use Rattle.answer.specs.declared.Line.{Line}
 use Rattle.frame.specs.declared.Found.{Found}
 use Rattle.frame.specs.declared.Found.TheVariants.{Freed, AlreadyFree, NotHere}
-use Rattle.frame.specs.declared.FoundAnswer.{FoundAnswer}
-use Rattle.frame.specs.declared.FoundAnswer.TheVariants.{Was, NoFound}
 use Rattle.frame.specs.declared.Tally.{Tally}
 use Rattle.frame.specs.declared.TallyLine.{TallyLine}
 
@@ -17,9 +16,8 @@ found_value Freed = 0
 found_value AlreadyFree = 1
 found_value NotHere = 2
 
-abbrev pub found_line : FoundAnswer → Line
-found_line (Was f) = record { number = 0; value = found_value f }
-found_line (NoFound n) = record { number = n; value = 0 }
+abbrev pub found_line : Result Found Refusal → Line
+found_line = line_of found_value
 
 -- ---- how many fell in each
 
@@ -42,7 +40,7 @@ abbrev pub all_found : Tally → ℕ
 all_found t = t.freed + t.already_free + t.not_here
 
 -- a call's number beside its tally, and each of them by itself: 'The key program still prints value 0'
-abbrev pub tally_line : Answer → Tally → TallyLine
+abbrev pub tally_line : Result ⊤ Refusal → Tally → TallyLine
 tally_line a t = record { number = (answer_line a).number; freed = t.freed; already_free = t.already_free; not_here = t.not_here }
 
 abbrev pub key_line : TallyLine → Line

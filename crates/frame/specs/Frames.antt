@@ -1,21 +1,14 @@
 -- The frame allocator, document 01's 'Frames (frame.rs)'. Frame number n, one of the `total` from `start` on, is marked where bit n − start of the bitmap is 1.
+use Rattle.std.specs.Prelude.{Ok, Err, Result, ⊤}
+use Rattle.answer.specs.declared.Refusal.{Refusal}
+use Rattle.answer.specs.declared.Refusal.TheVariants.{BrokenRecord, NoFreeFrame}
+use Rattle.address.specs.declared.Frame.{Frame}
 use Rattle.std.specs.Prelude.{ℕ, ◌+◌, ◌-◌, ◌/◌, ◌^◌, ◌<◌, ◌≤◌, min, Bool, true, List, replicate, ◌==◌, nat_le, nat_lt}
 use Rattle.bits.specs.Bit.{pick, unless, both}
-use Rattle.answer.specs.Numbers.{broken_record, no_free_frame}
-use Rattle.answer.specs.declared.Answer.{Answer}
-use Rattle.answer.specs.declared.Answer.TheVariants.{Met, Refused}
-use Rattle.answer.specs.declared.Outcome.{Outcome}
-use Rattle.answer.specs.declared.Outcome.TheVariants.{Value, Stop}
-use Rattle.answer.specs.declared.FlagAnswer.{FlagAnswer}
-use Rattle.answer.specs.declared.FlagAnswer.TheVariants.{Flag, NoFlag}
-use Rattle.address.specs.declared.FrameAnswer.{FrameAnswer}
-use Rattle.address.specs.declared.FrameAnswer.TheVariants.{AtFrame, NoFrame}
 use Rattle.bitmap.specs.Bitmap.{is_marked, free_from, mark, unmark, count, marks_in}
 use Rattle.frame.specs.declared.FrameAllocator.{FrameAllocator}
 use Rattle.frame.specs.declared.Found.{Found}
 use Rattle.frame.specs.declared.Found.TheVariants.{Freed, AlreadyFree, NotHere}
-use Rattle.frame.specs.declared.FoundAnswer.{FoundAnswer}
-use Rattle.frame.specs.declared.FoundAnswer.TheVariants.{Was, NoFound}
 
 -- the allocator as a call sees it: the bitmap words lent to it, and its record
 pub record Frames : Type 0 where
@@ -73,10 +66,10 @@ sound fr =
     (fr.fa.allocated == count fr.bits fr.fa.total)))
 
 -- 'start_frame is start/4096 and total is (end − start)/4096, at most 8192, both rounded down'; 10 for 'start above end, end above 2^52'
-unfoldable pub init : Frames → ℕ → ℕ → FramesDid Answer
+unfoldable pub init : Frames → ℕ → ℕ → FramesDid (Result ⊤ Refusal)
 init fr s e =
-    unless (both (nat_le s e) (nat_le e address_end)) (frames_did (Refused broken_record) fr)
-    (frames_did Met (frames (replicate 128 0) (unused (s / 4096) (min ((e - s) / 4096) 8192))))
+    unless (both (nat_le s e) (nat_le e address_end)) (frames_did (Err BrokenRecord) fr)
+    (frames_did (Ok tt) (frames (replicate 128 0) (unused (s / 4096) (min ((e - s) / 4096) 8192))))
 
 -- frame start + j marked, or free again; 'only a bit that changes moves the counter'
 unfoldable pub with_mark : Frames → ℕ → Frames
@@ -88,11 +81,11 @@ without_mark fr j =
     frames (unmark fr.bits j) (with_counter fr.fa (fr.fa.allocated - 1))
 
 -- 'takes the lowest free frame, else 11'
-unfoldable pub take_frame : Frames → FramesDid FrameAnswer
+unfoldable pub take_frame : Frames → FramesDid (Result Frame Refusal)
 take_frame fr =
     pick (nat_lt (free_from fr.bits 0 fr.fa.total) fr.fa.total)
-    (frames_did (AtFrame (record { 0 = fr.fa.start + free_from fr.bits 0 fr.fa.total })) (with_mark fr (free_from fr.bits 0 fr.fa.total)))
-    (frames_did (NoFrame no_free_frame) fr)
+    (frames_did (Ok (record { 0 = fr.fa.start + free_from fr.bits 0 fr.fa.total })) (with_mark fr (free_from fr.bits 0 fr.fa.total)))
+    (frames_did (Err NoFreeFrame) fr)
 
 -- 'a frame below start_frame or at index total or above reads as allocated'
 unfoldable pub frame_marked : Frames → ℕ → Bool
@@ -110,30 +103,33 @@ give_frame fr n =
     (frames_did NotHere fr)
 
 -- The calls: 10 before every other check.
-unfoldable pub is_allocated : Frames → ℕ → FlagAnswer
-is_allocated fr n = unless (sound fr) (NoFlag broken_record) (Flag (frame_marked fr n))
+unfoldable pub tested : Frames → Result ⊤ Refusal
+tested fr = unless (sound fr) (Err BrokenRecord) (Ok tt)
 
-unfoldable pub mark_allocated : Frames → ℕ → FramesDid Answer
-mark_allocated fr n = unless (sound fr) (frames_did (Refused broken_record) fr) (frames_did Met (mark_frame fr n))
+unfoldable pub is_allocated : Frames → ℕ → Result Bool Refusal
+is_allocated fr n = unless (sound fr) (Err BrokenRecord) (Ok (frame_marked fr n))
 
-unfoldable pub allocate : Frames → FramesDid FrameAnswer
-allocate fr = unless (sound fr) (frames_did (NoFrame broken_record) fr) (take_frame fr)
+unfoldable pub mark_allocated : Frames → ℕ → FramesDid (Result ⊤ Refusal)
+mark_allocated fr n = unless (sound fr) (frames_did (Err BrokenRecord) fr) (frames_did (Ok tt) (mark_frame fr n))
+
+unfoldable pub allocate : Frames → FramesDid (Result Frame Refusal)
+allocate fr = unless (sound fr) (frames_did (Err BrokenRecord) fr) (take_frame fr)
 
 -- '`deallocate_frame` answers one of three' (document 02, slip 5)
-unfoldable pub deallocate : Frames → ℕ → FramesDid FoundAnswer
-deallocate fr n = unless (sound fr) (frames_did (NoFound broken_record) fr) (let d = give_frame fr n in frames_did (Was d.answer) d.frames)
+unfoldable pub deallocate : Frames → ℕ → FramesDid (Result Found Refusal)
+deallocate fr n = unless (sound fr) (frames_did (Err BrokenRecord) fr) (let d = give_frame fr n in frames_did (Ok d.answer) d.frames)
 
 -- the three counts
-unfoldable pub counted : Frames → ℕ → Outcome
-counted fr n = unless (sound fr) (Stop broken_record) (Value n)
+unfoldable pub counted : Frames → ℕ → Result ℕ Refusal
+counted fr n = unless (sound fr) (Err BrokenRecord) (Ok n)
 
-abbrev pub free_frames : Frames → Outcome
+abbrev pub free_frames : Frames → Result ℕ Refusal
 free_frames fr = counted fr (fr.fa.total - fr.fa.allocated)
 
-abbrev pub allocated_frames : Frames → Outcome
+abbrev pub allocated_frames : Frames → Result ℕ Refusal
 allocated_frames fr = counted fr fr.fa.allocated
 
-abbrev pub total_frames : Frames → Outcome
+abbrev pub total_frames : Frames → Result ℕ Refusal
 total_frames fr = counted fr fr.fa.total
 
 -- what the inner functions ask of a tested record: sizes in range, and room for n more in the counter

@@ -1,3 +1,2 @@
 pub mod Frames
 pub mod Found
-pub mod Results

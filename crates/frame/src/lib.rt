@@ -1,20 +1,16 @@
 // The frame allocator of frame.rs: a small record beside the bitmap words lent to it. Each call tests the record first and answers 10 if it is broken.
-// Callers make the calls by `lent`, on a record that they lend, or by `held`, on one that they hand over and get back.
 #![tactic(auto)]
 
-pub mod held;
 pub mod inner;
-pub mod lent;
 pub mod tallies;
 
-ghost use Rattle.std.specs.Prelude.{◌≡◌, min};
+ghost use Rattle.std.specs.Prelude.{◌≡◌, ◌≤◌, min, OnOk};
 ghost use Rattle.bitmap.specs.Bitmap.{marks_in};
-ghost use Rattle.frame.specs.Frames.{lent_frames, is_levels, unused, sound, init as init_of, is_allocated, mark_allocated, allocate, deallocate};
+ghost use Rattle.frame.specs.Frames.{lent_frames, frames_did, RoomToCount, is_levels, unused, sound, tested, init as init_of, is_allocated, mark_allocated, allocate, deallocate};
 ghost use Rattle.frame.specs.Frames.{free_frames, allocated_frames, total_frames};
-ghost use Rattle.frame.specs.Results.{changed, allocated as allocated_of, deallocated as deallocated_of};
 
-use address::{Frame, FrameAnswer};
-use answer::{Answer, FlagAnswer, Outcome};
+use address::Frame;
+use answer::Refusal;
 
 pub const FRAME_SIZE: u64 = 4096;
 
@@ -48,43 +44,19 @@ pub struct FrameAllocator {
     pub levels: u64,
 }
 
-// An answer beside the record that the call leaves.
+// An answer beside the record that a call leaves, for the callers that hand it over by value.
 #[derive(Clone, Copy)]
 pub struct Changed {
-    pub answer: Answer,
-    pub frames: FrameAllocator,
-}
-
-#[derive(Clone, Copy)]
-pub struct Allocated {
-    pub answer: FrameAnswer,
+    pub answer: Result<(), Refusal>,
     pub frames: FrameAllocator,
 }
 
 // What a frame that is given back was found to be.
 #[derive(Clone, Copy)]
 pub enum Found {
-    Freed,
-    AlreadyFree,
-    NotHere,
-}
-
-#[derive(Clone, Copy)]
-pub enum FoundAnswer {
-    Was(Found),
-    NoFound(u64),
-}
-
-#[derive(Clone, Copy)]
-pub struct Given {
-    pub found: Found,
-    pub frames: FrameAllocator,
-}
-
-#[derive(Clone, Copy)]
-pub struct Deallocated {
-    pub answer: FoundAnswer,
-    pub frames: FrameAllocator,
+    Freed = 0,
+    AlreadyFree = 1,
+    NotHere = 2,
 }
 
 // How many frames that were given back were found to be each of the three.
@@ -141,116 +113,92 @@ impl FrameAllocator {
         self.allocated == bitmap::count(bitmap, total as usize) as u64
     }
 
-    fn init(self, bitmap: &mut Marks, from: u64, to: u64) -> Changed
-        ensures value { result ≡ changed (init_of (lent_frames bitmap.old self) from to) }
-        ensures bitmap_after { marks_in bitmap.new ≡ (init_of (lent_frames bitmap.old self) from to).frames.bits }
+    // The whole frames between two addresses, all of them free.
+    #[tactic(auto, unfolding(crate::specs::Frames::init))]
+    pub fn init(&mut self, bitmap: &mut Marks, from: u64, to: u64) -> Result<(), Refusal>
+        ensures { frames_did result (lent_frames bitmap.new self.new) ≡ init_of (lent_frames bitmap.old self.old) from to }
     {
-        if from > to {
-            return Changed {
-                answer: Answer::Refused(answer::BROKEN_RECORD),
-                frames: self,
-            };
-        }
-        if to > ADDRESS_END {
-            return Changed {
-                answer: Answer::Refused(answer::BROKEN_RECORD),
-                frames: self,
-            };
+        if from > to || to > ADDRESS_END {
+            return Err(Refusal::BrokenRecord);
         }
         bitmap::clear_all(bitmap);
-        Changed {
-            answer: Answer::Met,
-            frames: FrameAllocator {
-                start: from / FRAME_SIZE,
-                total: at_most((to - from) / FRAME_SIZE, MAX_FRAMES),
-                allocated: 0,
-                levels: LEVELS,
-            },
+        *self = FrameAllocator {
+            start: from / FRAME_SIZE,
+            total: std::cmp::min((to - from) / FRAME_SIZE, MAX_FRAMES),
+            ..FrameAllocator::new()
+        };
+        Ok(())
+    }
+
+    // 10 on a broken record, for a call that may go on only on a sound one.
+    #[tactic(auto, unfolding(crate::specs::Frames::tested))]
+    fn tested(self, bitmap: &Marks) -> Result<(), Refusal>
+        ensures value { result ≡ tested (lent_frames bitmap.now self) }
+        ensures room { OnOk result (RoomToCount self 1) }
+        ensures fits { OnOk result (self.allocated ≤ self.total) }
+    {
+        if self.is_sound(bitmap) {
+            Ok(())
+        } else {
+            Err(Refusal::BrokenRecord)
         }
     }
 
-    fn is_allocated(self, bitmap: &Marks, number: u64) -> FlagAnswer
-        ensures { result ≡ is_allocated (lent_frames bitmap.now self) number }
+    #[tactic(auto, unfolding(crate::specs::Frames::tested, crate::specs::Frames::is_allocated))]
+    pub fn is_allocated(&self, bitmap: &Marks, number: u64) -> Result<bool, Refusal>
+        ensures { result ≡ is_allocated (lent_frames bitmap.now self.now) number }
     {
-        if !self.is_sound(bitmap) {
-            return FlagAnswer::NoFlag(answer::BROKEN_RECORD);
-        }
-        FlagAnswer::Flag(inner::frame_marked(bitmap, self, number))
+        self.tested(bitmap)?;
+        Ok(inner::frame_marked(bitmap, *self, number))
     }
 
-    fn mark_allocated(self, bitmap: &mut Marks, number: u64) -> Changed
-        ensures value { result ≡ changed (mark_allocated (lent_frames bitmap.old self) number) }
-        ensures bitmap_after { marks_in bitmap.new ≡ (mark_allocated (lent_frames bitmap.old self) number).frames.bits }
+    #[tactic(auto, unfolding(crate::specs::Frames::tested, crate::specs::Frames::mark_allocated))]
+    pub fn mark_allocated(&mut self, bitmap: &mut Marks, number: u64) -> Result<(), Refusal>
+        ensures { frames_did result (lent_frames bitmap.new self.new) ≡ mark_allocated (lent_frames bitmap.old self.old) number }
     {
-        if !self.is_sound(bitmap) {
-            return Changed {
-                answer: Answer::Refused(answer::BROKEN_RECORD),
-                frames: self,
-            };
-        }
-        Changed {
-            answer: Answer::Met,
-            frames: inner::mark_frame(bitmap, self, number),
-        }
+        self.tested(bitmap)?;
+        inner::mark_frame(bitmap, self, number);
+        Ok(())
     }
 
-    fn allocate_frame(self, bitmap: &mut Marks) -> Allocated
-        ensures value { result ≡ allocated_of (allocate (lent_frames bitmap.old self)) }
-        ensures bitmap_after { marks_in bitmap.new ≡ (allocate (lent_frames bitmap.old self)).frames.bits }
+    #[tactic(auto, unfolding(crate::specs::Frames::tested, crate::specs::Frames::allocate))]
+    pub fn allocate_frame(&mut self, bitmap: &mut Marks) -> Result<Frame, Refusal>
+        ensures { frames_did result (lent_frames bitmap.new self.new) ≡ allocate (lent_frames bitmap.old self.old) }
     {
-        if !self.is_sound(bitmap) {
-            return Allocated {
-                answer: FrameAnswer::NoFrame(answer::BROKEN_RECORD),
-                frames: self,
-            };
-        }
+        self.tested(bitmap)?;
         inner::take_frame(bitmap, self)
     }
 
-    fn deallocate_frame(self, bitmap: &mut Marks, frame: Frame) -> Deallocated
-        ensures value { result ≡ deallocated_of (deallocate (lent_frames bitmap.old self) frame.0) }
-        ensures bitmap_after { marks_in bitmap.new ≡ (deallocate (lent_frames bitmap.old self) frame.0).frames.bits }
+    #[tactic(auto, unfolding(crate::specs::Frames::tested, crate::specs::Frames::deallocate))]
+    pub fn deallocate_frame(&mut self, bitmap: &mut Marks, frame: Frame) -> Result<Found, Refusal>
+        ensures { frames_did result (lent_frames bitmap.new self.new) ≡ deallocate (lent_frames bitmap.old self.old) frame.0 }
     {
-        if !self.is_sound(bitmap) {
-            return Deallocated {
-                answer: FoundAnswer::NoFound(answer::BROKEN_RECORD),
-                frames: self,
-            };
-        }
-        let given = inner::give_frame(bitmap, self, frame);
-        let found = given.found;
-        let left = given.frames;
-        Deallocated {
-            answer: FoundAnswer::Was(found),
-            frames: left,
-        }
+        self.tested(bitmap)?;
+        Ok(inner::give_frame(bitmap, self, frame))
     }
 
-    fn free_frames(self, bitmap: &Marks) -> Outcome
-        ensures { result ≡ free_frames (lent_frames bitmap.now self) }
+    #[tactic(auto, unfolding(crate::specs::Frames::tested, crate::specs::Frames::counted))]
+    pub fn free_frames(&self, bitmap: &Marks) -> Result<u64, Refusal>
+        ensures { result ≡ free_frames (lent_frames bitmap.now self.now) }
     {
-        if !self.is_sound(bitmap) {
-            return Outcome::Stop(answer::BROKEN_RECORD);
-        }
-        Outcome::Value(self.total - self.allocated)
+        self.tested(bitmap)?;
+        Ok(self.total - self.allocated)
     }
 
-    fn allocated_frames(self, bitmap: &Marks) -> Outcome
-        ensures { result ≡ allocated_frames (lent_frames bitmap.now self) }
+    #[tactic(auto, unfolding(crate::specs::Frames::tested, crate::specs::Frames::counted))]
+    pub fn allocated_frames(&self, bitmap: &Marks) -> Result<u64, Refusal>
+        ensures { result ≡ allocated_frames (lent_frames bitmap.now self.now) }
     {
-        if !self.is_sound(bitmap) {
-            return Outcome::Stop(answer::BROKEN_RECORD);
-        }
-        Outcome::Value(self.allocated)
+        self.tested(bitmap)?;
+        Ok(self.allocated)
     }
 
-    fn total_frames(self, bitmap: &Marks) -> Outcome
-        ensures { result ≡ total_frames (lent_frames bitmap.now self) }
+    #[tactic(auto, unfolding(crate::specs::Frames::tested, crate::specs::Frames::counted))]
+    pub fn total_frames(&self, bitmap: &Marks) -> Result<u64, Refusal>
+        ensures { result ≡ total_frames (lent_frames bitmap.now self.now) }
     {
-        if !self.is_sound(bitmap) {
-            return Outcome::Stop(answer::BROKEN_RECORD);
-        }
-        Outcome::Value(self.total)
+        self.tested(bitmap)?;
+        Ok(self.total)
     }
 }
 
@@ -258,17 +206,5 @@ impl FrameAllocator {
 pub fn is_levels(n: u64) -> bool
     ensures { result ≡ is_levels n }
 {
-    if n < LEVELS {
-        return false;
-    }
-    n <= MOST_LEVELS
-}
-
-fn at_most(n: u64, limit: u64) -> u64
-    ensures { result ≡ min n limit }
-{
-    if n > limit {
-        return limit;
-    }
-    n
+    (LEVELS..=MOST_LEVELS).contains(&n)
 }

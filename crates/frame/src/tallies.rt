@@ -1,38 +1,16 @@
 // What freeing found: the line of one frame, and the tally of many.
 ghost use Rattle.std.specs.Prelude.{◌≡◌, ◌+◌, ◌^◌, ◌<◌};
-ghost use Rattle.frame.specs.Found.{found_value, found_line, none_found, one_found, and_found, all_found, tally_line};
+ghost use Rattle.frame.specs.Found.{found_value, none_found, one_found, and_found, all_found, tally_line};
 
-use crate::{Found, FoundAnswer, Tally, TallyLine};
-use answer::{Answer, Line};
+use crate::{Found, Tally, TallyLine};
+use answer::{Refusal, Shown};
 
-pub const FREED: u64 = 0;
+// What became of a frame is printed by its number.
+impl Shown for Found {
+    ghost shown = { found_value };
 
-pub const ALREADY_FREE: u64 = 1;
-
-pub const NOT_HERE: u64 = 2;
-
-fn value(found: Found) -> u64
-    ensures { result ≡ found_value found }
-{
-    match found {
-        Found::Freed => FREED,
-        Found::AlreadyFree => ALREADY_FREE,
-        Found::NotHere => NOT_HERE,
-    }
-}
-
-pub fn found_line(a: FoundAnswer) -> Line
-    ensures { result ≡ found_line a }
-{
-    match a {
-        FoundAnswer::Was(found) => Line {
-            number: 0,
-            value: value(found),
-        },
-        FoundAnswer::NoFound(n) => Line {
-            number: n,
-            value: 0,
-        },
+    fn value(self) -> u64 {
+        self as u64
     }
 }
 
@@ -80,11 +58,11 @@ pub fn and(a: Tally, b: Tally) -> Tally
     }
 }
 
-pub fn tally_line(a: Answer, found: Tally) -> TallyLine
+pub fn tally_line(a: Result<(), Refusal>, found: Tally) -> TallyLine
     ensures { result ≡ tally_line a found }
 {
     TallyLine {
-        number: answer::answer_line(a).number,
+        number: answer::line_of(a).number,
         freed: found.freed,
         already_free: found.already_free,
         not_here: found.not_here,

@@ -6,12 +6,12 @@ use lib.IntN.{pos}
 use native.Mathlib.Omega.{arith}
 use lib.ListN.{length}
 use borrow.Author.Tests.{le-leb}
+use Rattle.std.specs.Prelude.{None, Some}
 use Rattle.allocator.specs.Round.{last_page}
 use Rattle.slots.specs.Slots.{every}
 use Rattle.slots.specs.Sorted.{rising_from as rising_by}
 use Rattle.regions.proofs.Placed.{placed_back}
 use Rattle.mappings.specs.declared.MappedRegion.{MappedRegion}
-use Rattle.free_range.specs.declared.InTheWay.TheVariants.{Nothing, Until}
 use Rattle.mappings.specs.Regions.{user_start, mapped_region, well_placed_mapping}
 use Rattle.free_range.specs.Search.{in_the_way}
 use Rattle.free_range.specs.Compared.{compared_in, compared, adjoining, Reached}
@@ -37,17 +37,17 @@ row_rising (suc k) a lo h e g =
     (rw (le-leb lo a h) more.0, rw here more.1)
 
 -- page i of them from a on, b: region i is in its way, and the scan compares those up to it
-row_way : (k a i b : ℕ) → i < k → b ≡ a + i * 4096 → (in_the_way b 4096 (adjoining k a) ≡ Until (b + 4096)) × (compared_in b 4096 (adjoining k a) ≡ suc i)
+row_way : (k a i b : ℕ) → i < k → b ≡ a + i * 4096 → (in_the_way b 4096 (adjoining k a) ≡ Some (b + 4096)) × (compared_in b 4096 (adjoining k a) ≡ suc i)
 row_way zero a i b h e = absurd (omega arith)
 row_way (suc k) a zero b h e =
-    let end : Until (a + 4096) ≡ Until (b + 4096) = ap Until (omega arith) in
+    let end : Some (a + 4096) ≡ Some (b + 4096) = ap Some (omega arith) in
     (way_here b 4096 refl (omega arith) (omega arith) ∙ end, compared_last b 4096 refl (omega arith) (omega arith))
 row_way (suc k) a (suc i) b h e =
     let more = row_way k (a + 4096) i b (omega arith) (omega arith) in
     (way_on b 4096 refl (omega arith) ∙ more.0, compared_on b 4096 refl (omega arith) ∙ ap suc more.1)
 
 -- the page behind the last
-row_free : (k a b : ℕ) → b ≡ a + k * 4096 → in_the_way b 4096 (adjoining k a) ≡ Nothing
+row_free : (k a b : ℕ) → b ≡ a + k * 4096 → in_the_way b 4096 (adjoining k a) ≡ None
 row_free zero a b e = way_end b 4096 refl
 row_free (suc k) a b e = way_on b 4096 refl (omega arith) ∙ row_free k (a + 4096) b (omega arith)
 

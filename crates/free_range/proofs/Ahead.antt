@@ -8,28 +8,27 @@ use native.Mathlib.Omega.{arith}
 use lib.Dec.{ltb}
 use lib.ListN.{length}
 use borrow.Author.Tests.{lt-ltb, le-ltb, ltb-true}
+use Rattle.std.specs.Prelude.{Option, None, Some}
 use Rattle.bits.specs.Bit.{pick}
 use Rattle.bits.proofs.Choice.{both_true}
 use Rattle.mappings.specs.declared.MappedRegion.{MappedRegion}
-use Rattle.free_range.specs.declared.InTheWay.{InTheWay}
-use Rattle.free_range.specs.declared.InTheWay.TheVariants.{Nothing, Until}
 use Rattle.free_range.specs.Search.{overlaps, in_the_way, or_past}
 use Rattle.free_range.specs.Compared.{compared_in}
 
 -- the region in the way ends above the address
-pub way_past : (a n e : ℕ) (l : List MappedRegion) → in_the_way a n l ≡ Until e → a < e
+pub way_past : (a n e : ℕ) (l : List MappedRegion) → in_the_way a n l ≡ Some e → a < e
 unfolding in_the_way
 way_past a n e [] k = let z : ◌≡◌ {A = ℕ} 0 1 = cc in absurd (omega arith)
 way_past a n e (r ∷ l) k = by (overlaps a n r) refl k (way_past a n e l)
   where
-    by : (x : Bool) → overlaps a n r ≡ x → pick x (Until (r.start + r.size)) (in_the_way a n l) ≡ Until e → (in_the_way a n l ≡ Until e → a < e) → a < e
+    by : (x : Bool) → overlaps a n r ≡ x → pick x (Some (r.start + r.size)) (in_the_way a n l) ≡ Some e → (in_the_way a n l ≡ Some e → a < e) → a < e
     by true o g more =
         let z : r.start + r.size ≡ e = cc in
         omega (arith, ltb-true a (r.start + r.size) (both_true (ltb a (r.start + r.size)) (ltb r.start (a + n)) o).0)
     by false o g more = more g
 
 -- it is one of those compared
-pub way_compared : (a n e : ℕ) (l : List MappedRegion) → in_the_way a n l ≡ Until e → 0 < compared_in a n l
+pub way_compared : (a n e : ℕ) (l : List MappedRegion) → in_the_way a n l ≡ Some e → 0 < compared_in a n l
 unfolding in_the_way compared_in
 way_compared a n e [] k = let z : ◌≡◌ {A = ℕ} 0 1 = cc in absurd (omega arith)
 way_compared a n e (r ∷ l) k = omega arith
@@ -53,13 +52,13 @@ module _ (w : ℕ → ℕ) where
   weighed_fewer j a b (r ∷ l) h = omega (arith, fewer j a b (r.start + r.size) h, weighed_fewer (suc j) a b l h)
 
   -- past the region in the way its weight is gone: it is the last of those compared
-  pub weighed_less : (j a n e : ℕ) (l : List MappedRegion) → in_the_way a n l ≡ Until e → w (j + (compared_in a n l - 1)) + weighed j e l ≤ weighed j a l
+  pub weighed_less : (j a n e : ℕ) (l : List MappedRegion) → in_the_way a n l ≡ Some e → w (j + (compared_in a n l - 1)) + weighed j e l ≤ weighed j a l
   unfolding in_the_way compared_in
   weighed_less j a n e [] k = let z : ◌≡◌ {A = ℕ} 0 1 = cc in absurd (omega arith)
   weighed_less j a n e (r ∷ l) k = by (overlaps a n r) refl k (weighed_less (suc j) a n e l)
     where
-      by : (x : Bool) → overlaps a n r ≡ x → pick x (Until (r.start + r.size)) (in_the_way a n l) ≡ Until e
-          → (in_the_way a n l ≡ Until e → w (suc j + (compared_in a n l - 1)) + weighed (suc j) e l ≤ weighed (suc j) a l)
+      by : (x : Bool) → overlaps a n r ≡ x → pick x (Some (r.start + r.size)) (in_the_way a n l) ≡ Some e
+          → (in_the_way a n l ≡ Some e → w (suc j + (compared_in a n l - 1)) + weighed (suc j) e l ≤ weighed (suc j) a l)
           → w (j + (suc (pick x 0 (compared_in a n l)) - 1)) + (pick (ltb e (r.start + r.size)) (w j) 0 + weighed (suc j) e l)
           ≤ pick (ltb a (r.start + r.size)) (w j) 0 + weighed (suc j) a l
       by true o g more =
@@ -88,7 +87,7 @@ ahead_few_from j a (r ∷ l) = by (ltb a (r.start + r.size)) (ahead_few_from (su
 pub ahead_few : (a : ℕ) (l : List MappedRegion) → ahead a l ≤ length l
 ahead_few a l = ahead_few_from 0 a l
 
-pub ahead_less : (a n e : ℕ) (l : List MappedRegion) → in_the_way a n l ≡ Until e → ahead e l < ahead a l
+pub ahead_less : (a n e : ℕ) (l : List MappedRegion) → in_the_way a n l ≡ Some e → ahead e l < ahead a l
 ahead_less a n e l k = omega (arith, weighed_less (λ _. 1) 0 a n e l k)
 
 -- ---- more scans than are needed change nothing: of what F gathers in k scans from a on, by `step` from what the first ends with, or from what the others gather
@@ -100,6 +99,6 @@ module _ {A : Type 0} (l : List MappedRegion) (n : ℕ) (F : ℕ → ℕ → A) 
   scans (suc k) zero a h i = absurd (omega arith)
   scans (suc k) (suc j) a h i = goes k a ∙ ap (step a) (by (in_the_way a n l) refl (λ c. scans k j c)) ∙ sym (goes j a)
     where
-      by : (w : InTheWay) → in_the_way a n l ≡ w → ((c : ℕ) → ahead c l < k → ahead c l < j → F k c ≡ F j c) → or_past w (here a) (F k) ≡ or_past w (here a) (F j)
-      by Nothing e more = refl
-      by (Until c) e more = let s = ahead_less a n c l e in more c (omega arith) (omega arith)
+      by : (w : Option ℕ) → in_the_way a n l ≡ w → ((c : ℕ) → ahead c l < k → ahead c l < j → F k c ≡ F j c) → or_past w (here a) (F k) ≡ or_past w (here a) (F j)
+      by None e more = refl
+      by (Some c) e more = let s = ahead_less a n c l e in more c (omega arith) (omega arith)

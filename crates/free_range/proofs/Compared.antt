@@ -8,11 +8,10 @@ use native.Mathlib.Nat.{mul-le-mul_right}
 use lib.Dec.{ltb}
 use lib.ListN.{length}
 use borrow.Author.Tests.{lt-ltb, le-ltb}
+use Rattle.std.specs.Prelude.{Result, Option, None, Some}
+use Rattle.answer.specs.declared.Refusal.{Refusal}
 use Rattle.bits.specs.Bit.{pick}
-use Rattle.answer.specs.declared.Outcome.{Outcome}
 use Rattle.mappings.specs.declared.MappedRegion.{MappedRegion}
-use Rattle.free_range.specs.declared.InTheWay.{InTheWay}
-use Rattle.free_range.specs.declared.InTheWay.TheVariants.{Nothing, Until}
 use Rattle.free_range.specs.Search.{user_end, overlaps, in_the_way, or_past, find_free}
 use Rattle.free_range.specs.Compared.{compared_in, compared_from, compared, searched, Bound, LeastBound}
 use Rattle.free_range.proofs.Ahead.{way_compared, weighed, weighed_less, ahead, ahead_few, ahead_less, scans}
@@ -41,11 +40,11 @@ module _ (l : List MappedRegion) (n a : ℕ) where
     unfolding compared_from
     compared_least = rw (lt-ltb _ _ h) (omega arith)
 
-    pub compared_here : in_the_way a n l ≡ Nothing → compared l a n ≡ compared_in a n l
+    pub compared_here : in_the_way a n l ≡ None → compared l a n ≡ compared_in a n l
     unfolding compared_from
     compared_here e = let z : compared_in a n l + 0 ≡ compared_in a n l = omega arith in rw (lt-ltb _ _ h, e) z
 
-    pub compared_past : (e : ℕ) → in_the_way a n l ≡ Until e → compared l a n ≡ compared_in a n l + compared l e n
+    pub compared_past : (e : ℕ) → in_the_way a n l ≡ Some e → compared l a n ≡ compared_in a n l + compared l e n
     unfolding compared_from
     compared_past e w =
         let fewer = ahead_less a n e l w in
@@ -53,7 +52,7 @@ module _ (l : List MappedRegion) (n a : ℕ) where
         rw (lt-ltb _ _ h, w) (ap (λ (x : ℕ). compared_in a n l + x) (compared_scans l n (length l) (suc (length l)) e (omega arith) (omega arith)))
 
 -- what a search reports
-pub search_reports : (l : List MappedRegion) (next n : ℕ) {o : Outcome} {k : ℕ} → o ≡ find_free l next n → k ≡ compared l next n → record { outcome = o; compared = k } ≡ searched l next n
+pub search_reports : (l : List MappedRegion) (next n : ℕ) {o : Result ℕ Refusal} {k : ℕ} → o ≡ find_free l next n → k ≡ compared l next n → record { outcome = o; compared = k } ≡ searched l next n
 search_reports l next n p q = λ j. record { outcome = p j; compared = q j }
 
 -- ---- the bounds
@@ -78,10 +77,10 @@ unfolding compared_from
 from_few zero l n a = omega arith
 from_few (suc k) l n a = one (ltb (a + n) user_end) (two (in_the_way a n l) refl (from_few k l n))
   where
-    two : (w : InTheWay) → in_the_way a n l ≡ w → ((c : ℕ) → compared_from k l n c ≤ places 0 c l + length l)
+    two : (w : Option ℕ) → in_the_way a n l ≡ w → ((c : ℕ) → compared_from k l n c ≤ places 0 c l + length l)
         → compared_in a n l + or_past w 0 (compared_from k l n) ≤ places 0 a l + length l
-    two Nothing e more = omega (arith, in_few a n l)
-    two (Until c) e more = omega (arith, weighed_less suc 0 a n c l e, way_compared a n c l e, more c)
+    two None e more = omega (arith, in_few a n l)
+    two (Some c) e more = omega (arith, weighed_less suc 0 a n c l e, way_compared a n c l e, more c)
 
     one : {m : ℕ} (x : Bool) → m ≤ places 0 a l + length l → pick x m 0 ≤ places 0 a l + length l
     one true h = h

@@ -1,37 +1,31 @@
 // The search for a free range of mmap.rs on the packed list, with how many regions it compares.
 #![tactic(auto)]
 
+ghost use Rattle.answer.specs.declared.Refusal.TheVariants.{NoRegion};
 ghost use Rattle.std.specs.Prelude.{◌≡◌, true, ◌+◌, ◌≤◌, ◌<◌};
 ghost use Rattle.allocator.specs.Round.{last_page};
 ghost use Rattle.slots.specs.Slots.{listed};
-ghost use Rattle.answer.specs.Numbers.{no_region};
-ghost use Rattle.answer.specs.declared.Outcome.TheVariants.{Stop};
 ghost use Rattle.free_range.specs.Search.{in_the_way};
 ghost use Rattle.free_range.specs.Compared.{scanned, searched};
 ghost use Rattle.mappings.specs.Packed.{mmap_in, next_in, sound_list};
 
-use answer::Outcome;
+use answer::Refusal;
+use mappings::Mmap;
+use slots::SlotList;
 
 pub const USER_MMAP_END: u64 = 0x0000_7FFF_FFFF_F000;
-
-// What overlaps a range first: nothing, or a region up to its end.
-#[derive(Clone, Copy)]
-pub enum InTheWay {
-    Nothing,
-    Until(u64),
-}
 
 // A scan: what is in the way, and how many regions the definition's scan compares until it comes to it.
 #[derive(Clone, Copy)]
 pub struct Scanned {
-    pub way: InTheWay,
+    pub way: Option<u64>,
     pub compared: usize,
 }
 
 // A search: where it ends, and how many regions all its scans compare.
 #[derive(Clone, Copy)]
 pub struct Searched {
-    pub outcome: Outcome,
+    pub outcome: Result<u64, Refusal>,
     pub compared: usize,
 }
 
@@ -41,46 +35,46 @@ fn scan(list: &[u8], a: u64, n: u64) -> Scanned
     requires n_bound { a + n ≤ last_page }
     ensures { result ≡ scanned a n (listed (mmap_in list.now)) }
 {
-    let count = mappings::count(list);
+    let count = Mmap::count(list);
     let past = a + n;
+    // By index: packed slots have no iterator.
     for i in 0..count {
-        let r = mappings::slot(list, i);
+        let r = Mmap::slot(list, i);
         if r.start >= past {
             return Scanned {
-                way: InTheWay::Nothing,
+                way: None,
                 compared: count,
             };
         }
         let end = r.start + r.size;
         if a < end {
             return Scanned {
-                way: InTheWay::Until(end),
+                way: Some(end),
                 compared: i + 1,
             };
         }
     }
     Scanned {
-        way: InTheWay::Nothing,
+        way: None,
         compared: count,
     }
 }
 
 // The first region that n bytes at a overlap.
-pub fn in_the_way(list: &[u8], a: u64, n: u64) -> InTheWay
+pub fn in_the_way(list: &[u8], a: u64, n: u64) -> Option<u64>
     requires list_value { sound_list list.now ≡ true }
     requires n_bound { a + n ≤ last_page }
     ensures { result ≡ in_the_way a n (listed (mmap_in list.now)) }
 {
-    let one = scan(list, a, n);
-    one.way
+    scan(list, a, n).way
 }
 
 // A search that found no range.
 fn not_found(compared: usize) -> Searched
-    ensures { result ≡ record { outcome = Stop no_region; compared = compared } }
+    ensures { result ≡ record { outcome = Err NoRegion; compared = compared } }
 {
     Searched {
-        outcome: Outcome::Stop(answer::NO_REGION),
+        outcome: Err(Refusal::NoRegion),
         compared,
     }
 }
@@ -96,19 +90,17 @@ pub fn find_free_region(list: &[u8], n: u64) -> Searched
     let limit = USER_MMAP_END - n;
     let mut addr = mappings::next_addr(list);
     let mut compared = 0;
+    // No index: the search goes on past what is in the way.
     while addr < limit {
         let one = scan(list, addr, n);
-        let way = one.way;
         compared += one.compared;
-        match way {
-            InTheWay::Nothing => {
+        match one.way {
+            Some(end) => addr = end,
+            None => {
                 return Searched {
-                    outcome: Outcome::Value(addr),
+                    outcome: Ok(addr),
                     compared,
                 };
-            }
-            InTheWay::Until(end) => {
-                addr = end;
             }
         }
     }

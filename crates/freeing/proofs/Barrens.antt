@@ -9,10 +9,11 @@ use native.Mathlib.Nat.{suc-add, zero-add}
 use native.Mathlib.Omega.{arith}
 use lib.ListN.{get_or, set, take}
 use lib.Seq.{get_or-set_other}
+use Rattle.answer.specs.declared.Refusal.{Refusal}
+use Rattle.std.specs.Prelude.{Ok, Err}
 use Rattle.packed.proofs.RoundTrip.{zeros}
 use Rattle.entry.specs.Entry.{index, indices}
 use Rattle.frame.proofs.Laws.{inside_from}
-use Rattle.answer.specs.declared.Outcome.TheVariants.{Value, Stop}
 use Rattle.paging.specs.Map.{Memory, start_frame, total_of}
 use Rattle.paging.specs.Pages.{free_pages}
 use Rattle.tree.proofs.Paths.{path}
@@ -34,7 +35,7 @@ path_at : (up d v : ℕ) → d ≤ up → take (up - d) (path up v) ++ indices (
 path_at up d v h = let e : (up - d) + suc d ≡ suc up = omega arith in rw e at (indices_split (suc d) v (up - d))
 
 -- the pages before the end of the table's span are on the same way
-on_from : (up d : ℕ) → d ≤ up → (m : Memory) (root v t : ℕ) → reach_in m root (take (up - d) (path up v)) ≡ Value t
+on_from : (up d : ℕ) → d ≤ up → (m : Memory) (root v t : ℕ) → reach_in m root (take (up - d) (path up v)) ≡ Ok t
     → (j : ℕ) → j < to_end (suc d) v → reach_in m root (path up (v + j * 4096)) ≡ reach_in m t (indices (suc d) (v + j * 4096))
 on_from up d low m root v t way j l =
     let w = v + j * 4096 in
@@ -60,7 +61,7 @@ barren_less {m} {m'} f b = record {
   few = b.few;
   none = λ j v h.
       let s = b.none j v h in
-      subst (λ (t : ℕ). (a : ℕ) × (reach_in m' (t + j) (indices 2 v) ≡ Stop a)) (sym f.start)
+      subst (λ (t : ℕ). (a : Refusal) × (reach_in m' (t + j) (indices 2 v) ≡ Err a)) (sym f.start)
       (less_stop f (start_frame m + j) (indices 2 v) s.0 s.1);
 }
 
@@ -91,7 +92,7 @@ module _ (v q : ℕ) (first : index 0 v ≡ 0) (small : q < 512) where
   its_page = omega arith
 
 module _ (up : ℕ) (low : 1 ≤ up) (m : Memory) (root v t : ℕ) {ks : List ℕ} (b : BarrenIn m ks) (ins : inside_in m t ≡ true)
-    (way : reach_in m root (take (up - 1) (path up v)) ≡ Value t) where
+    (way : reach_in m root (take (up - 1) (path up v)) ≡ Ok t) where
   table : start_frame m + (t - start_frame m) ≡ t
   table = omega (arith, inside_from (start_frame m) (total_of m) t ins)
 
@@ -105,7 +106,7 @@ module _ (up : ℕ) (low : 1 ≤ up) (m : Memory) (root v t : ℕ) {ks : List �
       (s.0, on_from up 1 low m root v t way j (omega arith) ∙ ap (λ (x : ℕ). reach_in m x (indices 2 w)) (sym table) ∙ s.1)))
 
   -- the next entry is counted once its pages were freed, if the table is still on their way
-  pub barren_more : (n : ℕ) {m' : Memory} → m' ≡ free_pages up m root v n → n ≤ to_end 1 v → n ≡ 512 → {s : ℕ} → reach_in m' root (take (up - 1) (path up v)) ≡ Value s
+  pub barren_more : (n : ℕ) {m' : Memory} → m' ≡ free_pages up m root v n → n ≤ to_end 1 v → n ≡ 512 → {s : ℕ} → reach_in m' root (take (up - 1) (path up v)) ≡ Ok s
       → (i : ℕ) → i ≡ index 1 v → i ≡ get_or ks (t - start_frame m) 0 → BarrenIn m' (set ks (t - start_frame m) (i + 1))
   barren_more n {m'} e l w {s} still i at next = record { few = λ j. few j (ℕ_discrete j p); none = λ j a h. none j a h (ℕ_discrete j p) }
     where
@@ -125,7 +126,7 @@ module _ (up : ℕ) (low : 1 ≤ up) (m : Memory) (root v t : ℕ) {ks : List �
       few j (yes q) = rw q (omega (arith, set_most ks p (i + 1)))
       few j (no d) = omega (arith, get_or-set_other ks p j (i + 1) 0 d, b.few j)
 
-      gone : (a : ℕ) → index 1 a ≡ i → (c : ℕ) × (reach_in m' t (indices 2 a) ≡ Stop c)
+      gone : (a : ℕ) → index 1 a ≡ i → (c : Refusal) × (reach_in m' t (indices 2 a) ≡ Err c)
       gone a k =
           let q = index 0 a in
           let x = v + q * 4096 in
@@ -133,14 +134,14 @@ module _ (up : ℕ) (low : 1 ≤ up) (m : Memory) (root v t : ℕ) {ks : List �
           let small : q < 512 = omega arith in
           let page : indices 2 x ≡ indices 2 a =
           ap₂ (λ (y z : ℕ). y ∷ z ∷ []) (same_entry v q first small ∙ sym at ∙ sym k) (its_page v q first small) in
-          let g = subst (λ (y : Memory). (c : ℕ) × (reach_in y root (path up x) ≡ Stop c)) (sym e) (pages_gone up root n m v q (omega arith)) in
-          (g.0, ap (reach_in m' t) (sym page) ∙ sym (on_from up 1 low m' root v t (still ∙ ap Value same) q (omega arith)) ∙ g.1)
+          let g = subst (λ (y : Memory). (c : Refusal) × (reach_in y root (path up x) ≡ Err c)) (sym e) (pages_gone up root n m v q (omega arith)) in
+          (g.0, ap (reach_in m' t) (sym page) ∙ sym (on_from up 1 low m' root v t (still ∙ ap Ok same) q (omega arith)) ∙ g.1)
 
-      none : (j a : ℕ) → index 1 a < get_or (set ks p (i + 1)) j 0 → Dec (j ≡ p) → (c : ℕ) × (reach_in m' (start_frame m' + j) (indices 2 a) ≡ Stop c)
+      none : (j a : ℕ) → index 1 a < get_or (set ks p (i + 1)) j 0 → Dec (j ≡ p) → (c : Refusal) × (reach_in m' (start_frame m' + j) (indices 2 a) ≡ Err c)
       none j a h (no d) = old.none j a (omega (arith, get_or-set_other ks p j (i + 1) 0 d))
       none j a h (yes q) = by (dec_lt (index 1 a) i)
         where
-          by : Dec (index 1 a < i) → (c : ℕ) × (reach_in m' (start_frame m' + j) (indices 2 a) ≡ Stop c)
+          by : Dec (index 1 a < i) → (c : Refusal) × (reach_in m' (start_frame m' + j) (indices 2 a) ≡ Err c)
           by (yes y) = old.none j a (rw q (omega arith))
           by (no y) =
               let top : index 1 a < i + 1 = omega (arith, rw q at h, set_most ks p (i + 1)) in

@@ -1,6 +1,5 @@
 // Long runs of pages freed by blocks: entries that lead to no page are counted, and passed over where they are come by again.
 ghost use Rattle.std.specs.Prelude.{◌≡◌, true, suc, ◌+◌, ◌-◌, ◌*◌, ◌^◌, ◌≤◌, ◌<◌, take};
-ghost use Rattle.answer.specs.declared.Outcome.TheVariants.{Value};
 ghost use Rattle.bitmap.specs.Bitmap.{marks_in};
 ghost use Rattle.entry.specs.Entry.{indices};
 ghost use Rattle.frame.specs.Frames.{inside};
@@ -14,7 +13,6 @@ ghost use Rattle.freeing_runs.specs.Freeing.{Blank};
 ghost use Rattle.freeing.specs.Blocks.{Barren};
 
 use address::{Frame, VirtAddr};
-use answer::Outcome;
 use frame::{FrameAllocator, GivenBack, Marks, tallies};
 use freeing_runs::Freed;
 use spans::Span;
@@ -60,7 +58,7 @@ fn free_below(
     requires room_to_take { RoomToTake (lent_memory words.old bitmap.old frames) 0 }
     requires blank { Blank words.old (marks_in empty.old) }
     requires barren { Barren words.old frames.start frames.total barren.old }
-    requires virt_value { reach words.old frames.start frames.total root.0 (take (up - 1) (indices (suc up) virt.0)) ≡ Value t }
+    requires virt_value { reach words.old frames.start frames.total root.0 (take (up - 1) (indices (suc up) virt.0)) ≡ Ok t }
     requires t_value { inside frames.start frames.total t ≡ true }
     requires n_bound { virt.0 + n * 4096 < 2 ^ 64 }
     requires n_nonzero { 0 < n }
@@ -92,8 +90,8 @@ fn free_below(
     let left = pages.frames;
     if i == k && done == 512 {
         match walk::find_above(words, left.start, left.total, up, root, virt) {
-            Outcome::Stop(_) => {}
-            Outcome::Value(_) => {
+            Err(_) => {}
+            Ok(_) => {
                 barren[place] = (k + 1) as u16;
             }
         }
@@ -134,8 +132,8 @@ fn free_block(
         (lent_memory words.new bitmap.new result.frames) result.found }
 {
     match walk::find_above(words, frames.start, frames.total, up, root, virt) {
-        Outcome::Stop(_) => {}
-        Outcome::Value(t) => {
+        Err(_) => {}
+        Ok(t) => {
             if frame::inner::is_inside(frames.start, frames.total, t) {
                 return free_below(words, bitmap, empty, barren, frames, up, root, virt, t, n);
             }
@@ -181,6 +179,7 @@ pub fn free_blocks(
     let mut left = frames;
     let mut found = tallies::none();
     let mut done = 0;
+    // Each turn goes on by as many pages as it dealt with.
     while done < n {
         let step = free_block(
             words,

@@ -5,12 +5,12 @@ use mathlib.Core.Bool.{true, false≢true}
 use mathlib.Core.List.{List, [], ◌∷◌}
 use mathlib.Core.Logic.{◌⊎◌, inl, inr, ⊎_elim}
 use lib.ListN.{get_or, set}
+use Rattle.std.specs.Prelude.{Ok, Err, Result}
+use Rattle.answer.specs.declared.Refusal.{Refusal}
 use Rattle.bits.specs.Bit.{flag}
 use Rattle.entry.specs.Entry.{frame_of}
 use Rattle.entry.proofs.Entry.{flag_zero}
 use Rattle.answer.specs.Outcomes.{and_then}
-use Rattle.answer.specs.declared.Outcome.{Outcome}
-use Rattle.answer.specs.declared.Outcome.TheVariants.{Value, Stop}
 use Rattle.paging.specs.Walk.{place, entry_at, reach}
 use Rattle.tree.proofs.Walks.{nowhere, entry_cases, entry_there}
 
@@ -39,27 +39,27 @@ fewer_set ws p =
 -- ---- walks
 
 module _ {ws ws' : List ℕ} (f : Fewer ws ws') (start total : ℕ) where
-  pub fewer_entry : (t i e : ℕ) → entry_at ws' start total t i ≡ Value e → entry_at ws start total t i ≡ Value e
+  pub fewer_entry : (t i e : ℕ) → entry_at ws' start total t i ≡ Ok e → entry_at ws start total t i ≡ Ok e
   fewer_entry t i e h =
       let c = entry_cases ws' start total t i e h in
       let w : e ≡ get_or ws (place start t i) 0 = sym c.word ∙ f.from _ (rw c.word c.bit) in
-      entry_there ws start total t i c.table c.small (rw w at c.bit) ∙ ap Value (sym w)
+      entry_there ws start total t i c.table c.small (rw w at c.bit) ∙ ap Ok (sym w)
 
-  pub fewer_reach : (p : List ℕ) (t g : ℕ) → reach ws' start total t p ≡ Value g → reach ws start total t p ≡ Value g
+  pub fewer_reach : (p : List ℕ) (t g : ℕ) → reach ws' start total t p ≡ Ok g → reach ws start total t p ≡ Ok g
   unfolding reach
   fewer_reach [] t g h = h
   fewer_reach (i ∷ is) t g h = go (entry_at ws' start total t i) refl h (λ e. fewer_reach is (frame_of e) g)
     where
-      go : (x : Outcome) → entry_at ws' start total t i ≡ x → and_then x Stop (λ e. reach ws' start total (frame_of e) is) ≡ Value g
-          → ((e : ℕ) → reach ws' start total (frame_of e) is ≡ Value g → reach ws start total (frame_of e) is ≡ Value g)
-          → and_then (entry_at ws start total t i) Stop (λ e. reach ws start total (frame_of e) is) ≡ Value g
-      go (Value e) k q r = rw (fewer_entry t i e k) (r e q)
-      go (Stop n) k q r = absurd (nowhere q)
+      go : (x : Result ℕ Refusal) → entry_at ws' start total t i ≡ x → and_then x Err (λ e. reach ws' start total (frame_of e) is) ≡ Ok g
+          → ((e : ℕ) → reach ws' start total (frame_of e) is ≡ Ok g → reach ws start total (frame_of e) is ≡ Ok g)
+          → and_then (entry_at ws start total t i) Err (λ e. reach ws start total (frame_of e) is) ≡ Ok g
+      go (Ok e) k q r = rw (fewer_entry t i e k) (r e q)
+      go (Err n) k q r = absurd (nowhere q)
 
   -- so what was not reached is so still
-  pub fewer_stop : (p : List ℕ) (t a : ℕ) → reach ws start total t p ≡ Stop a → (b : ℕ) × (reach ws' start total t p ≡ Stop b)
+  pub fewer_stop : (p : List ℕ) (t : ℕ) (a : Refusal) → reach ws start total t p ≡ Err a → (b : Refusal) × (reach ws' start total t p ≡ Err b)
   fewer_stop p t a h = go (reach ws' start total t p) refl
     where
-      go : (x : Outcome) → reach ws' start total t p ≡ x → (b : ℕ) × (reach ws' start total t p ≡ Stop b)
-      go (Value g) k = absurd (nowhere (sym h ∙ fewer_reach p t g k))
-      go (Stop b) k = (b, k)
+      go : (x : Result ℕ Refusal) → reach ws' start total t p ≡ x → (b : Refusal) × (reach ws' start total t p ≡ Err b)
+      go (Ok g) k = absurd (nowhere (sym h ∙ fewer_reach p t g k))
+      go (Err b) k = (b, k)

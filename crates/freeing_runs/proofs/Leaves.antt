@@ -3,11 +3,11 @@ use Prim.Native.Nat.{ℕ, suc, ◌+◌, ◌-◌, ◌*◌, ◌<◌, ◌≤◌}
 use mathlib.Core.Path.{◌≡◌, sym, subst}
 use mathlib.Core.List.{List}
 use native.Mathlib.Omega.{arith}
+use Rattle.std.specs.Prelude.{Ok, Err, Result}
+use Rattle.answer.specs.declared.Refusal.{Refusal}
 use Rattle.frame.specs.declared.Tally.{Tally}
 use Rattle.frame.specs.Frames.{Frames, give_frame}
 use Rattle.frame.specs.Found.{none_found, one_found}
-use Rattle.answer.specs.declared.Outcome.{Outcome}
-use Rattle.answer.specs.declared.Outcome.TheVariants.{Value, Stop}
 use Rattle.paging.specs.Map.{Memory, memory, start_frame, total_of, left, take_leaf, RoomToTake}
 use Rattle.paging.specs.Pages.{freed}
 use Rattle.paging.specs.Found.{Tells}
@@ -18,21 +18,21 @@ use Rattle.freeing_runs.specs.Freeing.{free_leaf, free_leaves}
 
 -- after `take_leaf`
 module _ (m : Memory) (t i : ℕ) (ws : List ℕ) where
-  pub leaf_none : (n : ℕ) → take_leaf m.words (start_frame m) (total_of m) t i ≡ left (Stop n) ws → free_leaf m t i ≡ memory ws m.frames
+  pub leaf_none : (n : Refusal) → take_leaf m.words (start_frame m) (total_of m) t i ≡ left (Err n) ws → free_leaf m t i ≡ memory ws m.frames
   unfolding free_leaf
   leaf_none n e = rw e
 
-  pub leaf_freed : (f : ℕ) → take_leaf m.words (start_frame m) (total_of m) t i ≡ left (Value f) ws → free_leaf m t i ≡ memory ws (give_frame m.frames f).frames
+  pub leaf_freed : (f : ℕ) → take_leaf m.words (start_frame m) (total_of m) t i ≡ left (Ok f) ws → free_leaf m t i ≡ memory ws (give_frame m.frames f).frames
   unfolding free_leaf
   leaf_freed f e = rw e
 
 -- .. and what it tells
 module _ (m : Memory) (t i : ℕ) (small : i < 512) (ws : List ℕ) where
-  pub leaf_told_none : (n : ℕ) → take_leaf m.words (start_frame m) (total_of m) t i ≡ left (Stop n) ws → {u : Tally} → u ≡ none_found
+  pub leaf_told_none : (n : Refusal) → take_leaf m.words (start_frame m) (total_of m) t i ≡ left (Err n) ws → {u : Tally} → u ≡ none_found
       → Tells m (memory ws m.frames) u
   leaf_told_none n e h = rw h (rw e at (take_tells m t i small))
 
-  pub leaf_told : (f : ℕ) → take_leaf m.words (start_frame m) (total_of m) t i ≡ left (Value f) ws → {fr : Frames} {u : Tally}
+  pub leaf_told : (f : ℕ) → take_leaf m.words (start_frame m) (total_of m) t i ≡ left (Ok f) ws → {fr : Frames} {u : Tally}
       → fr ≡ (give_frame m.frames f).frames → u ≡ one_found (give_frame m.frames f).answer → Tells m (memory ws fr) u
   leaf_told f e g h = rw (g, h) (rw e at (take_tells m t i small))
 
@@ -47,9 +47,9 @@ leaf_roomy m t i n r = go (take_leaf m.words (start_frame m) (total_of m) t i).w
     same : RoomToTake (memory ws m.frames) n
     same = record { enough = subst (λ (x : ℕ). total_of m * 512 ≤ x) (sym (take_leaf_length m.words (start_frame m) (total_of m) t i)) r.enough; held = r.held }
 
-    go : (x : Outcome) → RoomToTake (memory ws (freed x m.frames)) n
-    go (Value f) = give_roomy ws m.frames f n same
-    go (Stop a) = same
+    go : (x : Result ℕ Refusal) → RoomToTake (memory ws (freed x m.frames)) n
+    go (Ok f) = give_roomy ws m.frames f n same
+    go (Err a) = same
 
 pub leaf_left : {m' : Memory} (m : Memory) (t i : ℕ) → m' ≡ free_leaf m t i → RoomToTake m 0 → RoomToTake m' 0
 leaf_left m t i e r = subst (λ (x : Memory). RoomToTake x 0) (sym e) (leaf_roomy m t i 0 r)

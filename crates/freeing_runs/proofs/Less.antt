@@ -4,6 +4,8 @@ use mathlib.Core.Path.{◌≡◌, refl, sym, ◌∙◌, ap}
 use mathlib.Core.Bool.{false≢true}
 use mathlib.Core.List.{List, [], ◌∷◌, ◌++◌}
 use lib.ListN.{get_or, set}
+use Rattle.std.specs.Prelude.{Ok, Err, Result}
+use Rattle.answer.specs.declared.Refusal.{Refusal}
 use Rattle.bits.specs.Bit.{flag}
 use Rattle.bits.proofs.Choice.{pick_cases}
 use Rattle.entry.proofs.Entry.{flag_zero}
@@ -11,8 +13,6 @@ use Rattle.frame.specs.declared.Found.{Found}
 use Rattle.frame.specs.Frames.{Frames, FramesDid, inside, without_mark}
 use Rattle.frame.proofs.Laws.{give_cases}
 use Rattle.answer.specs.Outcomes.{and_then}
-use Rattle.answer.specs.declared.Outcome.{Outcome}
-use Rattle.answer.specs.declared.Outcome.TheVariants.{Value, Stop}
 use Rattle.paging.specs.Walk.{place, reach}
 use Rattle.paging.specs.Map.{Memory, memory, start_frame, total_of, Left, left, take_leaf, unmap_entry}
 use Rattle.paging.specs.Pages.{unmap_leaf, freed, free_page}
@@ -39,20 +39,20 @@ module _ {m m' : Memory} (f : Less m m') (root : ℕ) (p : List ℕ) where
   same_lent : reach_in m' root p ≡ reach m'.words (start_frame m) (total_of m) root p
   same_lent = rw (f.start, f.total)
 
-  pub less_reach : (g : ℕ) → reach_in m' root p ≡ Value g → reach_in m root p ≡ Value g
+  pub less_reach : (g : ℕ) → reach_in m' root p ≡ Ok g → reach_in m root p ≡ Ok g
   less_reach g h = fewer_reach f.words (start_frame m) (total_of m) p root g (sym same_lent ∙ h)
 
-  pub less_stop : (a : ℕ) → reach_in m root p ≡ Stop a → (b : ℕ) × (reach_in m' root p ≡ Stop b)
+  pub less_stop : (a : Refusal) → reach_in m root p ≡ Err a → (b : Refusal) × (reach_in m' root p ≡ Err b)
   less_stop a h = let s = fewer_stop f.words (start_frame m) (total_of m) p root a h in (s.0, same_lent ∙ s.1)
 
 -- ---- a leaf freed, and a page
 
-freed_lent : (w : Outcome) (fr : Frames) → ((freed w fr).fa.start ≡ fr.fa.start) × ((freed w fr).fa.total ≡ fr.fa.total)
+freed_lent : (w : Result ℕ Refusal) (fr : Frames) → ((freed w fr).fa.start ≡ fr.fa.start) × ((freed w fr).fa.total ≡ fr.fa.total)
 unfolding without_mark
-freed_lent (Value f) fr =
+freed_lent (Ok f) fr =
     give_cases fr f (λ (d : FramesDid Found). (d.frames.fa.start ≡ fr.fa.start) × (d.frames.fa.total ≡ fr.fa.total))
     (λ _. (refl, refl)) (λ _ _. (refl, refl)) (λ _ _. (refl, refl))
-freed_lent (Stop n) fr = (refl, refl)
+freed_lent (Err n) fr = (refl, refl)
 
 freed_less : (m : Memory) (l : Left) → Fewer m.words l.words → Less m (memory l.words (freed l.walked m.frames))
 freed_less m l f = record { start = (freed_lent l.walked m.frames).0; total = (freed_lent l.walked m.frames).1; words = f }
@@ -68,9 +68,9 @@ unmap_fewer : (ws : List ℕ) (start total root : ℕ) (p : List ℕ) (i : ℕ) 
 unfolding unmap_entry
 unmap_fewer ws start total root p i = go (reach ws start total root p)
   where
-    go : (w : Outcome) → Fewer ws (and_then w (λ n. left (Stop n) ws) (λ t. take_leaf ws start total t i)).words
-    go (Value t) = take_fewer ws start total t i
-    go (Stop n) = fewer_refl ws
+    go : (w : Result ℕ Refusal) → Fewer ws (and_then w (λ n. left (Err n) ws) (λ t. take_leaf ws start total t i)).words
+    go (Ok t) = take_fewer ws start total t i
+    go (Err n) = fewer_refl ws
 
 pub leaf_less : (m : Memory) (t i : ℕ) → Less m (free_leaf m t i)
 unfolding free_leaf
@@ -81,7 +81,7 @@ unfolding free_page
 free_less up m root v = freed_less m (unmap_leaf up m root v) (unmap_fewer m.words (start_frame m) (total_of m) root (upper up v) (last up v))
 
 -- a page that was freed is not reached
-pub free_gone : (up : ℕ) (m : Memory) (root v : ℕ) → (b : ℕ) × (reach_in (free_page up m root v) root (path up v) ≡ Stop b)
+pub free_gone : (up : ℕ) (m : Memory) (root v : ℕ) → (b : Refusal) × (reach_in (free_page up m root v) root (path up v) ≡ Err b)
 unfolding free_page
 free_gone up m root v = go (reach_in m' root (path up v)) refl
   where
@@ -97,20 +97,20 @@ free_gone up m root v = go (reach_in m' root (path up v)) refl
     f : Less m m'
     f = free_less up m root v
 
-    still : (g : ℕ) → reach ws' (start_frame m) (total_of m) root (upper up v ++ (last up v ∷ [])) ≡ Value g → ⊥
+    still : (g : ℕ) → reach ws' (start_frame m) (total_of m) root (upper up v ++ (last up v ∷ [])) ≡ Ok g → ⊥
     still g h =
         let b = reach_back ws' (start_frame m) (total_of m) root (upper up v) (last up v) g h in
         let t = b.table in
-        let way : reach ws (start_frame m) (total_of m) root (upper up v) ≡ Value t = fewer_reach f.words (start_frame m) (total_of m) (upper up v) root t b.way in
+        let way : reach ws (start_frame m) (total_of m) root (upper up v) ≡ Ok t = fewer_reach f.words (start_frame m) (total_of m) (upper up v) root t b.way in
         let c = entry_cases ws (start_frame m) (total_of m) t (last up v) b.word (fewer_entry f.words (start_frame m) (total_of m) t (last up v) b.word b.entry) in
         let c' = entry_cases ws' (start_frame m) (total_of m) t (last up v) b.word b.entry in
-        let e : unmap_leaf up m root v ≡ left (Value _) (set ws (place (start_frame m) t (last up v)) 0) =
+        let e : unmap_leaf up m root v ≡ left (Ok _) (set ws (place (start_frame m) t (last up v)) 0) =
         unmap_entry_take ws (start_frame m) (total_of m) root (upper up v) (last up v) t way
         ∙ take_leaf_there ws (start_frame m) (total_of m) t (last up v) c.table (rw c.word c.bit) in
         let z : b.word ≡ 0 =
         sym c'.word ∙ ap (λ (l : Left). get_or l.words (place (start_frame m) t (last up v)) 0) e ∙ set_own ws (place (start_frame m) t (last up v)) in
         false≢true (sym (flag_zero 0) ∙ ap (flag 0) (sym z) ∙ c'.bit)
 
-    go : (x : Outcome) → reach_in m' root (path up v) ≡ x → (b : ℕ) × (reach_in m' root (path up v) ≡ Stop b)
-    go (Stop b) h = (b, h)
-    go (Value g) h = absurd (still g (ap (reach ws' (start_frame m) (total_of m) root) (path_split up v) ∙ sym (same_lent f root (path up v)) ∙ h))
+    go : (x : Result ℕ Refusal) → reach_in m' root (path up v) ≡ x → (b : Refusal) × (reach_in m' root (path up v) ≡ Err b)
+    go (Err b) h = (b, h)
+    go (Ok g) h = absurd (still g (ap (reach ws' (start_frame m) (total_of m) root) (path_split up v) ∙ sym (same_lent f root (path up v)) ∙ h))

@@ -11,11 +11,12 @@ use native.Mathlib.Omega.{arith}
 use lib.ListN.{get_or}
 use lib.Pow.{pow_pos}
 use lib.Seq.{get_or-set_other}
+use Rattle.answer.specs.declared.Refusal.{Refusal}
+use Rattle.std.specs.Prelude.{Ok, Err}
 use Rattle.bits.specs.Bit.{flag}
 use Rattle.bits.proofs.Choice.{pick_cases}
 use Rattle.frame.specs.Frames.{inside}
 use Rattle.frame.proofs.Laws.{inside_from}
-use Rattle.answer.specs.declared.Outcome.TheVariants.{Value, Stop}
 use Rattle.paging.specs.Walk.{place, reach}
 use Rattle.paging.specs.Map.{Memory, memory, start_frame, total_of, Left, take_leaf}
 use Rattle.paging.specs.Pages.{freed, free_page, free_pages}
@@ -51,7 +52,7 @@ pages_less up root (suc n) m v = less_trans (free_less up m root v) (pages_less 
 
 -- none of k pages from v on is
 abbrev pub Unmapped : ℕ → Memory → ℕ → ℕ → ℕ → Type 0
-Unmapped up m root v k = (j : ℕ) → j < k → (a : ℕ) × (reach_in m root (path up (v + j * 4096)) ≡ Stop a)
+Unmapped up m root v k = (j : ℕ) → j < k → (a : Refusal) × (reach_in m root (path up (v + j * 4096)) ≡ Err a)
 
 -- they are passed over
 pub pass_over : (up root : ℕ) (m : Memory) (k v : ℕ) → Unmapped up m root v k → free_pages up m root v k ≡ m
@@ -128,11 +129,11 @@ leaf_rest m t i s j it li is lj d =
 
 -- no entry on the way to page v, but for the last of its k leaves, is one of those that are freed
 abbrev pub Apart : ℕ → Memory → ℕ → ℕ → ℕ → ℕ → Type 0
-Apart up m root v t k = (a : List ℕ) (i : ℕ) (r : List ℕ) → upper up v ≡ a ++ (i ∷ r) → reach_in m root a ≡ Value t → Off i (last up v) k
+Apart up m root v t k = (a : List ℕ) (i : ℕ) (r : List ℕ) → upper up v ≡ a ++ (i ∷ r) → reach_in m root a ≡ Ok t → Off i (last up v) k
 
 -- then the way to the next page is the same
-way_next : (up root : ℕ) (m : Memory) (v t k : ℕ) → reach_in m root (upper up v) ≡ Value t → inside_in m t ≡ true → Apart up m root v t (suc (suc k))
-    → reach_in (free_leaf m t (last up v)) root (upper up v) ≡ Value t
+way_next : (up root : ℕ) (m : Memory) (v t k : ℕ) → reach_in m root (upper up v) ≡ Ok t → inside_in m t ≡ true → Apart up m root v t (suc (suc k))
+    → reach_in (free_leaf m t (last up v)) root (upper up v) ≡ Ok t
 way_next up root m v t k way ins apart =
     let f = leaf_less m t (last up v) in
     let ws' = (free_leaf m t (last up v)).words in
@@ -140,15 +141,15 @@ way_next up root m v t k way ins apart =
     same_reach m.words ws' (start_frame m) (total_of m) (upper up v) root
     (same_along m.words ws' (start_frame m) (total_of m) (λ s j. (s ≡ t) × (j ≡ last up v))
     (λ s j is lj d. leaf_rest m t (last up v) s j ins (last_small up v) is lj d) (upper up v) root
-    (λ a i r s e h _ _ d. ⊎_elim (λ l. omega (arith, d.1)) (λ l. omega (arith, d.1)) (apart a i r e (h ∙ ap Value d.0)))) in
+    (λ a i r s e h _ _ d. ⊎_elim (λ l. omega (arith, d.1)) (λ l. omega (arith, d.1)) (apart a i r e (h ∙ ap Ok d.0)))) in
     rw (f.start, f.total) (same ∙ way)
 
-leaf_is : (up root : ℕ) (m : Memory) (v t : ℕ) → reach_in m root (upper up v) ≡ Value t → free_page up m root v ≡ free_leaf m t (last up v)
+leaf_is : (up root : ℕ) (m : Memory) (v t : ℕ) → reach_in m root (upper up v) ≡ Ok t → free_page up m root v ≡ free_leaf m t (last up v)
 unfolding free_page free_leaf
 leaf_is up root m v t way =
     ap (λ (l : Left). memory l.words (freed l.walked m.frames)) (unmap_entry_take m.words (start_frame m) (total_of m) root (upper up v) (last up v) t way)
 
-pub leaves_are : (up root k : ℕ) (m : Memory) (v t : ℕ) → reach_in m root (upper up v) ≡ Value t → inside_in m t ≡ true → last up v + k ≤ 512 → Apart up m root v t k
+pub leaves_are : (up root k : ℕ) (m : Memory) (v t : ℕ) → reach_in m root (upper up v) ≡ Ok t → inside_in m t ≡ true → last up v + k ≤ 512 → Apart up m root v t k
     → free_pages up m root v k ≡ free_leaves m t (last up v) k
 unfolding free_pages free_leaves
 leaves_are up root zero m v t way ins fit apart = refl

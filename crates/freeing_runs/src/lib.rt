@@ -13,7 +13,6 @@ ghost use Rattle.paging.specs.Kept.{lent_memory};
 ghost use Rattle.freeing_runs.specs.Freeing.{free_leaf, free_leaves, Blank};
 
 use address::{Frame, VirtAddr};
-use answer::Outcome;
 use frame::{FrameAllocator, GivenBack, Marks, Tally, tallies};
 use spans::Span;
 
@@ -41,11 +40,17 @@ fn free_leaf(
         (lent_memory words.new bitmap.new result.frames) result.found }
 {
     match mapper::inner::take_leaf(words, frames.start, frames.total, t, i) {
-        Outcome::Stop(_) => GivenBack {
+        Err(_) => GivenBack {
             found: tallies::none(),
             frames,
         },
-        Outcome::Value(f) => frame::inner::give_back(bitmap, frames, Frame(f)),
+        Ok(f) => {
+            let mut left = frames;
+            GivenBack {
+                found: frame::inner::give_back(bitmap, &mut left, Frame(f)),
+                frames: left,
+            }
+        }
     }
 }
 
@@ -182,6 +187,7 @@ pub fn free_run(
     let mut left = frames;
     let mut found = tallies::none();
     let mut done = 0;
+    // Each turn goes on by as many pages as it dealt with.
     while done < n {
         let step = free_span(
             words,

@@ -13,25 +13,32 @@ ghost use Rattle.copying.specs.Copying.{out_of};
 ghost use Rattle.handler.specs.Handler.{refused, put_over, map_over, map_new, handled_second, handle_fault_second_of};
 
 use address::{Frame, PhysAddr, VirtAddr};
-use answer::{Answer, Outcome};
+use answer::Refusal;
 use entry::paging::PageTableEntry;
 use frame::{Changed, FrameAllocator, Marks};
 use paging::Entered;
 
 // The word e at entry i of table t, over what stands there, and frame f zeroed.
-fn put_over(words: &mut [u64], frames: FrameAllocator, t: u64, i: usize, e: u64, f: u64) -> Outcome
+fn put_over(
+    words: &mut [u64],
+    frames: FrameAllocator,
+    t: u64,
+    i: usize,
+    e: u64,
+    f: u64,
+) -> Result<u64, Refusal>
     requires words_lent { WordsLent words.old frames.start frames.total }
     requires i_bound { i < 512 }
     requires f_value { inside frames.start frames.total f ≡ true }
     ensures { (b : List ℕ) → out result (lent_memory words.new b frames) ≡ put_over (lent_memory words.old b frames) t i e f }
 {
     if !frame::inner::is_inside(frames.start, frames.total, t) {
-        return Outcome::Stop(answer::OUTSIDE);
+        return Err(Refusal::TableOutside);
     }
     let at = walk::entry_place(frames.start, t, i);
     words[at] = e;
     tables::zero_frame(words, walk::entry_place(frames.start, f, 0));
-    Outcome::Value(0)
+    Ok(0)
 }
 
 // A page mapped to frame f over whatever stands there, and the frame zeroed.
@@ -52,15 +59,13 @@ fn map_over(
     ensures { out_of result words.new bitmap.new
         ≡ map_over up (lent_memory words.old bitmap.old frames) root.0 virt.0 f writable user }
 {
-    let made = tables::make_tables(words, bitmap, frames, up, root, virt, up, user);
-    let walked = made.walked;
-    let left = made.frames;
-    match walked {
-        Outcome::Stop(n) => Entered {
-            walked: Outcome::Stop(n),
+    let mut left = frames;
+    match tables::make_tables(words, bitmap, &mut left, up, root, virt, up, user) {
+        Err(n) => Entered {
+            walked: Err(n),
             frames: left,
         },
-        Outcome::Value(t) => {
+        Ok(t) => {
             let e = PageTableEntry::set(PhysAddr(Frame(f).start_address()), writable, user);
             Entered {
                 walked: put_over(words, left, t, entry::page_index(virt, 0), e.0, f),
@@ -90,20 +95,20 @@ fn map_page(
     let walked = taken.walked;
     let left = taken.frames;
     match walked {
-        Outcome::Stop(n) => Entered {
-            walked: Outcome::Stop(n),
+        Err(n) => Entered {
+            walked: Err(n),
             frames: left,
         },
-        Outcome::Value(f) => map_over(words, bitmap, left, up, root, virt, f, writable, user),
+        Ok(f) => map_over(words, bitmap, left, up, root, virt, f, writable, user),
     }
 }
 
-// The number for access that was denied to a page.
-fn refusal(code: u64) -> u64
+// The refusal of access that was denied to a page.
+fn refusal(code: u64) -> Refusal
     ensures { result ≡ refused code }
 {
     if error_code::is_write(code) {
-        return answer::WRITE_TO_READ_ONLY;
+        return Refusal::WriteToReadOnly;
     }
     error_code::denied(code)
 }
@@ -128,13 +133,13 @@ fn handle(
 {
     if error_code::is_reserved(code) {
         return Changed {
-            answer: Answer::Refused(answer::RESERVED_BIT),
+            answer: Err(Refusal::ReservedBit),
             frames,
         };
     }
     if error_code::is_present(code) {
         return Changed {
-            answer: Answer::Refused(refusal(code)),
+            answer: Err(refusal(code)),
             frames,
         };
     }
@@ -166,7 +171,7 @@ pub fn handle_page_fault(
 {
     if !mapper::is_whole(words, bitmap, frames, root) {
         return Changed {
-            answer: Answer::Refused(answer::BROKEN_RECORD),
+            answer: Err(Refusal::BrokenRecord),
             frames,
         };
     }

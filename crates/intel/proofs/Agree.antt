@@ -6,12 +6,12 @@ use mathlib.Core.List.{List, [], ◌∷◌}
 use mathlib.Core.Logic.{◌↔◌, ⊎_elim}
 use native.Mathlib.Omega.{arith}
 use lib.ListN.{length, get_or, take}
+use Rattle.std.specs.Prelude.{Ok, Err, Result}
+use Rattle.answer.specs.declared.Refusal.{Refusal}
+use Rattle.answer.specs.declared.Refusal.TheVariants.{NotMapped, TableOutside}
 use Rattle.bits.specs.Bit.{flag}
-use Rattle.answer.specs.Numbers.{not_mapped, outside}
 use Rattle.entry.specs.Entry.{frame_of, addr_of, index, indices}
 use Rattle.frame.specs.Frames.{inside}
-use Rattle.answer.specs.declared.Outcome.{Outcome}
-use Rattle.answer.specs.declared.Outcome.TheVariants.{Value, Stop}
 use Rattle.paging.specs.declared.Leaf.{Leaf}
 use Rattle.paging.specs.Walk.{place, entry_at, reach, judge, leaf, address}
 use Rattle.paging.specs.Calls.{translate}
@@ -24,13 +24,13 @@ use Rattle.intel.proofs.Entries.{same_table, walk_is}
 -- ---- one table after the other, from the last level up
 
 -- an outcome of the manual's is one of ours, unless ours is off the board
-abbrev Same : Translation → Outcome → Type 0
-Same m w = (w ≡ Stop outside → ⊥) → m ≡ as_translation w
+abbrev Same : Translation → Result ℕ Refusal → Type 0
+Same m w = (w ≡ Err TableOutside → ⊥) → m ≡ as_translation w
 
 module _ (mem : Memory) (ws : List ℕ) (start total v : ℕ) (holds : Holds mem ws start total) where
   -- At entry i of table t. `through e` is the manual's outcome from an entry e on, and `on e` the one behind it where it is present.
   step : (through on : ℕ → Translation) (t i : ℕ) (is : List ℕ) → ((e : ℕ) → through e ≡ choose (p e) (on e) not_present) → i < 512
-      → ((e : ℕ) → entry_at ws start total t i ≡ Value e → Same (on e) (address v (judge is e (leaf ws start total (frame_of e) is))))
+      → ((e : ℕ) → entry_at ws start total t i ≡ Ok e → Same (on e) (address v (judge is e (leaf ws start total (frame_of e) is))))
       → Same (through (mem (t * 2 ^ 12 + i * 2 ^ 3))) (address v (leaf ws start total t (i ∷ is)))
   step through on t i is law small behind stays = by-table (inside start total t) refl
     where
@@ -39,14 +39,14 @@ module _ (mem : Memory) (ws : List ℕ) (start total v : ℕ) (holds : Holds mem
 
       by_flag : inside start total t ≡ true → (x : Bool) → flag 0 w ≡ x → choose x (on w) not_present ≡ as_translation (address v (leaf ws start total t (i ∷ is)))
       by_flag h true k =
-          let e : entry_at ws start total t i ≡ Value w = entry_in ws start total t i h small ∙ present_yes w k in
+          let e : entry_at ws start total t i ≡ Ok w = entry_in ws start total t i h small ∙ present_yes w k in
           let l : leaf ws start total t (i ∷ is) ≡ judge is w (leaf ws start total (frame_of w) is) = leaf_on ws start total t refl w e in
-          behind w e (λ z. stays (ap (address v) l ∙ z)) ∙ ap (λ (x : Leaf). as_translation (address v x)) (sym l)
-      by_flag h false k = rw (leaf_stop ws start total t {is = is} refl not_mapped (entry_in ws start total t i h small ∙ present_no w k))
+          behind w e (λ z. stays (ap (address v) l ∙ z)) ∙ ap (λ (x : Result Leaf Refusal). as_translation (address v x)) (sym l)
+      by_flag h false k = rw (leaf_stop ws start total t {is = is} refl NotMapped (entry_in ws start total t i h small ∙ present_no w k))
 
       by-table : (x : Bool) → inside start total t ≡ x → through (mem (t * 2 ^ 12 + i * 2 ^ 3)) ≡ as_translation (address v (leaf ws start total t (i ∷ is)))
       by-table true h = ap through (holds.word t i h small) ∙ law w ∙ by_flag h (flag 0 w) refl
-      by-table false h = absurd (stays (ap (address v) (leaf_stop ws start total t refl outside (entry_out ws start total t i h))))
+      by-table false h = absurd (stays (ap (address v) (leaf_stop ws start total t refl TableOutside (entry_out ws start total t i h))))
 
   -- a page table, whose entries map pages
   page_table : (t : ℕ) → Same (through_pte v (mem (t * 2 ^ 12 + bits 20 12 v * 2 ^ 3))) (address v (leaf ws start total t (indices 1 v)))
@@ -94,28 +94,28 @@ module _ (mem : Memory) (ws : List ℕ) (start total v : ℕ) (holds : Holds mem
 module _ (ws : List ℕ) (start total v : ℕ) where
   -- a table outside, along a path
   abbrev Off : ℕ → List ℕ → Type 0
-  Off t is = (k : ℕ) × (s : ℕ) × (k < length is) × (reach ws start total t (take k is) ≡ Value s) × (inside start total s ≡ false)
+  Off t is = (k : ℕ) × (s : ℕ) × (k < length is) × (reach ws start total t (take k is) ≡ Ok s) × (inside start total s ≡ false)
 
   abbrev Leaves : ℕ → List ℕ → Type 0
-  Leaves t is = (address v (leaf ws start total t is) ≡ Stop outside) ↔ Off t is
+  Leaves t is = (address v (leaf ws start total t is) ≡ Err TableOutside) ↔ Off t is
 
   -- it is not the first table if that is inside
   off_past : (t i : ℕ) (is : List ℕ) → inside start total t ≡ true → Off t (i ∷ is)
-      → (k : ℕ) × (s : ℕ) × (k < length is) × (reach ws start total t (i ∷ take k is) ≡ Value s) × (inside start total s ≡ false)
+      → (k : ℕ) × (s : ℕ) × (k < length is) × (reach ws start total t (i ∷ take k is) ≡ Ok s) × (inside start total s ≡ false)
   off_past t i is h (zero, s, l, r, o) =
-      let e : Value t ≡ Value s = sym (reach_end ws start total t refl) ∙ r in
+      let e : ◌≡◌ {A = Result ℕ Refusal} (Ok t) (Ok s) = sym (reach_end ws start total t refl) ∙ r in
       let same : t ≡ s = cc in
       absurd (true≢false (sym h ∙ ap (inside start total) same ∙ o))
   off_past t i is h (suc k, s, l, r, o) = (k, s, omega arith, r, o)
 
   -- by the first entry, given the case that it is present
-  off_entry : (t i : ℕ) (is : List ℕ) → (inside start total t ≡ true → (w : ℕ) → entry_at ws start total t i ≡ Value w → Leaves t (i ∷ is)) → Leaves t (i ∷ is)
+  off_entry : (t i : ℕ) (is : List ℕ) → (inside start total t ≡ true → (w : ℕ) → entry_at ws start total t i ≡ Ok w → Leaves t (i ∷ is)) → Leaves t (i ∷ is)
   off_entry t i is there =
-      entry_outcomes ws start total t i (λ (w : Outcome). entry_at ws start total t i ≡ w → Leaves t (i ∷ is))
-      (λ h e. (λ _. (0, t, omega arith, reach_end ws start total t refl, h), λ _. ap (address v) (leaf_stop ws start total t refl outside e)))
+      entry_outcomes ws start total t i (λ (w : Result ℕ Refusal). entry_at ws start total t i ≡ w → Leaves t (i ∷ is))
+      (λ h e. (λ _. (0, t, omega arith, reach_end ws start total t refl, h), λ _. ap (address v) (leaf_stop ws start total t refl TableOutside e)))
       (λ h e. (
-        λ z. absurd (not_outside (sym (ap (address v) (leaf_stop ws start total t refl not_mapped e)) ∙ z)),
-        λ o. let q = off_past t i is h o in absurd (no_value (sym q.3 ∙ reach_stop ws start total t refl not_mapped e)),
+        λ z. absurd (not_outside (sym (ap (address v) (leaf_stop ws start total t refl NotMapped e)) ∙ z)),
+        λ o. let q = off_past t i is h o in absurd (no_value (sym q.3 ∙ reach_stop ws start total t refl NotMapped e)),
       ))
       (λ h. there h (get_or ws (place start t i) 0))
       refl
@@ -151,15 +151,15 @@ same_pages paging mem cr3 ws start total root v h stays a =
     let same : linear paging mem cr3 v ≡ as_translation (translate (paging_levels paging) ws start total root v) = agrees paging mem cr3 ws start total root v h stays in
     (λ e. same ∙ ap as_translation e, λ e. back (translate (paging_levels paging) ws start total root v) (sym same ∙ e))
   where
-    back : (w : Outcome) → as_translation w ≡ physical a → w ≡ Value a
-    back (Value b) e = let x : b ≡ a = cc in ap Value x
-    back (Stop n) e = let z : ◌≡◌ {A = ℕ} 0 1 = cc in absurd (omega arith)
+    back : (w : Result ℕ Refusal) → as_translation w ≡ physical a → w ≡ Ok a
+    back (Ok b) e = let x : b ≡ a = cc in ap Ok x
+    back (Err n) e = let z : ◌≡◌ {A = ℕ} 0 1 = cc in absurd (omega arith)
 
 pub same_absent : SameAbsent
 same_absent paging mem cr3 ws start total root v h stays =
     let same : linear paging mem cr3 v ≡ as_translation (translate (paging_levels paging) ws start total root v) = agrees paging mem cr3 ws start total root v h stays in (
       λ e. same ∙ ap as_translation e,
-      λ e. ⊎_elim (λ (x : (a : ℕ) × (translate (paging_levels paging) ws start total root v ≡ Value a)). absurd (mapped x.0 (sym (ap as_translation x.1) ∙ sym same ∙ e)))
+      λ e. ⊎_elim (λ (x : (a : ℕ) × (translate (paging_levels paging) ws start total root v ≡ Ok a)). absurd (mapped x.0 (sym (ap as_translation x.1) ∙ sym same ∙ e)))
           (⊎_elim (λ x. x) (λ x. absurd (stays x))) (three_outcomes paging ws start total root v h.whole),
     )
   where
@@ -170,7 +170,7 @@ pub off_board : OffBoard
 off_board paging ws start total root v h n = rw (walk_is paging ws start total root v h) (exactly paging n)
   where
     exactly : (paging : Paging) → NoHuge ws start total (paging_levels paging - 1) root
-        → (address v (leaf ws start total root (indices (paging_levels paging) v)) ≡ Stop outside)
-        ↔ ((k : ℕ) × (t : ℕ) × (k < paging_levels paging) × (reach ws start total root (take k (indices (paging_levels paging) v)) ≡ Value t) × (inside start total t ≡ false))
+        → (address v (leaf ws start total root (indices (paging_levels paging) v)) ≡ Err TableOutside)
+        ↔ ((k : ℕ) × (t : ℕ) × (k < paging_levels paging) × (reach ws start total root (take k (indices (paging_levels paging) v)) ≡ Ok t) × (inside start total t ≡ false))
     exactly four_level = off ws start total v (index 3 v) (indices 3 v) root
     exactly five_level = off ws start total v (index 4 v) (indices 4 v) root

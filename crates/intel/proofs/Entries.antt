@@ -7,11 +7,11 @@ use mathlib.Core.List.{List, [], ◌∷◌, Memᴰ}
 use mathlib.Core.Logic.{◌↔◌, ⊎_elim}
 use native.Mathlib.Omega.{arith}
 use lib.ListN.{length, get_or}
+use Rattle.std.specs.Prelude.{Ok, Err}
+use Rattle.answer.specs.declared.Refusal.TheVariants.{NotMapped, TableOutside}
 use Rattle.bits.specs.Bit.{flag}
-use Rattle.answer.specs.Numbers.{not_mapped, outside}
 use Rattle.entry.specs.Entry.{frame_of, index, indices}
 use Rattle.frame.specs.Frames.{inside, is_levels}
-use Rattle.answer.specs.declared.Outcome.TheVariants.{Value, Stop}
 use Rattle.paging.specs.Walk.{place, entry_at, judge, leaf, address, may_walk}
 use Rattle.paging.specs.Calls.{lent_walk, translate}
 use Rattle.paging.proofs.Walk.{no_value, present_yes, present_no, entry_out, entry_in, leaf_stop, leaf_on}
@@ -49,7 +49,7 @@ module _ (mem : Memory) (ws : List ℕ) (start total v : ℕ) (holds : Holds mem
 
   -- the walk of a path below table t leaves the board exactly where one of the addresses lies outside
   abbrev Leaves : ℕ → List ℕ → List ℕ → Type 0
-  Leaves t is rs = (address v (leaf ws start total t is) ≡ Stop outside) ↔ Off rs
+  Leaves t is rs = (address v (leaf ws start total t is) ≡ Err TableOutside) ↔ Off rs
 
   off_none : Off [] → ⊥
   off_none (a, m, o) = Memᴰ.not-nil m
@@ -64,7 +64,7 @@ module _ (mem : Memory) (ws : List ℕ) (start total v : ℕ) (holds : Holds mem
 
   -- At entry i of table t. `behind e` are the addresses that are read behind an entry e where it is present.
   step : (t i : ℕ) (is : List ℕ) (behind : ℕ → List ℕ) → i < 512
-      → ((e : ℕ) → entry_at ws start total t i ≡ Value e → (address v (judge is e (leaf ws start total (frame_of e) is)) ≡ Stop outside) ↔ Off (behind e))
+      → ((e : ℕ) → entry_at ws start total t i ≡ Ok e → (address v (judge is e (leaf ws start total (frame_of e) is)) ≡ Err TableOutside) ↔ Off (behind e))
       → Leaves t (i ∷ is) (at t i ∷ choose (p (mem (at t i))) (behind (mem (at t i))) [])
   step t i is behind small next = by-table (inside start total t) refl
     where
@@ -79,17 +79,17 @@ module _ (mem : Memory) (ws : List ℕ) (start total v : ℕ) (holds : Holds mem
 
       by_flag : inside start total t ≡ true → (x : Bool) → flag 0 w ≡ x → Leaves t (i ∷ is) (a ∷ choose x (behind w) [])
       by_flag h true k =
-          let e : entry_at ws start total t i ≡ Value w = entry_in ws start total t i h small ∙ present_yes w k in
+          let e : entry_at ws start total t i ≡ Ok w = entry_in ws start total t i h small ∙ present_yes w k in
           let l : address v (leaf ws start total t (i ∷ is)) ≡ address v (judge is w (leaf ws start total (frame_of w) is)) = ap (address v) (leaf_on ws start total t refl w e) in
           (λ z. off_behind ((next w e).0 (sym l ∙ z)), λ o. l ∙ (next w e).1 (off_past a _ (ap (inside start total) frame ∙ h) o))
       by_flag h false k =
-          let l = ap (address v) (leaf_stop ws start total t {is = is} refl not_mapped (entry_in ws start total t i h small ∙ present_no w k)) in
+          let l = ap (address v) (leaf_stop ws start total t {is = is} refl NotMapped (entry_in ws start total t i h small ∙ present_no w k)) in
           (λ z. absurd (not_outside (sym l ∙ z)), λ o. absurd (off_none (off_past a [] (ap (inside start total) frame ∙ h) o)))
 
       by-table : (x : Bool) → inside start total t ≡ x → Leaves t (i ∷ is) (a ∷ choose (p (mem a)) (behind (mem a)) [])
       by-table true h = rw (holds.word t i h small) (by_flag h (flag 0 w) refl)
       by-table false h =
-          (λ _. (a, Memᴰ.head refl, ap (inside start total) frame ∙ h), λ _. ap (address v) (leaf_stop ws start total t refl outside (entry_out ws start total t i h)))
+          (λ _. (a, Memᴰ.head refl, ap (inside start total) frame ∙ h), λ _. ap (address v) (leaf_stop ws start total t refl TableOutside (entry_out ws start total t i h)))
 
   -- a page table: nothing is read behind its entries
   page_table : (t : ℕ) → Leaves t (indices 1 v) (read_pte (at t (bits 20 12 v)))

@@ -10,10 +10,10 @@ use native.Mathlib.Omega.{arith}
 use lib.Dec.{eqb}
 use lib.ListN.{get_or, replicate}
 use borrow.Author.Tests.{eqb-true, eq-eqb, ne_eqb}
+use Rattle.std.specs.Prelude.{Ok, Result}
+use Rattle.answer.specs.declared.Refusal.{Refusal}
 use Rattle.bits.specs.Bit.{flag}
 use Rattle.entry.specs.Entry.{entry_of, huge_entry_of}
-use Rattle.answer.specs.declared.Outcome.{Outcome}
-use Rattle.answer.specs.declared.Outcome.TheVariants.{Value}
 use Rattle.paging.specs.Walk.{place, present, entry_at, leaf, may_walk}
 use Rattle.paging.specs.Calls.{lent_walk, translate}
 use Rattle.paging.specs.Working.{verdict_of, rows_below}
@@ -42,7 +42,7 @@ memory_holds ws start total = record {
 pub no_bit_7 : (ws : List ℕ) (start total up root : ℕ) → ((n : ℕ) → flag 7 (get_or ws n 0) ≡ false) → NoHuge ws start total up root
 no_bit_7 ws start total up root h = record {
   plain = λ is t i e _ _.
-      entry_outcomes ws start total t i (λ (w : Outcome). w ≡ Value e → flag 7 e ≡ false) (λ _ x. absurd (no_value (sym x))) (λ _ x. absurd (no_value (sym x)))
+      entry_outcomes ws start total t i (λ (w : Result ℕ Refusal). w ≡ Ok e → flag 7 e ≡ false) (λ _ x. absurd (no_value (sym x))) (λ _ x. absurd (no_value (sym x)))
       (λ _ x. let word : get_or ws (place start t i) 0 ≡ e = cc in subst (λ (n : ℕ). flag 7 n ≡ false) word (h (place start t i)));
 }
 

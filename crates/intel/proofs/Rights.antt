@@ -6,13 +6,12 @@ use mathlib.Core.List.{List, [], ◌∷◌, map}
 use native.Mathlib.Omega.{arith}
 use lib.Dec.{eqb}
 use lib.ListN.{length, get_or}
+use Rattle.std.specs.Prelude.{Ok, Err}
+use Rattle.answer.specs.declared.Refusal.TheVariants.{TableOutside}
 use Rattle.bits.specs.Bit.{both, flag}
 use Rattle.bits.proofs.Choice.{both_false}
-use Rattle.answer.specs.Numbers.{outside}
 use Rattle.entry.specs.Entry.{frame_of, index, indices}
 use Rattle.frame.specs.Frames.{inside}
-use Rattle.answer.specs.declared.Outcome.TheVariants.{Value, Stop}
-use Rattle.answer.specs.declared.FlagAnswer.TheVariants.{Flag}
 use Rattle.paging.specs.Walk.{place, entry_at, leaf, address, may_walk}
 use Rattle.paging.specs.Calls.{translate}
 use Rattle.paging.specs.Working.{rows_below}
@@ -70,7 +69,7 @@ module _ (access : Access) (mem : Memory) (ws : List ℕ) (start total v : ℕ) 
 
   -- the walk there stays in lent frames
   abbrev Stays : ℕ → List ℕ → Type 0
-  Stays t is = address v (leaf ws start total t is) ≡ Stop outside → ⊥
+  Stays t is = address v (leaf ws start total t is) ≡ Err TableOutside → ⊥
 
   -- .. so it begins in one
   lent : (t i : ℕ) (is : List ℕ) → Stays t (i ∷ is) → inside start total t ≡ true
@@ -78,7 +77,7 @@ module _ (access : Access) (mem : Memory) (ws : List ℕ) (start total v : ℕ) 
     where
       by : (x : Bool) → inside start total t ≡ x → inside start total t ≡ true
       by true h = h
-      by false h = absurd (stays (ap (address v) (leaf_stop ws start total t {is = is} refl outside (entry_out ws start total t i h))))
+      by false h = absurd (stays (ap (address v) (leaf_stop ws start total t {is = is} refl TableOutside (entry_out ws start total t i h))))
 
   -- the word at entry i of table t
   abbrev word : ℕ → ℕ → ℕ
@@ -87,7 +86,7 @@ module _ (access : Access) (mem : Memory) (ws : List ℕ) (start total v : ℕ) 
   -- At entry i of table t. `through e` is the manual's outcome from an entry e on, and `rest e` the addresses that are read behind it. `next` is the case of an entry
   -- that is present and permits the access.
   step : (through : ℕ → Translation) (rest : ℕ → List ℕ) (t i : ℕ) (is : List ℕ) → i < 512 → ((e : ℕ) → p e ≡ false → through e ≡ not_present)
-      → (flag 0 (word t i) ≡ true → entry_at ws start total t i ≡ Value (word t i) → user_entry (asks_write access) (word t i) ≡ true
+      → (flag 0 (word t i) ≡ true → entry_at ws start total t i ≡ Ok (word t i) → user_entry (asks_write access) (word t i) ≡ true
       → Ours t (i ∷ is) ≡ May (through (word t i)) (rest (word t i)))
       → Stays t (i ∷ is) → Ours t (i ∷ is) ≡ May (through (mem (at t i))) (at t i ∷ rest (mem (at t i)))
   step through rest t i is small none next stays = rw (holds.word t i h small) (by_flag (flag 0 w) refl)
@@ -166,24 +165,24 @@ pub user_agrees : UserAgrees
 unfolding user_access linear entries_read
 user_agrees access paging mem cr3 ws start total root v h stays =
     may_is (paging_levels paging) ws start total root v (asks_write access) (lent_is paging ws start total root h.whole)
-    ∙ ap Flag (rw h.form
+    ∙ ap Ok (rw h.form
     (first access mem ws start total v h.holds paging cr3 root h.base h.no_huge (λ z. stays (walk_is paging ws start total root v h.whole ∙ z))))
 
 -- a yes is one of a walk that comes to a page
 yes_stays : (access : Access) (paging : Paging) (ws : List ℕ) (start total root v : ℕ) → may_walk (length ws) start total root ≡ true
-    → user_may (paging_levels paging) ws start total root v (asks_write access) ≡ Flag true → translate (paging_levels paging) ws start total root v ≡ Stop outside → ⊥
+    → user_may (paging_levels paging) ws start total root v (asks_write access) ≡ Ok true → translate (paging_levels paging) ws start total root v ≡ Err TableOutside → ⊥
 yes_stays access paging ws start total root v h may z =
     let l = lent_is paging ws start total root h in
     let page = ((user_rule.read (paging_levels paging) ws start total root v l).0 (reads access may)).0 in
     no_value (sym (walk_is paging ws start total root v h ∙ ap (address v) page.1) ∙ z)
   where
-    reads : (a : Access) → user_may (paging_levels paging) ws start total root v (asks_write a) ≡ Flag true → user_may (paging_levels paging) ws start total root v false ≡ Flag true
+    reads : (a : Access) → user_may (paging_levels paging) ws start total root v (asks_write a) ≡ Ok true → user_may (paging_levels paging) ws start total root v false ≡ Ok true
     reads data_read e = e
     reads data_write e = ((user_rule.write (paging_levels paging) ws start total root v (lent_is paging ws start total root h)).0 e).0
 
 pub user_yes : UserYes
 user_yes access paging mem cr3 ws start total root v h may =
-    let same : Flag true ≡ Flag (is_permitted (user_access access paging mem cr3 v)) =
+    let same : Ok true ≡ Ok (is_permitted (user_access access paging mem cr3 v)) =
     sym may ∙ user_agrees access paging mem cr3 ws start total root v h (yes_stays access paging ws start total root v h.whole may) in
     only (user_access access paging mem cr3 v) cc
   where

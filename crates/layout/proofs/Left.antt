@@ -5,11 +5,11 @@ use mathlib.Core.Path.{◌≡◌, refl, ◌∙◌, ap, subst}
 use mathlib.Core.Bool.{Bool, true, false}
 use mathlib.Core.List.{List}
 use borrow.Author.Tests.{eqb-true}
+use Rattle.std.specs.Prelude.{Ok, Err, Result, ⊤}
+use Rattle.answer.specs.declared.Refusal.{Refusal}
 use Rattle.bits.specs.Bit.{unless, both}
 use Rattle.bits.proofs.Choice.{pick_cases}
 use Rattle.answer.specs.Numbers.{answer_line}
-use Rattle.answer.specs.declared.Answer.{Answer}
-use Rattle.answer.specs.declared.Answer.TheVariants.{Met, Refused}
 use Rattle.answer.specs.declared.Line.{Line}
 use Rattle.packed.proofs.RoundTrip.{Bytes}
 use Rattle.frame.specs.declared.Changed.{Changed}
@@ -40,23 +40,23 @@ pub met_line_lem : {ok : Bool} {r l : Line} → ok ≡ true → r ≡ l → r �
 met_line_lem h e = rw h e
 
 -- a refusal leaves the parts as they were where they do not fit, and where the call does
-pub unchanged_left : {P : Type 0} (leftovers : List ℕ) (ok : Bool) (p : P) (did : Left P) → (ok ≡ true → Unchanged leftovers p did) → Unchanged leftovers p (unless_fit ok p did)
+pub unchanged_left : {P : Type 0} (leftovers : List Refusal) (ok : Bool) (p : P) (did : Left P) → (ok ≡ true → Unchanged leftovers p did) → Unchanged leftovers p (unless_fit ok p did)
 unchanged_left {P} leftovers ok p did law = pick_cases (λ (d : Left P). Unchanged leftovers p d) ok did (left broken_line p) law (λ _ _. refl)
 
 -- the whole contract of a C function that writes: the one equation, and the clause of a refusal, by the law of its definition
-pub contract_met : {P : Type 0} (leftovers : List ℕ) {r : Line} {p q : P} {d : Left P} → left r q ≡ d → Unchanged leftovers p d
+pub contract_met : {P : Type 0} (leftovers : List Refusal) {r : Line} {p q : P} {d : Left P} → left r q ≡ d → Unchanged leftovers p d
     → (left r q ≡ d) × Unchanged leftovers p (left r q)
 contract_met {P} leftovers e h =
     (e, λ n. ap (λ (d : Left P). d.parts) e ∙ h (subst (λ (d : Left P). IsRefusal leftovers d.line.number) e n))
 
 -- .. where it has changed nothing
-pub contract_broken : {P : Type 0} (leftovers : List ℕ) {r : Line} {p : P} {d : Left P} → left r p ≡ d → (left r p ≡ d) × Unchanged leftovers p (left r p)
+pub contract_broken : {P : Type 0} (leftovers : List Refusal) {r : Line} {p : P} {d : Left P} → left r p ≡ d → (left r p ≡ d) × Unchanged leftovers p (left r p)
 contract_broken leftovers e = (e, λ _. refl)
 
 -- the line of a call that frees, beside its tally
-pub key_line_lem : (a : Answer) (t : Tally) → key_line (tally_line a t) ≡ answer_line a
-key_line_lem Met t = refl
-key_line_lem (Refused n) t = refl
+pub key_line_lem : (a : Result ⊤ Refusal) (t : Tally) → key_line (tally_line a t) ≡ answer_line a
+key_line_lem (Ok tt) t = refl
+key_line_lem (Err n) t = refl
 
 -- ---- the frame record
 
@@ -86,7 +86,7 @@ module _ (call : Memory → Out) (words fields bits : List ℕ) where
       let bs = y ∙ ap (λ (d : Out). d.mem.frames.bits) same in
       met_left lent h (λ j. left (l j) (record { words = ws j; fields = fs j; marks = bs j }))
 
-  pub memory_unchanged : (leftovers : List ℕ) → Bytes fields → ((m : Memory) → IsRefusal leftovers (plain_line (call m).walked).number → (call m).mem ≡ m)
+  pub memory_unchanged : (leftovers : List Refusal) → Bytes fields → ((m : Memory) → IsRefusal leftovers (plain_line (call m).walked).number → (call m).mem ≡ m)
       → Unchanged leftovers lent (on_memory call lent)
   unfolding on_memory
   memory_unchanged leftovers b law =

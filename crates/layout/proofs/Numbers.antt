@@ -4,14 +4,14 @@ use mathlib.Core.Path.{◌≡◌, refl, subst}
 use mathlib.Core.Bool.{Bool}
 use mathlib.Core.List.{List, [], ◌∷◌}
 use lib.ListN.{get_or}
+use Rattle.std.specs.Prelude.{Ok, Err, Result}
+use Rattle.answer.specs.declared.Refusal.{Refusal}
+use Rattle.address.specs.declared.Frame.{Frame}
 use Rattle.bits.specs.Bit.{flag}
 use Rattle.bits.proofs.Choice.{pick_cases}
-use Rattle.address.specs.declared.FrameAnswer.{FrameAnswer}
 use Rattle.entry.specs.Entry.{entry_of}
 use Rattle.frame.specs.Frames.{FramesDid, inside, with_mark}
 use Rattle.frame.proofs.Laws.{take_cases}
-use Rattle.answer.specs.declared.Outcome.{Outcome}
-use Rattle.answer.specs.declared.Outcome.TheVariants.{Value, Stop}
 use Rattle.paging.specs.Walk.{place}
 use Rattle.paging.specs.Map.{Memory, memory, start_frame, total_of, Out, out, go_on, zero_frame, enter, make, Left, put_entry, map_entry}
 use Rattle.paging.specs.Calls.{map_at}
@@ -22,7 +22,7 @@ use Rattle.layout.specs.Left.{IsRefusal, table_leftovers, region_leftovers, seco
 use Rattle.layout.specs.Memory.{plain_line}
 
 -- it comes somewhere, or stops with a number that is listed
-abbrev pub Listed : List ℕ → Outcome → Type 0
+abbrev pub Listed : List Refusal → Result ℕ Refusal → Type 0
 Listed leftovers w = IsRefusal leftovers (plain_line w).number → ⊥
 
 -- ---- tables: 11 and 19
@@ -52,16 +52,16 @@ map_listed u m root path i e =
 
 -- ---- pages on fresh frames: 11 and 13
 
-failed_listed : (w : Outcome) → Listed region_leftovers (or_failed w)
-failed_listed (Value x) h = h.1.1 refl
-failed_listed (Stop n) h = h.1.0 refl
+failed_listed : (w : Result ℕ Refusal) → Listed region_leftovers (or_failed w)
+failed_listed (Ok x) h = h.1.1 refl
+failed_listed (Err n) h = h.1.0 refl
 
 module _ (up : ℕ) (w u : Bool) (root : ℕ) where
   fresh_listed : (m : Memory) (v : ℕ) → Listed region_leftovers (map_fresh up w u m root v).walked
   unfolding map_fresh fresh_frame
   fresh_listed m v =
       take_cases m.frames
-      (λ (d : FramesDid FrameAnswer). Listed region_leftovers (go_on (zeroed m d.answer d.frames) (λ f m'.
+      (λ (d : FramesDid (Result Frame Refusal)). Listed region_leftovers (go_on (zeroed m d.answer d.frames) (λ f m'.
       let r = map_at up up u m' root v (entry_of (f * 2 ^ 12) w u) in out (or_failed r.walked) r.mem)).walked)
       (λ j _ _ _.
       failed_listed
@@ -73,10 +73,10 @@ module _ (up : ℕ) (w u : Bool) (root : ℕ) where
   pages_listed (suc n) m v k =
       by (map_fresh up w u m root v).walked refl (pages_listed n (map_fresh up w u m root v).mem (v + 4096) (suc k))
     where
-      came : {x : Outcome} → (map_fresh up w u m root v).walked ≡ x → map_fresh up w u m root v ≡ out x (map_fresh up w u m root v).mem
+      came : {x : Result ℕ Refusal} → (map_fresh up w u m root v).walked ≡ x → map_fresh up w u m root v ≡ out x (map_fresh up w u m root v).mem
       came e = λ j. out (e j) (map_fresh up w u m root v).mem
 
-      by : (x : Outcome) → (map_fresh up w u m root v).walked ≡ x → Listed region_leftovers (map_pages up w u (map_fresh up w u m root v).mem root (v + 4096) (suc k) n).walked
+      by : (x : Result ℕ Refusal) → (map_fresh up w u m root v).walked ≡ x → Listed region_leftovers (map_pages up w u (map_fresh up w u m root v).mem root (v + 4096) (suc k) n).walked
           → Listed region_leftovers (map_pages up w u m root v k (suc n)).walked
-      by (Value x) e rest = rw (map_pages_on up w u m root v k n _ x (came e)) rest
-      by (Stop a) e rest = rw (map_pages_stop up w u m root v k n _ a (came e)) (subst (Listed region_leftovers) e (fresh_listed m v))
+      by (Ok x) e rest = rw (map_pages_on up w u m root v k n _ x (came e)) rest
+      by (Err a) e rest = rw (map_pages_stop up w u m root v k n _ a (came e)) (subst (Listed region_leftovers) e (fresh_listed m v))

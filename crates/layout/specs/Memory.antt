@@ -1,16 +1,17 @@
 -- The parts that calls on the board's memory are lent, and what such a call leaves of them.
+use Rattle.std.specs.Prelude.{Result}
+use Rattle.answer.specs.declared.Refusal.{Refusal}
 use Rattle.std.specs.Prelude.{ℕ, List}
 use Rattle.answer.specs.Numbers.{answer_line}
 use Rattle.answer.specs.Outcomes.{as_answer}
 use Rattle.answer.specs.declared.Line.{Line}
 use Rattle.bitmap.specs.Bitmap.{marks_in}
-use Rattle.answer.specs.declared.Outcome.{Outcome}
 use Rattle.paging.specs.Map.{Memory, memory, Out}
 use Rattle.layout.specs.Parts.{frames_in, fields_fit, fields_out}
 use Rattle.layout.specs.Left.{Left, left, unless_fit}
 
 -- the number and value of a walk's answer, for a call that hands back nothing
-abbrev pub plain_line : Outcome → Line
+abbrev pub plain_line : Result ℕ Refusal → Line
 plain_line a = answer_line (as_answer a)
 
 -- the words, the bytes of the frame record, and the words that its bitmap's 1024 bytes stand for

@@ -1,35 +1,27 @@
 // The frame record, taken out of packed bytes and put back.
+ghost use Rattle.answer.specs.declared.Refusal.TheVariants.{BrokenRecord};
 ghost use Rattle.std.specs.Prelude.{◌≡◌, length};
-ghost use Rattle.answer.specs.Numbers.{broken_record, answer_line};
-ghost use Rattle.answer.specs.declared.Answer.TheVariants.{Refused};
+ghost use Rattle.answer.specs.Numbers.{answer_line};
 ghost use Rattle.frame.specs.Found.{tally_line, none_found};
 ghost use Rattle.layout.specs.Parts.{fields_size, fields_in, fields_out};
 
-use answer::Line;
-use frame::{FrameAllocator, TallyLine};
+use answer::{Line, Refusal};
+use frame::{FrameAllocator, TallyLine, tallies};
 
 pub const FIELDS_SIZE: usize = 32;
 
 // What is told of parts that stand for no record.
 pub fn broken() -> Line
-    ensures { result ≡ answer_line (Refused broken_record) }
+    ensures { result ≡ answer_line (Err BrokenRecord) }
 {
-    Line {
-        number: answer::BROKEN_RECORD,
-        value: 0,
-    }
+    answer::line_of::<()>(Err(Refusal::BrokenRecord))
 }
 
 // .. by a call that frees.
 pub fn broken_tally() -> TallyLine
-    ensures { result ≡ tally_line (Refused broken_record) none_found }
+    ensures { result ≡ tally_line (Err BrokenRecord) none_found }
 {
-    TallyLine {
-        number: answer::BROKEN_RECORD,
-        freed: 0,
-        already_free: 0,
-        not_here: 0,
-    }
+    tallies::tally_line(Err(Refusal::BrokenRecord), tallies::none())
 }
 
 pub fn get_fields(fields: &[u8]) -> FrameAllocator

@@ -6,17 +6,16 @@ use mathlib.Core.Bool.{Bool, true, false}
 use mathlib.Core.List.{List}
 use native.Mathlib.Omega.{arith}
 use lib.ListN.{get_or, set, take, length-take}
-use Rattle.answer.specs.Numbers.{already_mapped, not_mapped}
+use Rattle.std.specs.Prelude.{Ok, Err, Result, ⊤}
+use Rattle.answer.specs.declared.Refusal.{Refusal}
+use Rattle.answer.specs.declared.Refusal.TheVariants.{AlreadyMapped, NotMapped}
 use Rattle.answer.specs.Outcomes.{as_answer}
-use Rattle.answer.specs.declared.Answer.{Answer}
 use Rattle.address.specs.Address.{aligned}
 use Rattle.bits.specs.Bit.{flag}
 use Rattle.entry.specs.Entry.{entry_of, huge_entry_of, addr_of, frame_of, index, indices}
 use Rattle.entry.proofs.Entry.{index_behind}
 use Rattle.frame.specs.declared.Changed.{Changed}
 use Rattle.frame.specs.Frames.{inside}
-use Rattle.answer.specs.declared.Outcome.{Outcome}
-use Rattle.answer.specs.declared.Outcome.TheVariants.{Value, Stop}
 use Rattle.paging.specs.declared.HugePageSize.{HugePageSize}
 use Rattle.paging.specs.Walk.{place}
 use Rattle.paging.specs.Map.{Memory, start_frame, total_of, Out, out, make, Left, put_entry, take_leaf, with_words, RoomToTake}
@@ -35,38 +34,38 @@ module _ (start t i : ℕ) {p : ℕ} (q : p ≡ place start t i) (ws : List ℕ)
   word : {b : Bool} → flag 0 (get_or ws p 0) ≡ b → flag 0 (get_or ws (place start t i) 0) ≡ b
   word {b} k = subst (λ (x : ℕ). flag 0 (get_or ws x 0) ≡ b) q k
 
-  pub put_there : (e : ℕ) → flag 0 (get_or ws p 0) ≡ true → let l = put_entry ws start total t i e in (Stop already_mapped ≡ l.walked) × (ws ≡ l.words)
+  pub put_there : (e : ℕ) → flag 0 (get_or ws p 0) ≡ true → let l = put_entry ws start total t i e in (Err AlreadyMapped ≡ l.walked) × (ws ≡ l.words)
   put_there e k = told_left (put_full ws start total t i e h (word k))
 
-  pub put_new : (e : ℕ) → flag 0 (get_or ws p 0) ≡ false → let l = put_entry ws start total t i e in (Value 0 ≡ l.walked) × (set ws p e ≡ l.words)
+  pub put_new : (e : ℕ) → flag 0 (get_or ws p 0) ≡ false → let l = put_entry ws start total t i e in (Ok 0 ≡ l.walked) × (set ws p e ≡ l.words)
   put_new e k = let l = told_left (put_free ws start total t i e h (word k)) in (l.0, ap (λ (x : ℕ). set ws x e) q ∙ l.1)
 
-  pub take_none : flag 0 (get_or ws p 0) ≡ false → let l = take_leaf ws start total t i in (Stop not_mapped ≡ l.walked) × (ws ≡ l.words)
+  pub take_none : flag 0 (get_or ws p 0) ≡ false → let l = take_leaf ws start total t i in (Err NotMapped ≡ l.walked) × (ws ≡ l.words)
   take_none k = told_left (take_leaf_none ws start total t i h (word k))
 
   pub take_there : {a : ℕ} → a ≡ addr_of (get_or ws p 0) → flag 0 (get_or ws p 0) ≡ true
-      → let l = take_leaf ws start total t i in (Value (a / 4096) ≡ l.walked) × (set ws p 0 ≡ l.words)
+      → let l = take_leaf ws start total t i in (Ok (a / 4096) ≡ l.walked) × (set ws p 0 ≡ l.words)
   take_there g k =
       let l = told_left (take_leaf_there ws start total t i h (word k)) in
-      (ap Value (shifted (get_or ws p 0) g ∙ ap (λ (x : ℕ). frame_of (get_or ws x 0)) q) ∙ l.0, ap (λ (x : ℕ). set ws x 0) q ∙ l.1)
+      (ap Ok (shifted (get_or ws p 0) g ∙ ap (λ (x : ℕ). frame_of (get_or ws x 0)) q) ∙ l.0, ap (λ (x : ℕ). set ws x 0) q ∙ l.1)
 
 -- after `make_tables` along k indices, at most four: the room that is left
-pub made_left : (u : Bool) (m : Memory) (t : ℕ) (is : List ℕ) (k : ℕ) {w : Outcome} {m' : Memory} → out w m' ≡ make u m t (take k is) → k ≤ 4 → RoomToTake m 4 → RoomToTake m' 0
+pub made_left : (u : Bool) (m : Memory) (t : ℕ) (is : List ℕ) (k : ℕ) {w : Result ℕ Refusal} {m' : Memory} → out w m' ≡ make u m t (take k is) → k ≤ 4 → RoomToTake m 4 → RoomToTake m' 0
 made_left u m t is k e h r = made_roomy u m t (take k is) e 0 (roomy_less _ (omega (arith, length-take k is)) r)
 
 -- after `put_entry` and `as_answer`: the outcome part by part
-pub put_told : {o : Out} (m : Memory) (l : Left) → o ≡ with_words m l → {a : Answer} {w : Outcome} {ws : List ℕ} → a ≡ as_answer w → w ≡ l.walked → ws ≡ l.words
+pub put_told : {o : Out} (m : Memory) (l : Left) → o ≡ with_words m l → {a : Result ⊤ Refusal} {w : Result ℕ Refusal} {ws : List ℕ} → a ≡ as_answer w → w ≡ l.walked → ws ≡ l.words
     → (record { answer = a; frames = m.frames.fa } ≡ as_changed o) × ((ws ≡ o.mem.words) × (m.frames.bits ≡ o.mem.frames.bits))
 put_told m l e x y z =
     let t = told e in
     ((λ j. record { answer = (x ∙ ap as_answer y) j; frames = m.frames.fa }) ∙ t.0, (z ∙ t.1.0, t.1.1))
 
 -- after the tables are made, with the index that `page_index` gives
-module _ (up k : ℕ) (u : Bool) (m : Memory) (root v e : ℕ) (m' : Memory) {w : Outcome} (d : out w m' ≡ make u m root (take k (indices (suc up) v))) where
-  pub map_at_stop : (n : ℕ) → w ≡ Stop n → map_at up k u m root v e ≡ out (Stop n) m'
+module _ (up k : ℕ) (u : Bool) (m : Memory) (root v e : ℕ) (m' : Memory) {w : Result ℕ Refusal} (d : out w m' ≡ make u m root (take k (indices (suc up) v))) where
+  pub map_at_stop : (n : Refusal) → w ≡ Err n → map_at up k u m root v e ≡ out (Err n) m'
   map_at_stop n h = map_entry_stop u m root _ _ e n m' (stepped d h)
 
-  pub map_at_put : k ≤ up → (t : ℕ) → w ≡ Value t → {i : ℕ} → i ≡ index (up - k) v → {a : Answer} {s : Outcome} {ws : List ℕ} → a ≡ as_answer s
+  pub map_at_put : k ≤ up → (t : ℕ) → w ≡ Ok t → {i : ℕ} → i ≡ index (up - k) v → {a : Result ⊤ Refusal} {s : Result ℕ Refusal} {ws : List ℕ} → a ≡ as_answer s
       → let l = put_entry m'.words (start_frame m') (total_of m') t i e in
       (s ≡ l.walked) × (ws ≡ l.words) → Told (record { answer = a; frames = m'.frames.fa }) ws m'.frames.bits (map_at up k u m root v e)
   map_at_put le t h {i} g x y =

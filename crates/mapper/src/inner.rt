@@ -9,36 +9,43 @@ ghost use Rattle.paging.specs.Kept.{lent_memory};
 ghost use Rattle.answer.specs.Outcomes.{as_answer};
 
 use address::{Frame, VirtAddr};
-use answer::{Answer, Outcome};
+use answer::Refusal;
 use entry::paging::PageTableEntry;
 use frame::{Changed, FrameAllocator, Marks};
 use paging::HugePageSize;
 
 // The word e at entry i of table t.
-pub fn put_entry(words: &mut [u64], start: u64, total: u64, t: u64, i: usize, e: u64) -> Outcome
+pub fn put_entry(
+    words: &mut [u64],
+    start: u64,
+    total: u64,
+    t: u64,
+    i: usize,
+    e: u64,
+) -> Result<u64, Refusal>
     requires words_lent { WordsLent words.old start total }
     requires i_bound { i < 512 }
     ensures value { result ≡ (put_entry words.old start total t i e).walked }
     ensures words_after { words.new ≡ (put_entry words.old start total t i e).words }
 {
     if !frame::inner::is_inside(start, total, t) {
-        return Outcome::Stop(answer::OUTSIDE);
+        return Err(Refusal::TableOutside);
     }
     let at = walk::entry_place(start, t, i);
     if PageTableEntry(words[at]).is_present() {
-        return Outcome::Stop(answer::ALREADY_MAPPED);
+        return Err(Refusal::AlreadyMapped);
     }
     words[at] = e;
-    Outcome::Value(0)
+    Ok(0)
 }
 
 // Where a step came, as an answer.
-pub fn as_answer(walked: Outcome) -> Answer
+pub fn as_answer(walked: Result<u64, Refusal>) -> Result<(), Refusal>
     ensures { result ≡ as_answer walked }
 {
     match walked {
-        Outcome::Value(_) => Answer::Met,
-        Outcome::Stop(n) => Answer::Refused(n),
+        Ok(_) => Ok(()),
+        Err(n) => Err(n),
     }
 }
 
@@ -74,15 +81,13 @@ pub fn map_entry(
     ensures bitmap_after { marks_in bitmap.new
         ≡ (map_at up k user (lent_memory words.old bitmap.old frames) root.0 virt.0 e).mem.frames.bits }
 {
-    let made = tables::make_tables(words, bitmap, frames, up, root, virt, k, user);
-    let walked = made.walked;
-    let left = made.frames;
-    match walked {
-        Outcome::Stop(n) => Changed {
-            answer: Answer::Refused(n),
+    let mut left = frames;
+    match tables::make_tables(words, bitmap, &mut left, up, root, virt, k, user) {
+        Err(n) => Changed {
+            answer: Err(n),
             frames: left,
         },
-        Outcome::Value(t) => {
+        Ok(t) => {
             let i = entry::page_index(virt, up - k);
             let put = put_entry(words, left.start, left.total, t, i, e);
             Changed {
@@ -94,22 +99,28 @@ pub fn map_entry(
 }
 
 // The leaf at entry i of table t, cleared; it comes to the frame that the leaf named.
-pub fn take_leaf(words: &mut [u64], start: u64, total: u64, t: u64, i: usize) -> Outcome
+pub fn take_leaf(
+    words: &mut [u64],
+    start: u64,
+    total: u64,
+    t: u64,
+    i: usize,
+) -> Result<u64, Refusal>
     requires words_lent { WordsLent words.old start total }
     requires i_bound { i < 512 }
     ensures value { result ≡ (take_leaf words.old start total t i).walked }
     ensures words_after { words.new ≡ (take_leaf words.old start total t i).words }
 {
     if !frame::inner::is_inside(start, total, t) {
-        return Outcome::Stop(answer::OUTSIDE);
+        return Err(Refusal::TableOutside);
     }
     let at = walk::entry_place(start, t, i);
     let e = words[at];
     if !PageTableEntry(e).is_present() {
-        return Outcome::Stop(answer::NOT_MAPPED);
+        return Err(Refusal::NotMapped);
     }
     words[at] = 0;
-    Outcome::Value(PageTableEntry(e).addr().0 >> 12)
+    Ok(PageTableEntry(e).addr().0 >> 12)
 }
 
 // A page's leaf below `up` levels, cleared.
@@ -120,14 +131,12 @@ pub fn unmap_leaf(
     up: u64,
     root: Frame,
     virt: VirtAddr,
-) -> Outcome
+) -> Result<u64, Refusal>
     requires words_lent { WordsLent words.old start total }
     requires up_le_most_above { up ≤ most_above }
     ensures value { result ≡ (unmap_at up words.old start total root.0 virt.0).walked }
     ensures words_after { words.new ≡ (unmap_at up words.old start total root.0 virt.0).words }
 {
-    match walk::find_table(words, start, total, up, root, virt) {
-        Outcome::Stop(n) => Outcome::Stop(n),
-        Outcome::Value(t) => take_leaf(words, start, total, t, entry::page_index(virt, 0)),
-    }
+    let t = walk::find_table(words, start, total, up, root, virt)?;
+    take_leaf(words, start, total, t, entry::page_index(virt, 0))
 }

@@ -9,8 +9,8 @@ ghost use Rattle.paging.specs.Calls.{as_changed, whole, map_page_of, map_huge_of
 ghost use Rattle.paging.specs.Kept.{lent_memory};
 ghost use Rattle.address.specs.Address.{as_frame};
 
-use address::{Frame, FrameAnswer, PhysAddr, VirtAddr};
-use answer::{Answer, Outcome};
+use address::{Frame, PhysAddr, VirtAddr};
+use answer::Refusal;
 use entry::paging::PageTableEntry;
 use frame::{Changed, FrameAllocator, Marks};
 use paging::HugePageSize;
@@ -43,7 +43,7 @@ pub fn map_page(
 {
     if !is_whole(words, bitmap, frames, root) {
         return Changed {
-            answer: Answer::Refused(answer::BROKEN_RECORD),
+            answer: Err(Refusal::BrokenRecord),
             frames,
         };
     }
@@ -72,20 +72,20 @@ pub fn map_huge_page(
 {
     if !is_whole(words, bitmap, frames, root) {
         return Changed {
-            answer: Answer::Refused(answer::BROKEN_RECORD),
+            answer: Err(Refusal::BrokenRecord),
             frames,
         };
     }
     let align = size.alignment();
     if !virt.is_aligned(align) {
         return Changed {
-            answer: Answer::Refused(answer::HUGE_UNALIGNED),
+            answer: Err(Refusal::HugeUnaligned),
             frames,
         };
     }
     if !phys.is_aligned(align) {
         return Changed {
-            answer: Answer::Refused(answer::HUGE_UNALIGNED),
+            answer: Err(Refusal::HugeUnaligned),
             frames,
         };
     }
@@ -102,15 +102,12 @@ pub fn unmap_page(
     levels: u64,
     root: Frame,
     virt: VirtAddr,
-) -> FrameAnswer
+) -> Result<Frame, Refusal>
     ensures value { result ≡ as_frame (unmap_page levels words.old start total root.0 virt.0).walked }
     ensures words_after { words.new ≡ (unmap_page levels words.old start total root.0 virt.0).words }
 {
     if !walk::may_walk(words.len(), start, total, levels, root) {
-        return FrameAnswer::NoFrame(answer::BROKEN_RECORD);
+        return Err(Refusal::BrokenRecord);
     }
-    match inner::unmap_leaf(words, start, total, levels - 1, root, virt) {
-        Outcome::Value(f) => FrameAnswer::AtFrame(Frame(f)),
-        Outcome::Stop(n) => FrameAnswer::NoFrame(n),
-    }
+    Ok(Frame(inner::unmap_leaf(words, start, total, levels - 1, root, virt)?))
 }

@@ -1,20 +1,22 @@
 -- A region r in its place k: over the one with its start, with another prot, or put in there.
 use Prim.Native.Nat.{ℕ, ◌<◌, ◌≤◌}
-use mathlib.Core.Path.{◌≡◌, sym, ◌∙◌, ap}
-use mathlib.Core.Bool.{true, false, true≢false}
+use mathlib.Core.Path.{◌≡◌, refl, sym, ◌∙◌, ap}
+use mathlib.Core.Bool.{Bool, true, false, true≢false}
 use mathlib.Core.List.{List}
 use mathlib.Core.Logic.{◌⊎◌, ⊎_elim}
 use native.Mathlib.Omega.{arith}
 use lib.IntN.{ℤ}
 use lib.ListN.{length, get_or, set}
 use lib.Seq.{get_or-take, set_split}
+use Rattle.std.specs.Prelude.{Option, Some, None}
+use Rattle.bits.specs.Bit.{pick}
 use Rattle.slots.specs.Slots.{Slots, slotted, listed, store}
 use Rattle.slots.specs.Shifts.{put_in}
 use Rattle.slots.specs.Sorted.{place_of}
-use Rattle.slots.proofs.Sorted.{place_le, place_under, insert_new, insert_there, place_behind, place_until}
+use Rattle.slots.proofs.Sorted.{place_le, place_under, insert_new, insert_there}
 use Rattle.slots.proofs.Stored.{stored_over}
 use Rattle.mappings.specs.declared.MappedRegion.{MappedRegion}
-use Rattle.mappings.specs.Regions.{mapped_region, no_mapped_region, start_key, starts, insert, with_prot}
+use Rattle.mappings.specs.Regions.{mapped_region, no_mapped_region, start_key, starts, holds, found_sized, insert, with_prot}
 use Rattle.mappings.specs.Packed.{mmap_in, sound_list}
 use Rattle.mappings.proofs.Stores.{slots_long}
 use Rattle.mappings.proofs.Rising.{prot_there}
@@ -30,17 +32,6 @@ module _ (bs : List ℕ) (sound : sound_list bs ≡ true) (a k : ℕ) (e : k ≡
   -- where none starts at a there is room for one more
   pub place_room : starts a (listed (mmap_in bs)) ≡ false → (length (listed (mmap_in bs)) < 256) ⊎ (starts a (listed (mmap_in bs)) ≡ true) → (mmap_in bs).count < 256
   place_room h = ⊎_elim (λ x. omega (arith, listed_long bs sound)) (λ x. absurd (true≢false (sym x ∙ h)))
-
--- a start's place beside slot m
-module _ (bs : List ℕ) (sound : sound_list bs ≡ true) (a m : ℕ) (h : m < (mmap_in bs).count) {r : MappedRegion} (e : r ≡ get_or (mmap_in bs).slots m no_mapped_region) where
-  there : (get_or (listed (mmap_in bs)) m no_mapped_region).start ≡ r.start
-  there = ap (λ (x : MappedRegion). x.start) (get_or-take (mmap_in bs).count (mmap_in bs).slots m no_mapped_region h ∙ sym e)
-
-  pub place_after : r.start < a → m < place_of start_key a (listed (mmap_in bs))
-  place_after k = place_behind start_key a no_mapped_region 0 m (listed (mmap_in bs)) (sound_rising bs sound).0 (omega (arith, listed_long bs sound)) (omega (arith, there))
-
-  pub place_before : a ≤ r.start → place_of start_key a (listed (mmap_in bs)) ≤ m
-  place_before k = place_until start_key a no_mapped_region m (listed (mmap_in bs)) (omega (arith, listed_long bs sound)) (omega (arith, there))
 
 module _ (bs : List ℕ) (sound : sound_list bs ≡ true) (r : MappedRegion) (k : ℕ) (e : k ≡ place_of start_key r.start (listed (mmap_in bs))) where
   abbrev l : List MappedRegion
@@ -75,3 +66,29 @@ module _ (bs : List ℕ) (sound : sound_list bs ≡ true) (a k : ℕ) (e : k ≡
       ((λ j. set l k (mapped_region a (there j).size (w j) ((g ∙ ap (λ (x : MappedRegion). x.flags) there) j)))
       ∙ (λ j. set l (e j) (mapped_region a (get_or l (e j) no_mapped_region).size prot (get_or l (e j) no_mapped_region).flags))
       ∙ sym (prot_there a prot 0 l (sound_rising bs sound) h))
+
+-- ---- what an answer of `found_sized` tells
+
+abbrev pub is_there : Option ℕ → Bool
+is_there (Some k) = true
+is_there None = false
+
+abbrev pub place_told : Option ℕ → ℕ
+place_told (Some k) = k
+place_told None = 0
+
+module _ (a n : ℕ) (l : List MappedRegion) (r : Option ℕ) (e : r ≡ found_sized a n l) where
+  told : (b : Bool) → holds a n l ≡ b → r ≡ pick b (Some (place_of start_key a l)) None
+  told b h = e ∙ ap (λ (x : Bool). pick x (Some (place_of start_key a l)) None) h
+
+  -- whether the region at a has n bytes
+  pub sized_tells : holds a n l ≡ is_there r
+  sized_tells = by (holds a n l) refl
+    where
+      by : (b : Bool) → holds a n l ≡ b → holds a n l ≡ is_there r
+      by true h = h ∙ sym (ap is_there (told true h))
+      by false h = h ∙ sym (ap is_there (told false h))
+
+  -- .. and its place
+  pub sized_place : holds a n l ≡ true → place_told r ≡ place_of start_key a l
+  sized_place h = ap place_told (told true h)

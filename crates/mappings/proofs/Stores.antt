@@ -2,12 +2,11 @@
 use Prim.Native.Nat.{ℕ, zero, suc, ◌+◌, ◌*◌, ◌<◌, ◌≤◌, ◌^◌}
 use mathlib.Core.Path.{◌≡◌, refl, sym, ◌∙◌, ap, subst}
 use mathlib.Core.Bool.{true}
-use mathlib.Core.List.{List, [], ◌∷◌, ◌++◌, append_assoc, append-nil}
+use mathlib.Core.List.{List, [], ◌∷◌, ◌++◌, append_assoc}
 use native.Mathlib.Omega.{arith}
 use native.Mathlib.Decide.{dec_lt}
-use native.Mathlib.Numerals.{add-one}
-use lib.ListN.{length, drop, get_or, set, length-append, length-drop, length-set, get_or-eq_default, replicate, length-replicate, replicate-append-replicate, drop_of_length-le}
-use lib.Seq.{drop-drop, drop-cons, set_at, append_snoc, sets}
+use lib.ListN.{length, drop, get_or, set, length-append, length-drop, length-set, get_or-eq_default, replicate, length-replicate}
+use lib.Seq.{drop-drop, sets}
 use mir.Facts.{sfits_to_z, sfits_lit}
 use Rattle.packed.specs.Words.{number, bytes}
 use Rattle.packed.specs.Records.{packed}
@@ -17,7 +16,8 @@ use Rattle.packed.proofs.Stores.{further, triple, record_at, sets_behind, sets_h
 use Rattle.packed.proofs.RoundTrip.{Bytes, number_small, bytes_behind}
 use Rattle.slots.specs.Slots.{Slots, slotted}
 use Rattle.mappings.specs.declared.MappedRegion.{MappedRegion}
-use Rattle.mappings.specs.Regions.{no_mapped_region}
+use Rattle.slots.proofs.Filled.{zero_at}
+use Rattle.mappings.specs.Regions.{no_mapped_region, empty_slots}
 use Rattle.mappings.specs.Packed.{mapped_in, mapped_out, mmap_in, next_in, mmap_out, mmap_fit, MmapStands}
 use Rattle.mappings.proofs.RoundTrip.{half_fits, mapped_back, fit_long, mmap_back, MappedFits, length_mapped, mmap_kept, next_kept, mmap_fit_out}
 
@@ -130,20 +130,17 @@ module _ (bs : List ℕ) (fit : mmap_fit bs ≡ true) (b : Bytes bs) where
     pub next_in_lem : (x : ℕ) → x < 2 ^ 64 → zs ≡ sets bs 8 (bytes 8 x) → MmapStands zs old x
     next_in_lem x h z = stands old x (number_small bs b) h (slots_long bs) slot_fits (z ∙ packed_again 8 (bytes 8 x) ∙ out_next old (next_in bs) x)
 
--- ---- zero slots
+-- ---- zero bytes: no region stands
 
-pub put_zero : (s t : Slots MappedRegion) (i : ℕ) (r : MappedRegion) → r ≡ no_mapped_region → t ≡ slotted (set s.slots i r) s.count → t ≡ slotted (set s.slots i no_mapped_region) s.count
-put_zero s t i r e z = z ∙ ap (λ (x : MappedRegion). slotted (set s.slots i x) s.count) e
+zeros_out : replicate 6160 0 ≡ mmap_out empty_slots 0
+unfolding packed bytes
+zeros_out = refl
 
--- .. one after the other
+none_fits : MappedFits no_mapped_region
+none_fits = (omega arith, omega arith, sfits_lit tt, sfits_lit tt)
 
-module _ {A : Type 0} (d : A) (l : List A) where
-  pub cleared_on : (i : ℕ) → i < length l → {m : List A} → m ≡ replicate i d ++ drop i l → set m i d ≡ replicate (i + 1) d ++ drop (i + 1) l
-  cleared_on i h e =
-      rw (e, drop-cons l i d h, set_at (replicate i d) (get_or l i d) (drop (suc i) l) d i (length-replicate i d), add-one i)
-      (sym (append_snoc (replicate i d) d (drop (suc i) l)) ∙ ap (λ (x : List A). x ++ drop (suc i) l) (replicate-append-replicate i 1 d ∙ ap (λ (k : ℕ). replicate k d) (add-one i)))
-
-  pub cleared_all : (n i : ℕ) → n ≤ i → i ≤ n → length l ≡ n → replicate i d ++ drop i l ≡ replicate n d
-  cleared_all n i h k e =
-      let z : i ≡ n = omega arith in
-      rw z (ap (λ (x : List A). replicate n d ++ x) (drop_of_length-le l {i = n} (omega arith)) ∙ append-nil (replicate n d))
+pub zeros_in : {bs : List ℕ} → bs ≡ replicate 6160 0 → mmap_in bs ≡ empty_slots
+zeros_in e =
+    ap mmap_in (e ∙ zeros_out)
+    ∙ mmap_kept empty_slots 0 (omega arith) (omega arith) (length-replicate {A = MappedRegion} 256 no_mapped_region)
+    (λ i. subst MappedFits (sym (zero_at no_mapped_region 256 i)) none_fits)

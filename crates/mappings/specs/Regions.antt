@@ -1,8 +1,8 @@
 -- The mmap list, document 01's 'mmap': 256 regions sorted by start.
-use Rattle.std.specs.Prelude.{ℕ, ◌%◌, Bool, false, List, [], ◌∷◌, ℤ, pos, eqb, leb, replicate}
+use Rattle.std.specs.Prelude.{ℕ, ◌%◌, Bool, false, List, [], ◌∷◌, ℤ, pos, eqb, leb, replicate, Option, Some, None}
 use Rattle.bits.specs.Bit.{pick, both}
 use Rattle.slots.specs.Slots.{Slots, slotted, listed, every}
-use Rattle.slots.specs.Sorted.{rising_from as rising_by, has_key, insert as insert_by, remove as remove_by}
+use Rattle.slots.specs.Sorted.{rising_from as rising_by, has_key, place_of, insert as insert_by, remove as remove_by}
 use Rattle.regions.specs.Regions.{well_placed}
 use Rattle.mappings.specs.declared.MappedRegion.{MappedRegion}
 
@@ -49,6 +49,10 @@ with_prot a prot (r ∷ l) = pick (eqb r.start a) (mapped_region r.start r.size 
 unfoldable pub holds : ℕ → ℕ → List MappedRegion → Bool
 holds a n [] = false
 holds a n (r ∷ l) = pick (eqb r.start a) (eqb r.size n) (holds a n l)
+
+-- where the region at a stands, if it has n bytes
+abbrev pub found_sized : ℕ → ℕ → List MappedRegion → Option ℕ
+found_sized a n l = pick (holds a n l) (Some (place_of start_key a l)) None
 
 abbrev pub well_placed_mapping : MappedRegion → Bool
 well_placed_mapping r = well_placed r.start r.size

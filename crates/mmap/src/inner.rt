@@ -15,38 +15,38 @@ ghost use Rattle.user_space.specs.Packed.{user_in, lent_user, UserLeaves};
 ghost use Rattle.mmap.specs.Calls.{fixed_at, hinted_at, chosen, full, leftover, map_region, chosen_region};
 ghost use Rattle.mmap.specs.Packed.{mmapped};
 
-use crate::{Mmapped, OptAddr};
-use address::{Frame, VirtAddr, VirtAnswer};
-use answer::Outcome;
+use crate::Mmapped;
+use address::{Frame, VirtAddr};
+use answer::Refusal;
 use frame::{FrameAllocator, Marks};
-use free_range::InTheWay;
-use mappings::MappedRegion;
+use mappings::{MappedRegion, Mmap};
+use slots::SlotList;
 
-pub fn no_mapping(number: u64, frames: FrameAllocator) -> Mmapped
-    ensures { result ≡ record { answer = VirtAnswer.NoVirt number; frames = frames } }
+pub fn no_mapping(refusal: Refusal, frames: FrameAllocator) -> Mmapped
+    ensures { result ≡ record { answer = Err refusal; frames = frames } }
 {
     Mmapped {
-        answer: VirtAnswer::NoVirt(number),
+        answer: Err(refusal),
         frames,
     }
 }
 
 // MAP_FIXED: the address itself.
-fn fixed_at(a: u64, n: u64) -> Outcome
+fn fixed_at(a: u64, n: u64) -> Result<u64, Refusal>
     requires { n ≤ last_page }
     ensures { result ≡ fixed_at a n }
 {
     if a % 4096 != 0 {
-        return Outcome::Stop(answer::UNALIGNED);
+        return Err(Refusal::Unaligned);
     }
     if a > crate::LAST_PAGE - n {
-        return Outcome::Stop(answer::TOO_LARGE);
+        return Err(Refusal::TooLarge);
     }
-    Outcome::Value(a)
+    Ok(a)
 }
 
 // Where the search ends.
-fn search(list: &[u8], n: u64) -> Outcome
+fn search(list: &[u8], n: u64) -> Result<u64, Refusal>
     requires { sound_list list.now ≡ true }
     ensures { result ≡ find_free (listed (mmap_in list.now)) (next_in list.now) n }
 {
@@ -55,7 +55,7 @@ fn search(list: &[u8], n: u64) -> Outcome
 }
 
 // A hint: the address if it is aligned and nothing is in the way, else where the search ends.
-fn hinted_at(list: &[u8], a: u64, n: u64) -> Outcome
+fn hinted_at(list: &[u8], a: u64, n: u64) -> Result<u64, Refusal>
     requires list_value { sound_list list.now ≡ true }
     requires n_le_last_page { n ≤ last_page }
     ensures { result ≡ hinted_at (listed (mmap_in list.now)) (next_in list.now) a n }
@@ -64,23 +64,23 @@ fn hinted_at(list: &[u8], a: u64, n: u64) -> Outcome
         return search(list, n);
     }
     if a > crate::LAST_PAGE - n {
-        return Outcome::Stop(answer::TOO_LARGE);
+        return Err(Refusal::TooLarge);
     }
     match free_range::in_the_way(list, a, n) {
-        InTheWay::Nothing => Outcome::Value(a),
-        InTheWay::Until(_) => search(list, n),
+        None => Ok(a),
+        Some(_) => search(list, n),
     }
 }
 
 // Where n bytes go.
-fn choose(list: &[u8], hint: OptAddr, n: u64, flags: i32) -> Outcome
+fn choose(list: &[u8], hint: Option<u64>, n: u64, flags: i32) -> Result<u64, Refusal>
     requires list_value { sound_list list.now ≡ true }
     requires n_le_last_page { n ≤ last_page }
     ensures { (m : Memory) → result ≡ chosen (user_in m list.now) hint n flags }
 {
     match hint {
-        OptAddr::NoAddr => search(list, n),
-        OptAddr::SomeAddr(a) => {
+        None => search(list, n),
+        Some(a) => {
             if user_space::is_fixed(flags) {
                 return fixed_at(a, n);
             }
@@ -94,11 +94,7 @@ fn is_full(list: &[u8], a: u64) -> bool
     requires { sound_list list.now ≡ true }
     ensures { (m : Memory) → result ≡ full (user_in m list.now) a }
 {
-    if mappings::count(list) < mappings::MAX_REGIONS {
-        return false;
-    }
-    let at = mappings::list::place_of(list, a);
-    !mappings::list::starts_at(list, at, a)
+    Mmap::count(list) >= mappings::MAX_REGIONS && mappings::list::find(list, a).is_err()
 }
 
 // What a run that stopped leaves: after 13 the leaves that it made are cleared, after 11 they stay.
@@ -108,16 +104,16 @@ fn clear_after(
     up: u64,
     root: Frame,
     virt: VirtAddr,
-    number: u64,
+    refusal: Refusal,
     done: u64,
 )
     requires words_lent { WordsLent words.old frames.start frames.total }
     requires done_bound { virt.0 + done * 4096 < 2 ^ 64 }
     requires up_le_most_above { up ≤ most_above }
     ensures { (b : List ℕ) → lent_memory words.new b frames
-        ≡ leftover up root.0 virt.0 number done (lent_memory words.old b frames) }
+        ≡ leftover up root.0 virt.0 refusal done (lent_memory words.old b frames) }
 {
-    if number != answer::MAP_PAGE_FAILED {
+    if refusal != Refusal::MapPageFailed {
         return;
     }
     pages::clear_pages(words, frames, up, root, virt, done);
@@ -158,11 +154,11 @@ fn map_region(
     let walked = run.walked;
     let left = run.frames;
     match walked {
-        Outcome::Stop(e) => {
+        Err(e) => {
             clear_after(words, left, up, root, virt, e, run.done);
             no_mapping(e, left)
         }
-        Outcome::Value(_) => {
+        Ok(_) => {
             let region = MappedRegion {
                 start: virt.0,
                 size: n,
@@ -172,7 +168,7 @@ fn map_region(
             mappings::list::insert(list, region);
             mappings::put_next(list, virt.0 + n);
             Mmapped {
-                answer: VirtAnswer::AtVirt(virt),
+                answer: Ok(virt),
                 frames: left,
             }
         }
@@ -186,7 +182,7 @@ pub fn map_chosen(
     frames: FrameAllocator,
     root: Frame,
     list: &mut [u8],
-    hint: OptAddr,
+    hint: Option<u64>,
     n: u64,
     prot: i32,
     flags: i32,
@@ -199,10 +195,10 @@ pub fn map_chosen(
         (chosen_region (frames.levels - 1) (lent_user words.old bitmap.old frames list.old) root.0 hint n prot flags) }
 {
     match choose(list, hint, n, flags) {
-        Outcome::Stop(e) => no_mapping(e, frames),
-        Outcome::Value(a) => {
+        Err(e) => no_mapping(e, frames),
+        Ok(a) => {
             if is_full(list, a) {
-                return no_mapping(answer::LIST_FULL, frames);
+                return no_mapping(Refusal::ListFull, frames);
             }
             map_region(
                 words,

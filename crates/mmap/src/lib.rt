@@ -9,35 +9,28 @@ ghost use Rattle.user_space.specs.Packed.{UserReads};
 ghost use Rattle.mmap.specs.Calls.{mmap_of};
 ghost use Rattle.mmap.specs.Packed.{opt_addr, mmap_on, mmapped};
 
-use address::{Frame, VirtAnswer};
-use answer::Outcome;
+use address::{Frame, VirtAddr};
+use answer::Refusal;
 use frame::{FrameAllocator, Marks};
 
 // Where the last page starts: a fixed or hinted range ends there at most.
 pub const LAST_PAGE: u64 = 0xFFFF_FFFF_FFFF_F000;
 
-// The address that a caller gives, or none.
-#[derive(Clone, Copy)]
-pub enum OptAddr {
-    NoAddr,
-    SomeAddr(u64),
-}
-
 // An answer beside the frame record that the call leaves.
 #[derive(Clone, Copy)]
 pub struct Mmapped {
-    pub answer: VirtAnswer,
+    pub answer: Result<VirtAddr, Refusal>,
     pub frames: FrameAllocator,
 }
 
 // The address where one is given.
-pub fn opt_addr(given: bool, addr: u64) -> OptAddr
+pub fn opt_addr(given: bool, addr: u64) -> Option<u64>
     ensures { result ≡ opt_addr given addr }
 {
     if given {
-        return OptAddr::SomeAddr(addr);
+        return Some(addr);
     }
-    OptAddr::NoAddr
+    None
 }
 
 pub fn mmap(
@@ -46,7 +39,7 @@ pub fn mmap(
     frames: FrameAllocator,
     root: Frame,
     list: &mut [u8],
-    hint: OptAddr,
+    hint: Option<u64>,
     size: u64,
     prot: i32,
     flags: i32,
@@ -57,15 +50,13 @@ pub fn mmap(
         (lent_memory words.old bitmap.old frames) list.old list.new }
 {
     if !user_space::is_whole(words, bitmap, frames, root, list) {
-        return inner::no_mapping(answer::BROKEN_RECORD, frames);
+        return inner::no_mapping(Refusal::BrokenRecord, frames);
     }
     if size == 0 {
-        return inner::no_mapping(answer::SIZE_ZERO, frames);
+        return inner::no_mapping(Refusal::SizeZero, frames);
     }
     match allocator::page_align_up(size) {
-        Outcome::Stop(e) => inner::no_mapping(e, frames),
-        Outcome::Value(n) => {
-            inner::map_chosen(words, bitmap, frames, root, list, hint, n, prot, flags)
-        }
+        Err(e) => inner::no_mapping(e, frames),
+        Ok(n) => { inner::map_chosen(words, bitmap, frames, root, list, hint, n, prot, flags) }
     }
 }

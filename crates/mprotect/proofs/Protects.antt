@@ -10,12 +10,12 @@ use lib.Dec.{eqb, leb}
 use lib.ListN.{length}
 use lib.Seq.{take-append_seam}
 use borrow.Author.Tests.{eqb-true, eq-eqb}
+use Rattle.std.specs.Prelude.{Ok, Err, Result}
+use Rattle.answer.specs.declared.Refusal.{Refusal}
+use Rattle.answer.specs.declared.Refusal.TheVariants.{SizeZero, Unaligned, TooLarge, BrokenRecord, RegionNotFound}
 use Rattle.bits.specs.Bit.{pick, unless, both}
 use Rattle.bits.proofs.Choice.{both_true}
 use Rattle.allocator.specs.Round.{rounded, round_up}
-use Rattle.answer.specs.Numbers.{size_zero, unaligned, too_large, broken_record, region_not_found}
-use Rattle.answer.specs.declared.Outcome.{Outcome}
-use Rattle.answer.specs.declared.Outcome.TheVariants.{Value, Stop}
 use Rattle.bitmap.specs.Bitmap.{count}
 use Rattle.frame.specs.Frames.{frames_end, is_levels, inside, sound}
 use Rattle.paging.specs.Walk.{may_walk}
@@ -118,21 +118,21 @@ module _ (u : User) (root a size : ℕ) (prot : ℤ) where
       ws = u.mem.words
 
       by-held : (b : Bool) (d : ProtectDid) (e : UserDid) → d.answer ≡ e.answer
-          → (unless b (protect_did (Stop region_not_found) ws u.regions) d).answer ≡ (unless b (user_did (Stop region_not_found) v) e).answer
+          → (unless b (protect_did (Err RegionNotFound) ws u.regions) d).answer ≡ (unless b (user_did (Err RegionNotFound) v) e).answer
       by-held true d e k = k
       by-held false d e k = refl
 
-      by : (t z o : Bool) (r : Outcome)
-          → (unless t (protect_did (Stop broken_record) ws u.regions) (pick z (protect_did (Stop size_zero) ws u.regions) (unless o (protect_did (Stop unaligned) ws u.regions)
+      by : (t z o : Bool) (r : Result ℕ Refusal)
+          → (unless t (protect_did (Err BrokenRecord) ws u.regions) (pick z (protect_did (Err SizeZero) ws u.regions) (unless o (protect_did (Err Unaligned) ws u.regions)
           (protect_sized (levels_of u.mem) ws (start_frame u.mem) (total_of u.mem) root u.regions a prot r)))).answer
-          ≡ (unless t (user_did (Stop broken_record) v) (pick z (user_did (Stop size_zero) v) (unless o (user_did (Stop unaligned) v) (unmapped (above_last v.mem) v root a r)))).answer
+          ≡ (unless t (user_did (Err BrokenRecord) v) (pick z (user_did (Err SizeZero) v) (unless o (user_did (Err Unaligned) v) (unmapped (above_last v.mem) v root a r)))).answer
       by false z o r = refl
       by true true o r = refl
       by true false false r = refl
-      by true false true (Value n) = by-held (holds a n (listed u.regions)) _ _ refl
-      by true false true (Stop e) = refl
+      by true false true (Ok n) = by-held (holds a n (listed u.regions)) _ _ refl
+      by true false true (Err e) = refl
 
-  mprotect_refuses : (n : ℕ) → ProtectAnswer (Stop n) → Stop n ≡ (munmap_of (counter_right u) root a size).answer → ProtectsOnly u root a size prot (user_did (Stop n) u)
+  mprotect_refuses : (n : Refusal) → ProtectAnswer (Err n) → Err n ≡ (munmap_of (counter_right u) root a size).answer → ProtectsOnly u root a size prot (user_did (Err n) u)
   mprotect_refuses n k same = record {
     answers = k;
     ordered = same;
@@ -149,8 +149,8 @@ module _ (u : User) (root a size : ℕ) (prot : ℤ) where
     refused = λ m e. refl;
   }
 
-  mprotect_meets : sound_mappings u.regions u.next ≡ true → Value 0 ≡ (munmap_of (counter_right u) root a size).answer
-      → ProtectsOnly u root a size prot (keep_user u (protect_did (Value 0)
+  mprotect_meets : sound_mappings u.regions u.next ≡ true → Ok 0 ≡ (munmap_of (counter_right u) root a size).answer
+      → ProtectsOnly u root a size prot (keep_user u (protect_did (Ok 0)
       (protect_pages (above_last u.mem) (writable prot) u.mem.words (start_frame u.mem) (total_of u.mem) root a (round_up 12 size / 4096))
       (store no_mapped_region (with_prot a prot (listed u.regions)) u.regions)))
   mprotect_meets rises same =
@@ -181,10 +181,10 @@ pub mprotect_protects : MprotectProtects
 mprotect_protects u root a size prot =
     mprotect_cases (levels_of u.mem) u.mem.words (start_frame u.mem) (total_of u.mem) root u.regions u.next a size prot
     (λ (d : ProtectDid). d.answer ≡ (munmap_of (counter_right u) root a size).answer → ProtectsOnly u root a size prot (keep_user u d))
-    (λ _. mprotect_refuses u root a size prot broken_record is10)
-    (λ _. mprotect_refuses u root a size prot size_zero is1)
-    (λ _. mprotect_refuses u root a size prot unaligned is2)
-    (λ _. mprotect_refuses u root a size prot too_large is3)
-    (λ _. mprotect_refuses u root a size prot region_not_found is16)
+    (λ _. mprotect_refuses u root a size prot BrokenRecord is10)
+    (λ _. mprotect_refuses u root a size prot SizeZero is1)
+    (λ _. mprotect_refuses u root a size prot Unaligned is2)
+    (λ _. mprotect_refuses u root a size prot TooLarge is3)
+    (λ _. mprotect_refuses u root a size prot RegionNotFound is16)
     (λ _ h _ _ _. mprotect_meets u root a size prot h)
     (same_answer u root a size prot)

@@ -9,7 +9,7 @@ ghost use Rattle.mprotect.specs.Calls.{protect_region};
 ghost use Rattle.mprotect.specs.Packed.{protect_kept, kept_protected, mprotect_on};
 
 use address::{Frame, VirtAddr};
-use answer::{Answer, Outcome};
+use answer::Refusal;
 
 // Whether nothing that the call is lent is broken.
 fn is_whole(words: &[u64], start: u64, total: u64, levels: u64, root: Frame, list: &[u8]) -> bool
@@ -32,16 +32,15 @@ fn protect_region(
     addr: VirtAddr,
     n: u64,
     prot: i32,
-) -> Answer
+) -> Result<(), Refusal>
     requires root_value { lent_walk levels (length words.old) start total root.0 ≡ true }
     requires list_value { sound_list list.old ≡ true }
     ensures { protect_kept result words.new list.new
         ≡ kept_protected (protect_region levels words.old start total root.0 (mmap_in list.old) addr.0 n prot) (next_in list.old) }
 {
-    let at = mappings::list::place_of(list, addr.0);
-    if !mappings::list::holds_at(list, at, addr.0, n) {
-        return Answer::Refused(answer::REGION_NOT_FOUND);
-    }
+    let Some(at) = mappings::list::find_sized(list, addr.0, n) else {
+        return Err(Refusal::RegionNotFound);
+    };
     let writable = user_space::is_writable(prot);
     protecting::protect_pages(
         words,
@@ -54,7 +53,7 @@ fn protect_region(
         writable,
     );
     mappings::list::set_prot(list, at, addr.0, prot);
-    Answer::Met
+    Ok(())
 }
 
 pub fn mprotect(
@@ -67,23 +66,19 @@ pub fn mprotect(
     addr: VirtAddr,
     size: u64,
     prot: i32,
-) -> Answer
+) -> Result<(), Refusal>
     ensures { protect_kept result words.new list.new
         ≡ mprotect_on levels words.old start total root.0 list.old addr.0 size prot }
 {
     if !is_whole(words, start, total, levels, root, list) {
-        return Answer::Refused(answer::BROKEN_RECORD);
+        return Err(Refusal::BrokenRecord);
     }
     if size == 0 {
-        return Answer::Refused(answer::SIZE_ZERO);
+        return Err(Refusal::SizeZero);
     }
     if addr.0 % 4096 != 0 {
-        return Answer::Refused(answer::UNALIGNED);
+        return Err(Refusal::Unaligned);
     }
-    match allocator::page_align_up(size) {
-        Outcome::Stop(e) => Answer::Refused(e),
-        Outcome::Value(n) => {
-            protect_region(words, start, total, levels, root, list, addr, n, prot)
-        }
-    }
+    let n = allocator::page_align_up(size)?;
+    protect_region(words, start, total, levels, root, list, addr, n, prot)
 }

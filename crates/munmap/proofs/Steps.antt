@@ -4,13 +4,13 @@ use mathlib.Core.Path.{◌≡◌, refl, sym, ◌∙◌, ap, subst}
 use mathlib.Core.Bool.{Bool, true, false}
 use mathlib.Core.List.{List}
 use borrow.Author.Tests.{eq-eqb, ne_eqb}
+use Rattle.answer.specs.declared.Refusal.{Refusal}
+use Rattle.std.specs.Prelude.{Ok, Err}
+use Rattle.answer.specs.declared.Refusal.TheVariants.{SizeZero, Unaligned, BrokenRecord, RegionNotFound}
 use Rattle.bits.specs.Bit.{both}
 use Rattle.slots.specs.Slots.{listed, store}
 use Rattle.packed.proofs.RoundTrip.{Bytes}
-use Rattle.answer.specs.Numbers.{size_zero, unaligned, broken_record, region_not_found}
-use Rattle.answer.specs.declared.Outcome.TheVariants.{Value, Stop}
 use Rattle.answer.specs.Outcomes.{as_answer}
-use Rattle.answer.specs.declared.Answer.TheVariants.{Refused}
 use Rattle.allocator.specs.Round.{rounded}
 use Rattle.frame.specs.Found.{none_found}
 use Rattle.frame.specs.declared.FrameAllocator.{FrameAllocator}
@@ -31,36 +31,36 @@ use Rattle.munmap.specs.declared.Munmapped.{Munmapped}
 -- ---- the region
 
 module _ (up : ℕ) (s : User) (root a n : ℕ) where
-  pub unmap_none : holds a n (listed s.regions) ≡ false → unmap_region up s root a n ≡ user_did (Stop region_not_found) s
+  pub unmap_none : holds a n (listed s.regions) ≡ false → unmap_region up s root a n ≡ user_did (Err RegionNotFound) s
   unmap_none h = rw h
 
   pub unmap_met : holds a n (listed s.regions) ≡ true
-      → unmap_region up s root a n ≡ user_did (Value 0) (user (free_pages up s.mem root a (n / 4096)) (store no_mapped_region (remove a (listed s.regions)) s.regions) s.next)
+      → unmap_region up s root a n ≡ user_did (Ok 0) (user (free_pages up s.mem root a (n / 4096)) (store no_mapped_region (remove a (listed s.regions)) s.regions) s.next)
   unmap_met h = rw h
 
 -- ---- the call
 
 module _ (up : ℕ) (s : User) (root a size : ℕ) where
-  pub munmap_broken : sound_user s root ≡ false → munmap up s root a size ≡ user_did (Stop broken_record) s
+  pub munmap_broken : sound_user s root ≡ false → munmap up s root a size ≡ user_did (Err BrokenRecord) s
   unfolding munmap
   munmap_broken h = rw h
 
   module _ (h : sound_user s root ≡ true) where
-    pub munmap_empty : size ≡ 0 → munmap up s root a size ≡ user_did (Stop size_zero) s
+    pub munmap_empty : size ≡ 0 → munmap up s root a size ≡ user_did (Err SizeZero) s
     unfolding munmap
     munmap_empty z = rw (h, eq-eqb _ _ z)
 
     module _ (k : size ≡ 0 → ⊥) where
-      pub munmap_odd : (a % 4096 ≡ 0 → ⊥) → munmap up s root a size ≡ user_did (Stop unaligned) s
+      pub munmap_odd : (a % 4096 ≡ 0 → ⊥) → munmap up s root a size ≡ user_did (Err Unaligned) s
       unfolding munmap
       munmap_odd o = rw (h, ne_eqb _ _ k, ne_eqb _ _ o)
 
       module _ (o : a % 4096 ≡ 0) where
-        pub munmap_large : (e : ℕ) → rounded size ≡ Stop e → munmap up s root a size ≡ user_did (Stop e) s
+        pub munmap_large : (e : Refusal) → rounded size ≡ Err e → munmap up s root a size ≡ user_did (Err e) s
         unfolding munmap
         munmap_large e r = rw (h, ne_eqb _ _ k, eq-eqb _ _ o, r)
 
-        pub munmap_sized : (n : ℕ) → rounded size ≡ Value n → munmap up s root a size ≡ unmap_region up s root a n
+        pub munmap_sized : (n : ℕ) → rounded size ≡ Ok n → munmap up s root a size ≡ unmap_region up s root a n
         unfolding munmap
         munmap_sized n r = rw (h, ne_eqb _ _ k, eq-eqb _ _ o, r)
 
@@ -93,19 +93,19 @@ module _ (m : Memory) (list : List ℕ) (root a size : ℕ) where
       tally_odd o = rw (fit, h, ne_eqb _ _ k, ne_eqb _ _ o)
 
       module _ (o : a % 4096 ≡ 0) where
-        pub tally_large : (e : ℕ) → rounded size ≡ Stop e → munmap_found_on m list root a size ≡ none_found
+        pub tally_large : (e : Refusal) → rounded size ≡ Err e → munmap_found_on m list root a size ≡ none_found
         unfolding munmap_found_on munmap_found
         tally_large e r = rw (fit, h, ne_eqb _ _ k, eq-eqb _ _ o, r)
 
-        pub tally_sized : (n : ℕ) → rounded size ≡ Value n → munmap_found_on m list root a size ≡ region_found (above_last m) (user_in m list) root a n
+        pub tally_sized : (n : ℕ) → rounded size ≡ Ok n → munmap_found_on m list root a size ≡ region_found (above_last m) (user_in m list) root a n
         unfolding munmap_found_on munmap_found
         tally_sized n r = rw (fit, h, ne_eqb _ _ k, eq-eqb _ _ o, r)
 
 -- ---- a refusal, as code returns it
 
-module _ (bm : List ℕ) {e : ℕ} {fr : FrameAllocator} {ws list : List ℕ} {d : UserDid} (b : Bytes list) (fit : mmap_fit list ≡ true) (h : d ≡ user_did (Stop e) (lent_user ws bm fr list)) where
-  pub not_unmapped_left : {r : Munmapped} → r ≡ record { answer = Refused e; found = none_found; frames = fr } → UserLeaves as_answer (munmapped r ws bm list) d
+module _ (bm : List ℕ) {e : Refusal} {fr : FrameAllocator} {ws list : List ℕ} {d : UserDid} (b : Bytes list) (fit : mmap_fit list ≡ true) (h : d ≡ user_did (Err e) (lent_user ws bm fr list)) where
+  pub not_unmapped_left : {r : Munmapped} → r ≡ record { answer = Err e; found = none_found; frames = fr } → UserLeaves as_answer (munmapped r ws bm list) d
   not_unmapped_left q = subst (λ (x : Munmapped). UserLeaves as_answer (munmapped x ws bm list) d) (sym q) (leaves_alone as_answer b fit h)
 
-pub not_unmapped_found : {r : Munmapped} {e : ℕ} {fr : FrameAllocator} {t : Tally} → r ≡ record { answer = Refused e; found = none_found; frames = fr } → t ≡ none_found → r.found ≡ t
+pub not_unmapped_found : {r : Munmapped} {e : Refusal} {fr : FrameAllocator} {t : Tally} → r ≡ record { answer = Err e; found = none_found; frames = fr } → t ≡ none_found → r.found ≡ t
 not_unmapped_found q e = ap (λ (x : Munmapped). x.found) q ∙ sym e

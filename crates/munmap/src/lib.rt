@@ -12,22 +12,22 @@ ghost use Rattle.munmap.specs.Calls.{unmap_region, region_found, munmap_of};
 ghost use Rattle.munmap.specs.Packed.{munmapped, munmap_on, munmap_found_on};
 
 use address::{Frame, VirtAddr};
-use answer::{Answer, Outcome};
+use answer::Refusal;
 use frame::{FrameAllocator, Marks, Tally, tallies};
 
 // An answer beside the frame record that the call leaves, with what the frames of its pages were found to be.
 #[derive(Clone, Copy)]
 pub struct Munmapped {
-    pub answer: Answer,
+    pub answer: Result<(), Refusal>,
     pub found: Tally,
     pub frames: FrameAllocator,
 }
 
-pub fn not_unmapped(number: u64, frames: FrameAllocator) -> Munmapped
-    ensures { result ≡ record { answer = Answer.Refused number; found = none_found; frames = frames } }
+pub fn not_unmapped(refusal: Refusal, frames: FrameAllocator) -> Munmapped
+    ensures { result ≡ record { answer = Err refusal; found = none_found; frames = frames } }
 {
     Munmapped {
-        answer: Answer::Refused(number),
+        answer: Err(refusal),
         found: tallies::none(),
         frames,
     }
@@ -50,17 +50,16 @@ pub fn unmap_region(
     ensures found_value { result.found
         ≡ region_found (frames.levels - 1) (lent_user words.old bitmap.old frames list.old) root.0 addr.0 n }
 {
-    let at = mappings::list::place_of(list, addr.0);
-    if !mappings::list::holds_at(list, at, addr.0, n) {
-        return not_unmapped(answer::REGION_NOT_FOUND, frames);
-    }
+    let Some(at) = mappings::list::find_sized(list, addr.0, n) else {
+        return not_unmapped(Refusal::RegionNotFound, frames);
+    };
     let up = frames.levels - 1;
     let given = freeing::free_pages(words, bitmap, frames, up, root, addr, n / 4096);
     let found = given.found;
     let left = given.frames;
     mappings::list::remove_at(list, at);
     Munmapped {
-        answer: Answer::Met,
+        answer: Ok(()),
         found,
         frames: left,
     }
@@ -82,16 +81,16 @@ pub fn munmap(
     ensures found_value { result.found ≡ munmap_found_on (lent_memory words.old bitmap.old frames) list.old root.0 addr.0 size }
 {
     if !user_space::is_whole(words, bitmap, frames, root, list) {
-        return not_unmapped(answer::BROKEN_RECORD, frames);
+        return not_unmapped(Refusal::BrokenRecord, frames);
     }
     if size == 0 {
-        return not_unmapped(answer::SIZE_ZERO, frames);
+        return not_unmapped(Refusal::SizeZero, frames);
     }
     if addr.0 % 4096 != 0 {
-        return not_unmapped(answer::UNALIGNED, frames);
+        return not_unmapped(Refusal::Unaligned, frames);
     }
     match allocator::page_align_up(size) {
-        Outcome::Stop(e) => not_unmapped(e, frames),
-        Outcome::Value(n) => { unmap_region(words, bitmap, frames, root, list, addr, n) }
+        Err(e) => not_unmapped(e, frames),
+        Ok(n) => { unmap_region(words, bitmap, frames, root, list, addr, n) }
     }
 }

@@ -5,6 +5,7 @@ use mathlib.Core.List.{List, [], ◌∷◌, ◌++◌, append_assoc}
 use native.Mathlib.Omega.{arith}
 use lib.ListN.{length, take, drop, get_or, set, replicate, take-append-drop, length-drop}
 use lib.Seq.{drop_at, get_or-drop, length-take-le, sets}
+use Rattle.std.proofs.lemmas.List.{replicate-append-replicate}
 use Rattle.slots.proofs.Filled.{drop_replicate}
 use Rattle.packed.specs.Words.{number, bytes, pack, unpack}
 use Rattle.packed.specs.Records.{records, packed}
@@ -167,3 +168,10 @@ pub unpack_zeros : (n m : ℕ) → unpack n (zeros m) ≡ zeros n
 unfolding unpack
 unpack_zeros zero m = refl
 unpack_zeros (suc n) m = λ j. number_zeros 8 m j ∷ (ap (unpack n) (drop_replicate {A = ℕ} 0 8 m) ∙ unpack_zeros n (m - 8)) j
+
+pub pack_zeros : (n : ℕ) → pack (zeros n) ≡ zeros (n * 8)
+unfolding pack bytes
+pack_zeros zero = refl
+pack_zeros (suc n) =
+    let e : suc n * 8 ≡ 8 + n * 8 = omega arith in
+    rw e (ap (λ (l : List ℕ). bytes 8 0 ++ l) (pack_zeros n) ∙ replicate-append-replicate 8 (n * 8) 0)

@@ -1,5 +1,6 @@
 -- Numbers packed as bytes and unpacked: what loops over them leave, and the round trip both ways.
-use Prim.Native.Nat.{ℕ, zero, suc, ◌+◌, ◌*◌, ◌/◌, ◌%◌, ◌^◌, ◌<◌, ◌≤◌}
+use Prim.Native.Nat.{ℕ, zero, suc, ◌+◌, ◌-◌, ◌*◌, ◌/◌, ◌%◌, ◌^◌, ◌<◌, ◌≤◌}
+use Rattle.std.specs.Int.{w32, w64, from_le_bytes, to_le_bytes}
 use mathlib.Core.Path.{◌≡◌, refl, sym, ◌∙◌, ap, subst}
 use mathlib.Core.List.{List, [], ◌∷◌, ◌++◌, append_assoc, append-nil}
 use native.Mathlib.Omega.{arith}
@@ -141,6 +142,26 @@ number_eight at bs h =
     let j = number_none (drop (at + 8) bs) in
     omega arith
 
+number_take : (k n : ℕ) (bs : List ℕ) → k ≤ n → number k (take n bs) ≡ number k bs
+unfolding number
+number_take zero n bs h = refl
+number_take (suc k) zero bs h = absurd (omega arith)
+number_take (suc k) (suc n) [] h = refl
+number_take (suc k) (suc n) (b ∷ bs) h = ap (λ (m : ℕ). b + 256 * m) (number_take k n bs (omega arith))
+
+-- the number of a chunk that was cut out
+pub number_eight_of : (at : ℕ) (bs chunk : List ℕ) → at + 8 ≤ length bs → chunk ≡ take (at + 8 - at) (drop at bs) → from_le_bytes w64 chunk ≡ number 8 (drop at bs)
+number_eight_of at bs chunk h e =
+    let n : at + 8 - at ≡ 8 = omega arith in
+    let long : 0 + 8 ≤ length chunk = omega (arith, ap length e, length-take-le (at + 8 - at) (drop at bs) (omega (arith, length-drop at bs))) in
+    sym (number_eight 0 chunk long) ∙ ap (number 8) e ∙ number_take 8 (at + 8 - at) (drop at bs) (omega arith)
+
+pub number_four_of : (at : ℕ) (bs chunk : List ℕ) → at + 4 ≤ length bs → chunk ≡ take (at + 4 - at) (drop at bs) → from_le_bytes w32 chunk ≡ number 4 (drop at bs)
+number_four_of at bs chunk h e =
+    let n : at + 4 - at ≡ 4 = omega arith in
+    let long : 0 + 4 ≤ length chunk = omega (arith, ap length e, length-take-le (at + 4 - at) (drop at bs) (omega (arith, length-drop at bs))) in
+    sym (number_four 0 chunk long) ∙ ap (number 4) e ∙ number_take 4 (at + 4 - at) (drop at bs) (omega arith)
+
 pub bytes_eight : (x : ℕ) → bytes 8 x ≡ x % 256 ∷ x / 256 % 256 ∷ x / 256 / 256 % 256 ∷ x / 256 / 256 / 256 % 256 ∷ x / 256 / 256 / 256 / 256 % 256
     ∷ x / 256 / 256 / 256 / 256 / 256 % 256 ∷ x / 256 / 256 / 256 / 256 / 256 / 256 % 256 ∷ x / 256 / 256 / 256 / 256 / 256 / 256 / 256 % 256 ∷ []
 unfolding bytes
@@ -160,6 +181,17 @@ stores_eight l at x a b c d e f g h p q r s t u v w =
     let n6 : at + 6 ≡ suc (suc (suc (suc (suc (suc at))))) = omega arith in
     let n7 : at + 7 ≡ suc (suc (suc (suc (suc (suc (suc at)))))) = omega arith in
     rw (bytes_eight x, p, q, r, s, t, u, v, w, n1, n2, n3, n4, n5, n6, n7) refl
+
+-- .. of the bytes of a number
+pub stores_word : (l word : List ℕ) (at x : ℕ) → word ≡ to_le_bytes w64 x
+    → set (set (set (set (set (set (set (set l at (get_or word 0 0)) (at + 1) (get_or word 1 0)) (at + 2) (get_or word 2 0)) (at + 3) (get_or word 3 0)) (at + 4) (get_or word 4 0))
+    (at + 5) (get_or word 5 0)) (at + 6) (get_or word 6 0)) (at + 7) (get_or word 7 0) ≡ sets l at (bytes 8 x)
+stores_word l word at x e =
+    stores_eight l at x _ _ _ _ _ _ _ _ (byte 0) (byte 1) (byte 2 ∙ omega arith) (byte 3 ∙ omega arith) (byte 4 ∙ omega arith) (byte 5 ∙ omega arith) (byte 6 ∙ omega arith)
+    (byte 7 ∙ omega arith)
+  where
+    byte : (i : ℕ) → get_or word i 0 ≡ get_or (to_le_bytes w64 x) i 0
+    byte i = ap (λ (l : List ℕ). get_or l i 0) e
 
 -- ---- the round trip
 

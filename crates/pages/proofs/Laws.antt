@@ -7,15 +7,12 @@ use mathlib.Core.List.{List}
 use native.Mathlib.Nat.{mod-eq_of_lt}
 use native.Mathlib.Numerals.{add-one}
 use native.Mathlib.Omega.{arith}
+use Rattle.std.specs.Prelude.{Ok, Err, Result}
+use Rattle.answer.specs.declared.Refusal.{Refusal}
 use Rattle.address.specs.declared.Frame.{Frame}
-use Rattle.address.specs.declared.FrameAnswer.TheVariants.{AtFrame, NoFrame}
 use Rattle.entry.specs.Entry.{entry_of}
-use Rattle.frame.specs.declared.Allocated.{Allocated}
 use Rattle.frame.specs.declared.Changed.{Changed}
 use Rattle.frame.specs.Frames.{frames, take_frame}
-use Rattle.frame.specs.Results.{allocated}
-use Rattle.answer.specs.declared.Outcome.{Outcome}
-use Rattle.answer.specs.declared.Outcome.TheVariants.{Value, Stop}
 use Rattle.paging.specs.Walk.{place}
 use Rattle.paging.specs.Map.{Memory, memory, start_frame, total_of, Out, out, clear, Left, left, RoomToTake}
 use Rattle.paging.specs.Calls.{as_changed, map_at}
@@ -27,42 +24,24 @@ use Rattle.paging.proofs.Pages.{map_pages_none, map_pages_on, map_pages_stop, cl
 use Rattle.tables.proofs.Laws.{stepped}
 use Rattle.pages.specs.Answers.{as_outcome}
 
--- ---- a fresh frame, after `take_frame`
-
-module _ (m : Memory) (r : Allocated) (bm : List ℕ) (e : r ≡ allocated (take_frame m.frames)) (b : bm ≡ (take_frame m.frames).frames.bits) where
-  kept : frames bm r.frames ≡ (take_frame m.frames).frames
-  kept = λ j. frames (b j) (e j).frames
-
-  answered : (take_frame m.frames).answer ≡ r.answer
-  answered = sym (ap (λ (x : Allocated). x.answer) e)
-
-  pub fresh_made : (f : Frame) → r.answer ≡ AtFrame f → (ws : List ℕ) (at : ℕ) → ws ≡ clear m.words at 512 → at ≡ place (start_frame m) f.0 0
-      → out (Value f.0) (memory ws (frames bm r.frames)) ≡ fresh_frame m
-  fresh_made f q ws at z y =
-      let from : at ≡ (f.0 - start_frame m) * 512 = omega arith in
-      rw (z, from, kept) (sym (fresh_new m f (answered ∙ q)))
-
-  pub fresh_refused : (n : ℕ) → r.answer ≡ NoFrame n → out (Stop n) (memory m.words (frames bm r.frames)) ≡ fresh_frame m
-  fresh_refused n q = rw kept (sym (fresh_full m n (answered ∙ q)))
-
 -- ---- a page on it
 
-pub fresh_left : {w : Outcome} {m m' : Memory} → out w m' ≡ fresh_frame m → (n : ℕ) → RoomToTake m (n + 1) → RoomToTake m' n
+pub fresh_left : {w : Result ℕ Refusal} {m m' : Memory} → out w m' ≡ fresh_frame m → (n : ℕ) → RoomToTake m (n + 1) → RoomToTake m' n
 fresh_left {m = m} e n r = subst (λ (x : Memory). RoomToTake x n) (sym (ap (λ (o : Out). o.mem) e)) (fresh_roomy m n r)
 
 -- what the mapping of a page answers says where it came
-told_at : (o : Out) → ((x : ℕ) → o.walked ≡ Value x → x ≡ 0) → as_outcome (as_answer o.walked) ≡ o.walked
+told_at : (o : Out) → ((x : ℕ) → o.walked ≡ Ok x → x ≡ 0) → as_outcome (as_answer o.walked) ≡ o.walked
 told_at o h = go o.walked h
   where
-    go : (w : Outcome) → ((x : ℕ) → w ≡ Value x → x ≡ 0) → as_outcome (as_answer w) ≡ w
-    go (Value x) k = ap Value (sym (k x refl))
-    go (Stop n) k = refl
+    go : (w : Result ℕ Refusal) → ((x : ℕ) → w ≡ Ok x → x ≡ 0) → as_outcome (as_answer w) ≡ w
+    go (Ok x) k = ap Ok (sym (k x refl))
+    go (Err n) k = refl
 
 module _ (up : ℕ) (w u : Bool) (m : Memory) (root v : ℕ) (low : start_frame m + total_of m ≤ 2 ^ 40) where
-  pub map_fresh_made : (f : ℕ) (m' : Memory) → fresh_frame m ≡ out (Value f) m' → (e a : ℕ) → e ≡ entry_of a w u → a ≡ f * 2 ^ 12 % 2 ^ 64
+  pub map_fresh_made : (f : ℕ) (m' : Memory) → fresh_frame m ≡ out (Ok f) m' → (e a : ℕ) → e ≡ entry_of a w u → a ≡ f * 2 ^ 12 % 2 ^ 64
       → (r : Changed) (ws bm : List ℕ)
       → (r ≡ as_changed (map_at up up u m' root v e)) × ((ws ≡ (map_at up up u m' root v e).mem.words) × (bm ≡ (map_at up up u m' root v e).mem.frames.bits))
-      → (x : Outcome) → x ≡ or_failed (as_outcome r.answer) → out x (memory ws (frames bm r.frames)) ≡ map_fresh up w u m root v
+      → (x : Result ℕ Refusal) → x ≡ or_failed (as_outcome r.answer) → out x (memory ws (frames bm r.frames)) ≡ map_fresh up w u m root v
   map_fresh_made f m' h e a q g r ws bm p x y =
       let low-f : f < 2 ^ 40 = fresh_low m f (ap (λ (o : Out). o.walked) h) low in
       let small : a ≡ f * 2 ^ 12 = g ∙ mod-eq_of_lt (omega arith) in
@@ -73,7 +52,7 @@ module _ (up : ℕ) (w u : Bool) (m : Memory) (root v : ℕ) (low : start_frame 
       ∙ ap (λ (n : ℕ). out (or_failed (map_at up up u m' root v n).walked) (map_at up up u m' root v n).mem) word
       ∙ sym (map_fresh_on up w u m root v f m' h)
 
-pub map_fresh_left : (up : ℕ) → up ≤ 4 → {w : Outcome} {m' : Memory} (wr u : Bool) (m : Memory) (root v : ℕ) → out w m' ≡ map_fresh up wr u m root v
+pub map_fresh_left : (up : ℕ) → up ≤ 4 → {w : Result ℕ Refusal} {m' : Memory} (wr u : Bool) (m : Memory) (root v : ℕ) → out w m' ≡ map_fresh up wr u m root v
     → (n : ℕ) → RoomToTake m (n + 5) → RoomToTake m' n
 map_fresh_left up few wr u m root v e n r =
     subst (λ (x : Memory). RoomToTake x n) (sym (ap (λ (o : Out). o.mem) e)) (map_fresh_roomy up wr u m root v n (roomy_less _ (omega arith) r))
@@ -88,22 +67,22 @@ module _ (root v i n : ℕ) (lt : i < n) where
   next_page = omega arith
 
   module _ (up : ℕ) (w u : Bool) (m m' : Memory) where
-    pub run_on : (x : ℕ) → map_fresh up w u m root (v + i * 4096) ≡ out (Value x) m'
+    pub run_on : (x : ℕ) → map_fresh up w u m root (v + i * 4096) ≡ out (Ok x) m'
         → map_pages up w u m root (v + i * 4096) i (n - i) ≡ map_pages up w u m' root (v + (i + 1) * 4096) (i + 1) (n - (i + 1))
     run_on x e = rw (one_less, next_page, add-one i) (map_pages_on up w u m root _ i _ m' x e)
 
-    pub run_stop : (a : ℕ) → map_fresh up w u m root (v + i * 4096) ≡ out (Stop a) m' → map_pages up w u m root (v + i * 4096) i (n - i) ≡ ran (Stop a) i m'
+    pub run_stop : (a : Refusal) → map_fresh up w u m root (v + i * 4096) ≡ out (Err a) m' → map_pages up w u m root (v + i * 4096) i (n - i) ≡ ran (Err a) i m'
     run_stop a e = rw one_less (map_pages_stop up w u m root _ i _ m' a e)
 
-  module _ (up : ℕ) (w u : Bool) (m m' : Memory) {x : Outcome} (e : out x m' ≡ map_fresh up w u m root (v + i * 4096)) where
+  module _ (up : ℕ) (w u : Bool) (m m' : Memory) {x : Result ℕ Refusal} (e : out x m' ≡ map_fresh up w u m root (v + i * 4096)) where
     pub turn_left : up ≤ 4 → RoomToTake m ((n - i) * 5) → RoomToTake m' ((n - (i + 1)) * 5)
     turn_left few r = map_fresh_left up few w u m root (v + i * 4096) e ((n - (i + 1)) * 5) (roomy_less ((n - (i + 1)) * 5 + 5) (omega arith) r)
 
     module _ {o : Ran} (a : o ≡ map_pages up w u m root (v + i * 4096) i (n - i)) where
-      pub turn_on : (y : ℕ) → x ≡ Value y → o ≡ map_pages up w u m' root (v + (i + 1) * 4096) (i + 1) (n - (i + 1))
+      pub turn_on : (y : ℕ) → x ≡ Ok y → o ≡ map_pages up w u m' root (v + (i + 1) * 4096) (i + 1) (n - (i + 1))
       turn_on y h = a ∙ run_on up w u m m' y (stepped e h)
 
-      pub turn_stop : (y : ℕ) → x ≡ Stop y → ran (Stop y) i m' ≡ o
+      pub turn_stop : (y : Refusal) → x ≡ Err y → ran (Err y) i m' ≡ o
       turn_stop y h = sym (a ∙ run_stop up w u m m' y (stepped e h))
 
   pub clear_on : (up : ℕ) (m m' : Memory) → m' ≡ clear_page up m root (v + i * 4096)
@@ -115,7 +94,7 @@ module _ (root v i n : ℕ) (over : n ≤ i) (m : Memory) where
   none_left : n - i ≡ 0
   none_left = omega arith
 
-  pub run_end : (up : ℕ) (w u : Bool) → map_pages up w u m root v i (n - i) ≡ ran (Value 0) i m
+  pub run_end : (up : ℕ) (w u : Bool) → map_pages up w u m root v i (n - i) ≡ ran (Ok 0) i m
   run_end up w u = rw none_left (map_pages_none up w u m root v i)
 
   pub clear_end : (up : ℕ) → clear_pages up m root v (n - i) ≡ m
@@ -123,5 +102,5 @@ module _ (root v i n : ℕ) (over : n ≤ i) (m : Memory) where
 
 -- ---- a leaf, after `unmap_leaf`
 
-pub unmapped : {l : Left} {w w' : Outcome} {ws : List ℕ} → w ≡ l.walked → ws ≡ l.words → w ≡ w' → l ≡ left w' ws
+pub unmapped : {l : Left} {w w' : Result ℕ Refusal} {ws : List ℕ} → w ≡ l.walked → ws ≡ l.words → w ≡ w' → l ≡ left w' ws
 unmapped a b c = λ j. left ((sym a ∙ c) j) (sym b j)

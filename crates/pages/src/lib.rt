@@ -10,8 +10,8 @@ ghost use Rattle.paging.specs.Levels.{most_above, most_levels};
 ghost use Rattle.paging.specs.Kept.{lent_memory};
 ghost use Rattle.pages.specs.Answers.{as_outcome};
 
-use address::{Frame, FrameAnswer, PhysAddr, VirtAddr};
-use answer::{Answer, Outcome};
+use address::{Frame, PhysAddr, VirtAddr};
+use answer::Refusal;
 use entry::paging::PageTableEntry;
 use frame::{FrameAllocator, GivenBack, Marks, tallies};
 use paging::Entered;
@@ -19,29 +19,28 @@ use paging::Entered;
 // How far a run of pages came: `done` of them are mapped.
 #[derive(Clone, Copy)]
 pub struct Run {
-    pub walked: Outcome,
+    pub walked: Result<u64, Refusal>,
     pub done: u64,
     pub frames: FrameAllocator,
 }
 
 // The lowest free frame, zeroed.
+#[tactic(auto, unfolding(paging::specs::Pages::fresh_frame))]
 pub fn fresh_frame(words: &mut [u64], bitmap: &mut Marks, frames: FrameAllocator) -> Entered
     requires { RoomToTake (lent_memory words.old bitmap.old frames) 1 }
     ensures { out result.walked (lent_memory words.new bitmap.new result.frames)
         ≡ fresh_frame (lent_memory words.old bitmap.old frames) }
 {
-    let taken = frame::inner::take_frame(bitmap, frames);
-    let answer = taken.answer;
-    let left = taken.frames;
-    match answer {
-        FrameAnswer::NoFrame(n) => Entered {
-            walked: Outcome::Stop(n),
+    let mut left = frames;
+    match frame::inner::take_frame(bitmap, &mut left) {
+        Err(n) => Entered {
+            walked: Err(n),
             frames: left,
         },
-        FrameAnswer::AtFrame(f) => {
+        Ok(f) => {
             tables::zero_frame(words, walk::entry_place(frames.start, f.0, 0));
             Entered {
-                walked: Outcome::Value(f.0),
+                walked: Ok(f.0),
                 frames: left,
             }
         }
@@ -68,11 +67,11 @@ pub fn map_fresh(
     let walked = fresh.walked;
     let left = fresh.frames;
     match walked {
-        Outcome::Stop(n) => Entered {
-            walked: Outcome::Stop(n),
+        Err(n) => Entered {
+            walked: Err(n),
             frames: left,
         },
-        Outcome::Value(f) => {
+        Ok(f) => {
             let e = PageTableEntry::set(PhysAddr(Frame(f).start_address()), writable, user);
             let mapped = mapper::inner::map_entry(
                 words, bitmap, left, up, root, virt, up, user, e.0,
@@ -120,18 +119,18 @@ pub fn map_pages(
         let walked = r.walked;
         left = r.frames;
         match walked {
-            Outcome::Stop(a) => {
+            Err(a) => {
                 return Run {
-                    walked: Outcome::Stop(a),
+                    walked: Err(a),
                     done: i,
                     frames: left,
                 };
             }
-            Outcome::Value(_) => {}
+            Ok(_) => {}
         }
     }
     Run {
-        walked: Outcome::Value(0),
+        walked: Ok(0),
         done: n,
         frames: left,
     }
@@ -143,7 +142,7 @@ pub fn clear_page(words: &mut [u64], frames: FrameAllocator, up: u64, root: Fram
     requires up_le_most_above { up ≤ most_above }
     ensures { (b : List ℕ) → lent_memory words.new b frames ≡ clear_page up (lent_memory words.old b frames) root.0 virt.0 }
 {
-    mapper::inner::unmap_leaf(words, frames.start, frames.total, up, root, virt);
+    let _ = mapper::inner::unmap_leaf(words, frames.start, frames.total, up, root, virt);
 }
 
 // .. and its frame freed.
@@ -162,11 +161,17 @@ pub fn free_page(
     ensures found_value { result.found ≡ page_found up (lent_memory words.old bitmap.old frames) root.0 virt.0 }
 {
     match mapper::inner::unmap_leaf(words, frames.start, frames.total, up, root, virt) {
-        Outcome::Stop(_) => GivenBack {
+        Err(_) => GivenBack {
             found: tallies::none(),
             frames,
         },
-        Outcome::Value(f) => frame::inner::give_back(bitmap, frames, Frame(f)),
+        Ok(f) => {
+            let mut left = frames;
+            GivenBack {
+                found: frame::inner::give_back(bitmap, &mut left, Frame(f)),
+                frames: left,
+            }
+        }
     }
 }
 
@@ -190,11 +195,11 @@ pub fn clear_pages(
 }
 
 // 13 for whatever `map_page` was refused with.
-fn or_failed(a: Answer) -> Outcome
+fn or_failed(a: Result<(), Refusal>) -> Result<u64, Refusal>
     ensures { result ≡ or_failed (as_outcome a) }
 {
     match a {
-        Answer::Met => Outcome::Value(0),
-        Answer::Refused(_) => Outcome::Stop(answer::MAP_PAGE_FAILED),
+        Ok(()) => Ok(0),
+        Err(_) => Err(Refusal::MapPageFailed),
     }
 }

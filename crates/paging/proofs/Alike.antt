@@ -6,40 +6,40 @@ use mathlib.Core.Bool.{Bool, true, false}
 use mathlib.Core.List.{List, [], ◌∷◌}
 use lib.Dec.{ltb}
 use lib.ListN.{length, get_or, take}
+use Rattle.std.specs.Prelude.{Ok, Err, Result}
+use Rattle.answer.specs.declared.Refusal.{Refusal}
+use Rattle.answer.specs.declared.Refusal.TheVariants.{BrokenRecord, NotMapped, TableOutside}
 use Rattle.bits.specs.Bit.{pick, flag, unless}
 use Rattle.answer.specs.Outcomes.{and_then}
-use Rattle.answer.specs.Numbers.{not_mapped, outside, broken_record}
 use Rattle.entry.specs.Entry.{frame_of, index, indices}
 use Rattle.entry.proofs.Writable.{Alike, alike_present, alike_flag, alike_frame}
 use Rattle.frame.specs.Frames.{inside}
-use Rattle.answer.specs.declared.Outcome.{Outcome}
-use Rattle.answer.specs.declared.Outcome.TheVariants.{Value, Stop}
 use Rattle.paging.specs.declared.Leaf.{Leaf}
-use Rattle.paging.specs.declared.Leaf.TheVariants.{Large, NoLeaf}
+use Rattle.paging.specs.declared.Leaf.TheVariants.{Large}
 use Rattle.paging.specs.Walk.{place, present, entry_at, reach, judge, leaf, address}
 use Rattle.paging.specs.Calls.{lent_walk, translate}
 use Rattle.paging.specs.Protect.{page_place}
 
 -- the same stop, or words that differ in bit 1 at most
-abbrev SameStep : Outcome → Outcome → Type 0
-SameStep (Value e) (Value e') = Alike e e'
-SameStep (Stop n) (Stop n') = n ≡ n'
-SameStep (Value e) (Stop n) = ⊥
-SameStep (Stop n) (Value e) = ⊥
+abbrev SameStep : Result ℕ Refusal → Result ℕ Refusal → Type 0
+SameStep (Ok e) (Ok e') = Alike e e'
+SameStep (Err n) (Err n') = n ≡ n'
+SameStep (Ok e) (Err n) = ⊥
+SameStep (Err n) (Ok e) = ⊥
 
 -- .. lead to the same, where what follows does
-same_on : {A : Type 0} (x x' : Outcome) (stop k k' : ℕ → A) → SameStep x x' → ((e e' : ℕ) → Alike e e' → k' e' ≡ k e) → and_then x' stop k' ≡ and_then x stop k
-same_on (Value e) (Value e') stop k k' s h = h e e' s
-same_on (Stop n) (Stop n') stop k k' s h = ap stop (sym s)
-same_on (Value e) (Stop n) stop k k' s h = absurd s
-same_on (Stop n) (Value e) stop k k' s h = absurd s
+same_on : {A : Type 0} (x x' : Result ℕ Refusal) (stop : Refusal → A) (k k' : ℕ → A) → SameStep x x' → ((e e' : ℕ) → Alike e e' → k' e' ≡ k e) → and_then x' stop k' ≡ and_then x stop k
+same_on (Ok e) (Ok e') stop k k' s h = h e e' s
+same_on (Err n) (Err n') stop k k' s h = ap stop (sym s)
+same_on (Ok e) (Err n) stop k k' s h = absurd s
+same_on (Err n) (Ok e) stop k k' s h = absurd s
 
 -- a translation that ends here, or goes on
-judge_alike : (v : ℕ) (is : List ℕ) (e e' : ℕ) (on on' : Leaf) → Alike e e' → address v on' ≡ address v on → address v (judge is e' on') ≡ address v (judge is e on)
+judge_alike : (v : ℕ) (is : List ℕ) (e e' : ℕ) (on on' : Result Leaf Refusal) → Alike e e' → address v on' ≡ address v on → address v (judge is e' on') ≡ address v (judge is e on)
 judge_alike v [] e e' on on' a k = rw (alike_frame a)
 judge_alike v (j ∷ []) e e' on on' a k = rw (alike_flag a 5) (go (flag 7 e))
   where
-    go : (b : Bool) → address v (pick b (Large e') on') ≡ address v (pick b (Large e) on)
+    go : (b : Bool) → address v (pick b (Ok (Large e')) on') ≡ address v (pick b (Ok (Large e)) on)
     go true = rw (alike_frame a)
     go false = k
 judge_alike v (j ∷ l ∷ is) e e' on on' a k = k
@@ -54,18 +54,18 @@ module _ {ws ws' : List ℕ} (h : AlikeWords ws ws') (start total : ℕ) where
   step_alike t i = by-table (inside start total t)
     where
       by_word : (b : Bool) → flag 0 (get_or ws (place start t i) 0) ≡ b
-          → SameStep (pick b (Value (get_or ws (place start t i) 0)) (Stop not_mapped)) (pick (flag 0 (get_or ws' (place start t i) 0)) (Value (get_or ws' (place start t i) 0)) (Stop not_mapped))
+          → SameStep (pick b (Ok (get_or ws (place start t i) 0)) (Err NotMapped)) (pick (flag 0 (get_or ws' (place start t i) 0)) (Ok (get_or ws' (place start t i) 0)) (Err NotMapped))
       by_word true e = rw (alike_present (h.word (place start t i)) ∙ e) (h.word (place start t i))
       by_word false e = rw (alike_present (h.word (place start t i)) ∙ e) refl
 
-      by_index : (b : Bool) → SameStep (pick b (pick (flag 0 (get_or ws (place start t i) 0)) (Value (get_or ws (place start t i) 0)) (Stop not_mapped)) (Stop not_mapped))
-          (pick b (pick (flag 0 (get_or ws' (place start t i) 0)) (Value (get_or ws' (place start t i) 0)) (Stop not_mapped)) (Stop not_mapped))
+      by_index : (b : Bool) → SameStep (pick b (pick (flag 0 (get_or ws (place start t i) 0)) (Ok (get_or ws (place start t i) 0)) (Err NotMapped)) (Err NotMapped))
+          (pick b (pick (flag 0 (get_or ws' (place start t i) 0)) (Ok (get_or ws' (place start t i) 0)) (Err NotMapped)) (Err NotMapped))
       by_index true = by_word (flag 0 (get_or ws (place start t i) 0)) refl
       by_index false = refl
 
       by-table : (b : Bool)
-          → SameStep (pick b (pick (ltb i 512) (pick (flag 0 (get_or ws (place start t i) 0)) (Value (get_or ws (place start t i) 0)) (Stop not_mapped)) (Stop not_mapped)) (Stop outside))
-          (pick b (pick (ltb i 512) (pick (flag 0 (get_or ws' (place start t i) 0)) (Value (get_or ws' (place start t i) 0)) (Stop not_mapped)) (Stop not_mapped)) (Stop outside))
+          → SameStep (pick b (pick (ltb i 512) (pick (flag 0 (get_or ws (place start t i) 0)) (Ok (get_or ws (place start t i) 0)) (Err NotMapped)) (Err NotMapped)) (Err TableOutside))
+          (pick b (pick (ltb i 512) (pick (flag 0 (get_or ws' (place start t i) 0)) (Ok (get_or ws' (place start t i) 0)) (Err NotMapped)) (Err NotMapped)) (Err TableOutside))
       by-table true = by_index (ltb i 512)
       by-table false = refl
 
@@ -73,7 +73,7 @@ module _ {ws ws' : List ℕ} (h : AlikeWords ws ws') (start total : ℕ) where
   unfolding reach
   reach_alike [] t = refl
   reach_alike (i ∷ is) t =
-      same_on (entry_at ws start total t i) (entry_at ws' start total t i) Stop (λ e. reach ws start total (frame_of e) is) (λ e. reach ws' start total (frame_of e) is)
+      same_on (entry_at ws start total t i) (entry_at ws' start total t i) Err (λ e. reach ws start total (frame_of e) is) (λ e. reach ws' start total (frame_of e) is)
       (step_alike t i) (λ e e' a. ap (λ (f : ℕ). reach ws' start total f is) (alike_frame a) ∙ reach_alike is (frame_of e))
 
   -- the page's last entry stands at the same place
@@ -81,13 +81,13 @@ module _ {ws ws' : List ℕ} (h : AlikeWords ws ws') (start total : ℕ) where
   unfolding page_place
   place_alike up root v = rw (reach_alike (take up (indices (suc up) v)) root) (go (reach ws start total root (take up (indices (suc up) v))))
     where
-      go : (x : Outcome)
-          → and_then x Stop (λ t. and_then (entry_at ws' start total t (index 0 v)) Stop (λ _. Value (place start t (index 0 v))))
-          ≡ and_then x Stop (λ t. and_then (entry_at ws start total t (index 0 v)) Stop (λ _. Value (place start t (index 0 v))))
-      go (Value t) =
-          same_on (entry_at ws start total t (index 0 v)) (entry_at ws' start total t (index 0 v)) Stop (λ _. Value (place start t (index 0 v)))
-          (λ _. Value (place start t (index 0 v))) (step_alike t (index 0 v)) (λ _ _ _. refl)
-      go (Stop n) = refl
+      go : (x : Result ℕ Refusal)
+          → and_then {A = Result ℕ Refusal} x Err (λ t. and_then (entry_at ws' start total t (index 0 v)) Err (λ _. Ok (place start t (index 0 v))))
+          ≡ and_then {A = Result ℕ Refusal} x Err (λ t. and_then (entry_at ws start total t (index 0 v)) Err (λ _. Ok (place start t (index 0 v))))
+      go (Ok t) =
+          same_on (entry_at ws start total t (index 0 v)) (entry_at ws' start total t (index 0 v)) Err (λ _. Ok (place start t (index 0 v)))
+          (λ _. Ok (place start t (index 0 v))) (step_alike t (index 0 v)) (λ _ _ _. refl)
+      go (Err n) = refl
 
   leaf_alike : (v : ℕ) (p : List ℕ) (t : ℕ) → address v (leaf ws' start total t p) ≡ address v (leaf ws start total t p)
   unfolding leaf
@@ -95,15 +95,15 @@ module _ {ws ws' : List ℕ} (h : AlikeWords ws ws') (start total : ℕ) where
   leaf_alike v (i ∷ is) t =
       go (entry_at ws start total t i) (entry_at ws' start total t i) (step_alike t i) (λ f. leaf_alike v is f)
     where
-      go : (x x' : Outcome) → SameStep x x' → ((f : ℕ) → address v (leaf ws' start total f is) ≡ address v (leaf ws start total f is))
-          → address v (and_then x' NoLeaf (λ e. judge is e (leaf ws' start total (frame_of e) is))) ≡ address v (and_then x NoLeaf (λ e. judge is e (leaf ws start total (frame_of e) is)))
-      go (Value e) (Value e') a r =
+      go : (x x' : Result ℕ Refusal) → SameStep x x' → ((f : ℕ) → address v (leaf ws' start total f is) ≡ address v (leaf ws start total f is))
+          → address v (and_then x' Err (λ e. judge is e (leaf ws' start total (frame_of e) is))) ≡ address v (and_then x Err (λ e. judge is e (leaf ws start total (frame_of e) is)))
+      go (Ok e) (Ok e') a r =
           judge_alike v is e e' _ _ a (ap (λ (f : ℕ). address v (leaf ws' start total f is)) (alike_frame a) ∙ r (frame_of e))
-      go (Stop n) (Stop n') a r = rw a
-      go (Value e) (Stop n) a r = absurd a
-      go (Stop n) (Value e) a r = absurd a
+      go (Err n) (Err n') a r = rw a
+      go (Ok e) (Err n) a r = absurd a
+      go (Err n) (Ok e) a r = absurd a
 
   pub translate_alike : length ws' ≡ length ws → (levels root v : ℕ) → translate levels ws' start total root v ≡ translate levels ws start total root v
   unfolding translate
   translate_alike n levels root v =
-      rw n (ap (λ (o : Outcome). unless (lent_walk levels (length ws) start total root) (Stop broken_record) o) (leaf_alike v (indices levels v) root))
+      rw n (ap (λ (o : Result ℕ Refusal). unless (lent_walk levels (length ws) start total root) (Err BrokenRecord) o) (leaf_alike v (indices levels v) root))

@@ -5,14 +5,14 @@ use mathlib.Core.Bool.{Bool, true, false}
 use mathlib.Core.List.{List}
 use native.Mathlib.Omega.{arith}
 use lib.ListN.{length}
+use Rattle.std.specs.Prelude.{Ok, Err, Result}
+use Rattle.answer.specs.declared.Refusal.{Refusal}
+use Rattle.answer.specs.declared.Refusal.TheVariants.{HugeUnaligned, BrokenRecord}
 use Rattle.bits.proofs.Choice.{both_true}
-use Rattle.answer.specs.Numbers.{broken_record, huge_unaligned}
 use Rattle.address.specs.Address.{aligned}
 use Rattle.entry.specs.Entry.{entry_of, huge_entry_of, indices}
 use Rattle.frame.specs.Frames.{is_levels, sound}
 use Rattle.frame.proofs.Laws.{levels_least, levels_most, sound_levels, sound_held}
-use Rattle.answer.specs.declared.Outcome.{Outcome}
-use Rattle.answer.specs.declared.Outcome.TheVariants.{Value, Stop}
 use Rattle.paging.specs.declared.HugePageSize.{HugePageSize}
 use Rattle.paging.specs.declared.HugePageSize.TheVariants.{Size2MB, Size1GB}
 use Rattle.paging.specs.Walk.{leaf, address, may_walk}
@@ -22,9 +22,9 @@ use Rattle.paging.specs.Levels.{levels_of, above_last, most_above}
 use Rattle.paging.proofs.Walk.{lent_enough}
 
 -- the two ways of a step
-pub walked_cases : (P : Outcome → Type 0) (w : Outcome) → ((x : ℕ) → w ≡ Value x → P (Value x)) → ((e : ℕ) → w ≡ Stop e → P (Stop e)) → P w
-walked_cases P (Value x) a b = a x refl
-walked_cases P (Stop e) a b = b e refl
+pub walked_cases : (P : Result ℕ Refusal → Type 0) (w : Result ℕ Refusal) → ((x : ℕ) → w ≡ Ok x → P (Ok x)) → ((e : Refusal) → w ≡ Err e → P (Err e)) → P w
+walked_cases P (Ok x) a b = a x refl
+walked_cases P (Err e) a b = b e refl
 
 -- what code says of an outcome, part by part
 pub told : {o p : Out} → o ≡ p → (as_changed p ≡ as_changed o) × ((p.mem.words ≡ o.mem.words) × (p.mem.frames.bits ≡ o.mem.frames.bits))
@@ -85,7 +85,7 @@ module _ (levels len start total root : ℕ) where
     walk_lent = (both_true (is_levels levels) _ h).1
 
 module _ (levels : ℕ) (ws : List ℕ) (start total root v : ℕ) where
-  pub translate_broken : lent_walk levels (length ws) start total root ≡ false → translate levels ws start total root v ≡ Stop broken_record
+  pub translate_broken : lent_walk levels (length ws) start total root ≡ false → translate levels ws start total root v ≡ Err BrokenRecord
   unfolding translate
   translate_broken h = rw h
 
@@ -94,7 +94,7 @@ module _ (levels : ℕ) (ws : List ℕ) (start total root v : ℕ) where
   unfolding translate
   translate_is h = rw h
 
-  pub unmap_broken : lent_walk levels (length ws) start total root ≡ false → unmap_page levels ws start total root v ≡ left (Stop broken_record) ws
+  pub unmap_broken : lent_walk levels (length ws) start total root ≡ false → unmap_page levels ws start total root v ≡ left (Err BrokenRecord) ws
   unfolding unmap_page
   unmap_broken h = rw h
 
@@ -103,7 +103,7 @@ module _ (levels : ℕ) (ws : List ℕ) (start total root v : ℕ) where
   unmap_is h = rw h
 
 module _ (up : ℕ) (m : Memory) (root v p : ℕ) (w u : Bool) where
-  pub map_broken : whole m root ≡ false → map_page up m root v p w u ≡ out (Stop broken_record) m
+  pub map_broken : whole m root ≡ false → map_page up m root v p w u ≡ out (Err BrokenRecord) m
   unfolding map_page
   map_broken h = rw h
 
@@ -112,16 +112,16 @@ module _ (up : ℕ) (m : Memory) (root v p : ℕ) (w u : Bool) where
   map_is h = rw h
 
   module _ (s : HugePageSize) where
-    pub huge_broken : whole m root ≡ false → map_huge up m root v p s w u ≡ out (Stop broken_record) m
+    pub huge_broken : whole m root ≡ false → map_huge up m root v p s w u ≡ out (Err BrokenRecord) m
     unfolding map_huge
     huge_broken h = rw h
 
     module _ (h : whole m root ≡ true) where
-      pub huge_virt : aligned v (size_of s) ≡ false → map_huge up m root v p s w u ≡ out (Stop huge_unaligned) m
+      pub huge_virt : aligned v (size_of s) ≡ false → map_huge up m root v p s w u ≡ out (Err HugeUnaligned) m
       unfolding map_huge
       huge_virt a = rw (h, a)
 
-      pub huge_phys : aligned v (size_of s) ≡ true → aligned p (size_of s) ≡ false → map_huge up m root v p s w u ≡ out (Stop huge_unaligned) m
+      pub huge_phys : aligned v (size_of s) ≡ true → aligned p (size_of s) ≡ false → map_huge up m root v p s w u ≡ out (Err HugeUnaligned) m
       unfolding map_huge
       huge_phys a b = rw (h, a, b)
 

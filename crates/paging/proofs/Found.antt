@@ -8,6 +8,8 @@ use native.Mathlib.Omega.{arith}
 use lib.Arith.{lt_of_le-ne}
 use lib.ListN.{get_or, set, take}
 use lib.Seq.{get_or-set_other}
+use Rattle.std.specs.Prelude.{Ok, Err, Result}
+use Rattle.answer.specs.declared.Refusal.{Refusal}
 use Rattle.bits.specs.Bit.{one, flag}
 use Rattle.bits.proofs.Choice.{pick_cases}
 use Rattle.bitmap.proofs.Marks.{count_unmark}
@@ -20,8 +22,6 @@ use Rattle.frame.specs.Frames.{FramesDid, inside, without_mark, give_frame}
 use Rattle.frame.specs.Found.{tally, none_found, one_found, and_found, all_found}
 use Rattle.frame.proofs.Laws.{inside_under, give_cases}
 use Rattle.answer.specs.Outcomes.{and_then}
-use Rattle.answer.specs.declared.Outcome.{Outcome}
-use Rattle.answer.specs.declared.Outcome.TheVariants.{Value, Stop}
 use Rattle.paging.specs.Walk.{place, reach}
 use Rattle.paging.specs.Map.{Memory, memory, start_frame, total_of, Left, left, take_leaf, unmap_entry}
 use Rattle.paging.specs.Pages.{unmap_leaf, freed, free_page, free_pages}
@@ -122,11 +122,11 @@ module _ (m : Memory) (t i : ℕ) (ins : inside (start_frame m) (total_of m) t �
 
 -- .. by what the leaf's clearing gave
 module _ (up : ℕ) (m : Memory) (root v : ℕ) where
-  pub page_found_none : (n : ℕ) (ws : List ℕ) → unmap_leaf up m root v ≡ left (Stop n) ws → page_found up m root v ≡ none_found
+  pub page_found_none : (n : Refusal) (ws : List ℕ) → unmap_leaf up m root v ≡ left (Err n) ws → page_found up m root v ≡ none_found
   unfolding page_found
   page_found_none n ws e = rw e
 
-  pub page_found_lem : (f : ℕ) (ws : List ℕ) → unmap_leaf up m root v ≡ left (Value f) ws → page_found up m root v ≡ one_found (give_frame m.frames f).answer
+  pub page_found_lem : (f : ℕ) (ws : List ℕ) → unmap_leaf up m root v ≡ left (Ok f) ws → page_found up m root v ≡ one_found (give_frame m.frames f).answer
   unfolding page_found
   page_found_lem f ws e = rw e
 
@@ -143,10 +143,10 @@ pub page_tells : (up : ℕ) (m : Memory) (root v : ℕ) → Tells m (free_page u
 unfolding free_page page_found unmap_entry
 page_tells up m root v = by (reach m.words (start_frame m) (total_of m) root (take up (indices (suc up) v)))
   where
-    by : (w : Outcome) → let l = and_then w (λ n. left (Stop n) m.words) (λ t. take_leaf m.words (start_frame m) (total_of m) t (get_or (indices (suc up) v) up 0)) in
+    by : (w : Result ℕ Refusal) → let l = and_then w (λ n. left (Err n) m.words) (λ t. take_leaf m.words (start_frame m) (total_of m) t (get_or (indices (suc up) v) up 0)) in
         Tells m (memory l.words (freed l.walked m.frames)) (frame_found l.walked m.frames)
-    by (Value t) = take_tells m t (get_or (indices (suc up) v) up 0) (indices_lt (suc up) v up)
-    by (Stop n) = tells_none m
+    by (Ok t) = take_tells m t (get_or (indices (suc up) v) up 0) (indices_lt (suc up) v up)
+    by (Err n) = tells_none m
 
 -- whatever frees the page and finds the same tells
 pub page_told : (up : ℕ) (m : Memory) (root v : ℕ) {m' : Memory} {t : Tally} → m' ≡ free_page up m root v → t ≡ page_found up m root v → Tells m m' t
@@ -173,9 +173,9 @@ module _ (up : ℕ) (m : Memory) (root v : ℕ) where
   unfolding page_found
   page_unmapped = by (unmap_leaf up m root v).walked
     where
-      by : (w : Outcome) → all_found (frame_found w m.frames) ≡ and_then w (λ _. 0) (λ _. 1)
-      by (Value f) = one_all (give_frame m.frames f).answer
-      by (Stop a) = refl
+      by : (w : Result ℕ Refusal) → all_found (frame_found w m.frames) ≡ and_then w (λ _. 0) (λ _. 1)
+      by (Ok f) = one_all (give_frame m.frames f).answer
+      by (Err a) = refl
 
   -- the words do not hang on the frames
   words_freed : (free_page up m root v).words ≡ (unmap_leaf up m root v).words

@@ -7,31 +7,29 @@ use native.Mathlib.Omega.{arith}
 use native.Mathlib.Numerals.{add-one}
 use native.Mathlib.Decide.{dec_lt}
 use lib.ListN.{length, get_or, set, length-set}
+use Rattle.std.specs.Prelude.{Ok, Err, Result}
+use Rattle.answer.specs.declared.Refusal.{Refusal}
+use Rattle.answer.specs.declared.Refusal.TheVariants.{NoFreeFrame, AlreadyMapped, NotMapped, TableOutside}
 use Rattle.bits.specs.Bit.{pick, flag}
 use Rattle.bits.proofs.Choice.{pick_cases}
 use Rattle.answer.specs.Outcomes.{and_then}
-use Rattle.answer.specs.Numbers.{no_free_frame, already_mapped, not_mapped, outside}
 use Rattle.address.specs.declared.Frame.{Frame}
-use Rattle.address.specs.declared.FrameAnswer.{FrameAnswer}
-use Rattle.address.specs.declared.FrameAnswer.TheVariants.{AtFrame, NoFrame}
 use Rattle.bitmap.specs.Bitmap.{marked}
 use Rattle.entry.specs.Entry.{frame_of, entry_of}
 use Rattle.frame.specs.Frames.{Frames, FramesDid, inside, with_mark, take_frame}
 use Rattle.frame.proofs.Laws.{inside_yes, take_cases}
-use Rattle.answer.specs.declared.Outcome.{Outcome}
-use Rattle.answer.specs.declared.Outcome.TheVariants.{Value, Stop}
 use Rattle.paging.specs.Walk.{place, entry_at, reach, WordsLent}
 use Rattle.paging.specs.Map.{Memory, memory, start_frame, total_of, Out, out, go_on, clear, zero_frame, new_table, create, below, enter, make, Left, left, put_entry, with_words, map_entry, take_leaf, unmap_entry, RoomToTake}
 use Rattle.paging.proofs.Walk.{no_value, present_yes, present_no, entry_out, entry_past, entry_in, reach_stop, reach_on}
 
 -- both ways on from a step
 pub go_on_cases : (P : Out → Type 0) (o : Out) (k : ℕ → Memory → Out)
-    → ((n : ℕ) → o.walked ≡ Stop n → P (out (Stop n) o.mem)) → ((x : ℕ) → o.walked ≡ Value x → P (k x o.mem)) → P (go_on o k)
+    → ((n : Refusal) → o.walked ≡ Err n → P (out (Err n) o.mem)) → ((x : ℕ) → o.walked ≡ Ok x → P (k x o.mem)) → P (go_on o k)
 go_on_cases P o k a b = go o.walked refl
   where
-    go : (w : Outcome) → o.walked ≡ w → P (and_then w (λ n m. out (Stop n) m) k o.mem)
-    go (Stop n) e = a n e
-    go (Value x) e = b x e
+    go : (w : Result ℕ Refusal) → o.walked ≡ w → P (and_then w (λ n m. out (Err n) m) k o.mem)
+    go (Err n) e = a n e
+    go (Ok x) e = b x e
 
 -- ---- words set to 0
 
@@ -68,31 +66,31 @@ pub length_linked : (u : Bool) (ws : List ℕ) (start p f : ℕ) → length (lin
 length_linked u ws start p f = length-set (zero_frame ws start f) p _ ∙ length_zero ws start f
 
 -- a frame that was taken is one of those lent
-pub taken_inside : (fr : Frames) (f : Frame) → (take_frame fr).answer ≡ AtFrame f → inside fr.fa.start fr.fa.total f.0 ≡ true
+pub taken_inside : (fr : Frames) (f : Frame) → (take_frame fr).answer ≡ Ok f → inside fr.fa.start fr.fa.total f.0 ≡ true
 taken_inside fr f =
-    take_cases fr (λ (d : FramesDid FrameAnswer). d.answer ≡ AtFrame f → inside fr.fa.start fr.fa.total f.0 ≡ true)
+    take_cases fr (λ (d : FramesDid (Result Frame Refusal)). d.answer ≡ Ok f → inside fr.fa.start fr.fa.total f.0 ≡ true)
     (λ j h _ _ e. let n : fr.fa.start + j ≡ f.0 = cc in inside_yes fr.fa.start fr.fa.total f.0 (omega arith) (omega arith))
     (λ _ e. let z : ◌≡◌ {A = ℕ} 0 1 = cc in absurd (omega arith))
 
 module _ (u : Bool) (m : Memory) (p : ℕ) where
-  pub create_new : (f : Frame) → (take_frame m.frames).answer ≡ AtFrame f
-      → create u m p ≡ out (Value f.0) (memory (linked u m.words (start_frame m) p f.0) (take_frame m.frames).frames)
+  pub create_new : (f : Frame) → (take_frame m.frames).answer ≡ Ok f
+      → create u m p ≡ out (Ok f.0) (memory (linked u m.words (start_frame m) p f.0) (take_frame m.frames).frames)
   unfolding create
   create_new f e = rw e
 
-  pub create_full : (n : ℕ) → (take_frame m.frames).answer ≡ NoFrame n → create u m p ≡ out (Stop n) (memory m.words (take_frame m.frames).frames)
+  pub create_full : (n : Refusal) → (take_frame m.frames).answer ≡ Err n → create u m p ≡ out (Err n) (memory m.words (take_frame m.frames).frames)
   unfolding create
   create_full n e = rw e
 
 module _ (u : Bool) (m : Memory) (t i : ℕ) where
-  pub enter_out : inside (start_frame m) (total_of m) t ≡ false → enter u m t i ≡ out (Stop outside) m
+  pub enter_out : inside (start_frame m) (total_of m) t ≡ false → enter u m t i ≡ out (Err TableOutside) m
   unfolding enter
   enter_out h = rw h
 
   module _ (h : inside (start_frame m) (total_of m) t ≡ true) where
     -- 'Present tables keep their bits'
     pub enter_there : flag 0 (get_or m.words (place (start_frame m) t i) 0) ≡ true
-        → enter u m t i ≡ out (Value (frame_of (get_or m.words (place (start_frame m) t i) 0))) m
+        → enter u m t i ≡ out (Ok (frame_of (get_or m.words (place (start_frame m) t i) 0))) m
     unfolding enter below
     enter_there k = rw (h, k)
 
@@ -102,19 +100,19 @@ module _ (u : Bool) (m : Memory) (t i : ℕ) where
 
   -- every outcome of an entered table: outside, there already, a new one in the lowest free frame, or no frame left
   pub enter_cases : (P : Out → Type 0)
-      → (inside (start_frame m) (total_of m) t ≡ false → P (out (Stop outside) m))
-      → (inside (start_frame m) (total_of m) t ≡ true → flag 0 (get_or m.words (place (start_frame m) t i) 0) ≡ true → P (out (Value (frame_of (get_or m.words (place (start_frame m) t i) 0))) m))
+      → (inside (start_frame m) (total_of m) t ≡ false → P (out (Err TableOutside) m))
+      → (inside (start_frame m) (total_of m) t ≡ true → flag 0 (get_or m.words (place (start_frame m) t i) 0) ≡ true → P (out (Ok (frame_of (get_or m.words (place (start_frame m) t i) 0))) m))
       → (inside (start_frame m) (total_of m) t ≡ true → flag 0 (get_or m.words (place (start_frame m) t i) 0) ≡ false
       → (j : ℕ) → j < total_of m → marked m.frames.bits j ≡ 0 → ((k : ℕ) → k < j → marked m.frames.bits k ≡ 1)
-      → P (out (Value (start_frame m + j)) (memory (linked u m.words (start_frame m) (place (start_frame m) t i) (start_frame m + j)) (with_mark m.frames j))))
+      → P (out (Ok (start_frame m + j)) (memory (linked u m.words (start_frame m) (place (start_frame m) t i) (start_frame m + j)) (with_mark m.frames j))))
       → (inside (start_frame m) (total_of m) t ≡ true → flag 0 (get_or m.words (place (start_frame m) t i) 0) ≡ false
-      → ((k : ℕ) → k < total_of m → marked m.frames.bits k ≡ 1) → P (out (Stop no_free_frame) m))
+      → ((k : ℕ) → k < total_of m → marked m.frames.bits k ≡ 1) → P (out (Err NoFreeFrame) m))
       → P (enter u m t i)
   unfolding enter below create
   enter_cases P a b c d =
       pick_cases P (inside (start_frame m) (total_of m) t) _ _
       (λ h. pick_cases P (flag 0 (get_or m.words (place (start_frame m) t i) 0)) _ _ (b h)
-      (λ k. take_cases m.frames (λ (r : FramesDid FrameAnswer). P (new_table u m (place (start_frame m) t i) r.answer r.frames)) (c h k) (d h k))) a
+      (λ k. take_cases m.frames (λ (r : FramesDid (Result Frame Refusal)). P (new_table u m (place (start_frame m) t i) r.answer r.frames)) (c h k) (d h k))) a
 
 -- ---- what no step changes: the frames lent, and the number of words
 
@@ -159,29 +157,29 @@ enter_roomy u m t i n r =
 -- ---- the tables along a path
 
 module _ (u : Bool) (m : Memory) (t : ℕ) {p : List ℕ} where
-  pub make_end : p ≡ [] → make u m t p ≡ out (Value t) m
+  pub make_end : p ≡ [] → make u m t p ≡ out (Ok t) m
   unfolding make
   make_end c = rw c
 
   module _ {i : ℕ} {is : List ℕ} (c : p ≡ i ∷ is) (m' : Memory) where
-    pub make_stop : (n : ℕ) → enter u m t i ≡ out (Stop n) m' → make u m t p ≡ out (Stop n) m'
+    pub make_stop : (n : Refusal) → enter u m t i ≡ out (Err n) m' → make u m t p ≡ out (Err n) m'
     unfolding make
     make_stop n e = rw (c, e)
 
-    pub make_on : (f : ℕ) → enter u m t i ≡ out (Value f) m' → make u m t p ≡ make u m' f is
+    pub make_on : (f : ℕ) → enter u m t i ≡ out (Ok f) m' → make u m t p ≡ make u m' f is
     unfolding make
     make_on f e = rw (c, e)
 
 -- tables that are all there are only passed
-pub make_there : (u : Bool) (m : Memory) (t f : ℕ) (p : List ℕ) → reach m.words (start_frame m) (total_of m) t p ≡ Value f → make u m t p ≡ out (Value f) m
+pub make_there : (u : Bool) (m : Memory) (t f : ℕ) (p : List ℕ) → reach m.words (start_frame m) (total_of m) t p ≡ Ok f → make u m t p ≡ out (Ok f) m
 unfolding reach make
-make_there u m t f [] h = ap (λ (w : Outcome). out w m) h
+make_there u m t f [] h = ap (λ (w : Result ℕ Refusal). out w m) h
 make_there u m t f (i ∷ is) h =
-    enter_cases u m t i (λ (o : Out). go_on o (λ t' m'. make u m' t' is) ≡ out (Value f) m) (λ a. absurd (stuck outside (entry_out _ _ _ _ _ a)))
+    enter_cases u m t i (λ (o : Out). go_on o (λ t' m'. make u m' t' is) ≡ out (Ok f) m) (λ a. absurd (stuck TableOutside (entry_out _ _ _ _ _ a)))
     (λ a b. make_there u m (frame_of (get_or m.words (place (start_frame m) t i) 0)) f is (sym (reach_on _ _ _ _ {is = is} refl _ (entry_in _ _ _ _ _ a (small a) ∙ present_yes _ b)) ∙ h))
     (λ a b _ _ _ _. absurd (absent a b)) (λ a b _. absurd (absent a b))
   where
-    stuck : (n : ℕ) → entry_at m.words (start_frame m) (total_of m) t i ≡ Stop n → ⊥
+    stuck : (n : Refusal) → entry_at m.words (start_frame m) (total_of m) t i ≡ Err n → ⊥
     stuck n q = no_value (sym h ∙ reach_stop m.words (start_frame m) (total_of m) t {is = is} refl n q)
 
     small : inside (start_frame m) (total_of m) t ≡ true → i < 512
@@ -189,10 +187,10 @@ make_there u m t f (i ∷ is) h =
       where
         go : Dec (i < 512) → i < 512
         go (yes l) = l
-        go (no l) = absurd (stuck not_mapped (entry_past _ _ _ _ _ a (omega arith)))
+        go (no l) = absurd (stuck NotMapped (entry_past _ _ _ _ _ a (omega arith)))
 
     absent : inside (start_frame m) (total_of m) t ≡ true → flag 0 (get_or m.words (place (start_frame m) t i) 0) ≡ false → ⊥
-    absent a b = stuck not_mapped (entry_in _ _ _ _ _ a (small a) ∙ present_no _ b)
+    absent a b = stuck NotMapped (entry_in _ _ _ _ _ a (small a) ∙ present_no _ b)
 
 pub make_kept : (u : Bool) (p : List ℕ) (m : Memory) (t : ℕ) → KeptSpan m (make u m t p).mem
 unfolding make
@@ -218,16 +216,16 @@ store_length n true false a b c x y z = y
 store_length n false t a b c x y z = z
 
 module _ (ws : List ℕ) (start total t i e : ℕ) where
-  pub put_out : inside start total t ≡ false → put_entry ws start total t i e ≡ left (Stop outside) ws
+  pub put_out : inside start total t ≡ false → put_entry ws start total t i e ≡ left (Err TableOutside) ws
   unfolding put_entry
   put_out h = rw h
 
-  pub put_full : inside start total t ≡ true → flag 0 (get_or ws (place start t i) 0) ≡ true → put_entry ws start total t i e ≡ left (Stop already_mapped) ws
+  pub put_full : inside start total t ≡ true → flag 0 (get_or ws (place start t i) 0) ≡ true → put_entry ws start total t i e ≡ left (Err AlreadyMapped) ws
   unfolding put_entry
   put_full h k = rw (h, k)
 
   pub put_free : inside start total t ≡ true → flag 0 (get_or ws (place start t i) 0) ≡ false
-      → put_entry ws start total t i e ≡ left (Value 0) (set ws (place start t i) e)
+      → put_entry ws start total t i e ≡ left (Ok 0) (set ws (place start t i) e)
   unfolding put_entry
   put_free h k = rw (h, k)
 
@@ -236,16 +234,16 @@ module _ (ws : List ℕ) (start total t i e : ℕ) where
   put_length = store_length (length ws) (inside start total t) (flag 0 (get_or ws (place start t i) 0)) _ _ _ refl (length-set ws _ e) refl
 
 module _ (ws : List ℕ) (start total t i : ℕ) where
-  pub take_leaf_out : inside start total t ≡ false → take_leaf ws start total t i ≡ left (Stop outside) ws
+  pub take_leaf_out : inside start total t ≡ false → take_leaf ws start total t i ≡ left (Err TableOutside) ws
   unfolding take_leaf
   take_leaf_out h = rw h
 
-  pub take_leaf_none : inside start total t ≡ true → flag 0 (get_or ws (place start t i) 0) ≡ false → take_leaf ws start total t i ≡ left (Stop not_mapped) ws
+  pub take_leaf_none : inside start total t ≡ true → flag 0 (get_or ws (place start t i) 0) ≡ false → take_leaf ws start total t i ≡ left (Err NotMapped) ws
   unfolding take_leaf
   take_leaf_none h k = rw (h, k)
 
   pub take_leaf_there : inside start total t ≡ true → flag 0 (get_or ws (place start t i) 0) ≡ true
-      → take_leaf ws start total t i ≡ left (Value (frame_of (get_or ws (place start t i) 0))) (set ws (place start t i) 0)
+      → take_leaf ws start total t i ≡ left (Ok (frame_of (get_or ws (place start t i) 0))) (set ws (place start t i) 0)
   unfolding take_leaf
   take_leaf_there h k = rw (h, k)
 
@@ -256,11 +254,11 @@ module _ (ws : List ℕ) (start total t i : ℕ) where
 -- ---- a word for an address, and a leaf cleared
 
 module _ (u : Bool) (m : Memory) (root : ℕ) (path : List ℕ) (i e : ℕ) where
-  pub map_entry_stop : (n : ℕ) (m' : Memory) → make u m root path ≡ out (Stop n) m' → map_entry u m root path i e ≡ out (Stop n) m'
+  pub map_entry_stop : (n : Refusal) (m' : Memory) → make u m root path ≡ out (Err n) m' → map_entry u m root path i e ≡ out (Err n) m'
   unfolding map_entry
   map_entry_stop n m' h = rw h
 
-  pub map_entry_put : (t : ℕ) (m' : Memory) → make u m root path ≡ out (Value t) m'
+  pub map_entry_put : (t : ℕ) (m' : Memory) → make u m root path ≡ out (Ok t) m'
       → map_entry u m root path i e ≡ with_words m' (put_entry m'.words (start_frame m') (total_of m') t i e)
   unfolding map_entry
   map_entry_put t m' h = rw h
@@ -280,11 +278,11 @@ module _ (u : Bool) (m : Memory) (root : ℕ) (path : List ℕ) (i e : ℕ) wher
       (λ t _. record { enough = subst (λ (x : ℕ). total_of (make u m root path).mem * 512 ≤ x) (sym (put_length _ _ _ t i e)) q.enough; held = q.held })
 
 module _ (ws : List ℕ) (start total root : ℕ) (path : List ℕ) (i : ℕ) where
-  pub unmap_entry_stop : (n : ℕ) → reach ws start total root path ≡ Stop n → unmap_entry ws start total root path i ≡ left (Stop n) ws
+  pub unmap_entry_stop : (n : Refusal) → reach ws start total root path ≡ Err n → unmap_entry ws start total root path i ≡ left (Err n) ws
   unfolding unmap_entry
   unmap_entry_stop n h = rw h
 
-  pub unmap_entry_take : (t : ℕ) → reach ws start total root path ≡ Value t → unmap_entry ws start total root path i ≡ take_leaf ws start total t i
+  pub unmap_entry_take : (t : ℕ) → reach ws start total root path ≡ Ok t → unmap_entry ws start total root path i ≡ take_leaf ws start total t i
   unfolding unmap_entry
   unmap_entry_take t h = rw h
 
@@ -292,6 +290,6 @@ module _ (ws : List ℕ) (start total root : ℕ) (path : List ℕ) (i : ℕ) wh
   unfolding unmap_entry
   unmap_entry_length = go (reach ws start total root path)
     where
-      go : (w : Outcome) → length (and_then w (λ n. left (Stop n) ws) (λ t. take_leaf ws start total t i)).words ≡ length ws
-      go (Value t) = take_leaf_length ws start total t i
-      go (Stop n) = refl
+      go : (w : Result ℕ Refusal) → length (and_then w (λ n. left (Err n) ws) (λ t. take_leaf ws start total t i)).words ≡ length ws
+      go (Ok t) = take_leaf_length ws start total t i
+      go (Err n) = refl

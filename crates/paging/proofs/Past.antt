@@ -7,17 +7,17 @@ use native.Mathlib.Omega.{arith}
 use lib.Dec.{ltb}
 use lib.ListN.{length, get_or, set, take, length-set}
 use lib.Seq.{get_or-set_other}
+use Rattle.std.specs.Prelude.{Ok, Err, Result}
+use Rattle.answer.specs.declared.Refusal.{Refusal}
+use Rattle.address.specs.declared.Frame.{Frame}
 use Rattle.bits.specs.Bit.{flag}
 use Rattle.bits.proofs.Choice.{pick_cases}
-use Rattle.address.specs.declared.FrameAnswer.{FrameAnswer}
 use Rattle.entry.specs.Entry.{index, indices, with_writable}
 use Rattle.entry.proofs.Entry.{indices_lt}
 use Rattle.frame.specs.Frames.{FramesDid, inside}
 use Rattle.frame.proofs.Laws.{inside_under, take_cases}
 use Rattle.frame.proofs.Steps.{span_with, span_give}
 use Rattle.answer.specs.Outcomes.{and_then}
-use Rattle.answer.specs.declared.Outcome.{Outcome}
-use Rattle.answer.specs.declared.Outcome.TheVariants.{Value, Stop}
 use Rattle.paging.specs.Walk.{place, present, entry_at, reach}
 use Rattle.paging.specs.Map.{Memory, memory, start_frame, total_of, Out, out, go_on, clear, zero_frame, enter, make, Left, left, put_entry, map_entry, take_leaf, unmap_entry}
 use Rattle.paging.specs.Calls.{map_at}
@@ -93,7 +93,7 @@ pub stays_words : (m : Memory) (ws : List ℕ) → Past (total_of m * 512) m.wor
 stays_words m ws h = record { start = refl; total = refl; levels = refl; words = h }
 
 -- what follows a step
-pub stays_on : (m : Memory) (o : Out) (k : ℕ → Memory → Out) → Stays m o.mem → ((x : ℕ) → o.walked ≡ Value x → Stays o.mem (k x o.mem).mem) → Stays m (go_on o k).mem
+pub stays_on : (m : Memory) (o : Out) (k : ℕ → Memory → Out) → Stays m o.mem → ((x : ℕ) → o.walked ≡ Ok x → Stays o.mem (k x o.mem).mem) → Stays m (go_on o k).mem
 stays_on m o k a b = go_on_cases (λ (r : Out). Stays m r.mem) o k (λ _ _. a) (λ x e. stays_then a (b x e))
 
 -- ---- tables made along a path
@@ -138,9 +138,9 @@ pub past_unmap : (ws : List ℕ) (start total root : ℕ) (path : List ℕ) (i :
 unfolding unmap_entry
 past_unmap ws start total root path i small = go (reach ws start total root path)
   where
-    go : (w : Outcome) → Past (total * 512) ws (and_then w (λ n. left (Stop n) ws) (λ t. take_leaf ws start total t i)).words
-    go (Value t) = past_take_leaf ws start total t i small
-    go (Stop n) = past_same _ ws
+    go : (w : Result ℕ Refusal) → Past (total * 512) ws (and_then w (λ n. left (Err n) ws) (λ t. take_leaf ws start total t i)).words
+    go (Ok t) = past_take_leaf ws start total t i small
+    go (Err n) = past_same _ ws
 
 -- ---- an entry for an address
 
@@ -158,7 +158,7 @@ stays_map_at up k u m root v e =
 pub stays_fresh : (m : Memory) → Stays m (fresh_frame m).mem
 unfolding fresh_frame
 stays_fresh m =
-    take_cases m.frames (λ (d : FramesDid FrameAnswer). Stays m (zeroed m d.answer d.frames).mem)
+    take_cases m.frames (λ (d : FramesDid (Result Frame Refusal)). Stays m (zeroed m d.answer d.frames).mem)
     (λ j l _ _. record {
       start = (span_with m.frames j).start;
       total = (span_with m.frames j).total;
@@ -179,13 +179,13 @@ stays_map_pages up w u root (suc n) m v k = go (map_fresh up w u m root v).walke
     first : Stays m (map_fresh up w u m root v).mem
     first = stays_map_fresh up w u m root v
 
-    came : {x : Outcome} → (map_fresh up w u m root v).walked ≡ x → map_fresh up w u m root v ≡ out x (map_fresh up w u m root v).mem
+    came : {x : Result ℕ Refusal} → (map_fresh up w u m root v).walked ≡ x → map_fresh up w u m root v ≡ out x (map_fresh up w u m root v).mem
     came e = λ j. out (e j) (map_fresh up w u m root v).mem
 
-    go : (x : Outcome) → (map_fresh up w u m root v).walked ≡ x → Stays (map_fresh up w u m root v).mem (map_pages up w u (map_fresh up w u m root v).mem root (v + 4096) (suc k) n).mem
+    go : (x : Result ℕ Refusal) → (map_fresh up w u m root v).walked ≡ x → Stays (map_fresh up w u m root v).mem (map_pages up w u (map_fresh up w u m root v).mem root (v + 4096) (suc k) n).mem
         → Stays m (map_pages up w u m root v k (suc n)).mem
-    go (Value y) e later = rw (map_pages_on up w u m root v k n _ y (came e)) (stays_then first later)
-    go (Stop a) e later = rw (map_pages_stop up w u m root v k n _ a (came e)) first
+    go (Ok y) e later = rw (map_pages_on up w u m root v k n _ y (came e)) (stays_then first later)
+    go (Err a) e later = rw (map_pages_stop up w u m root v k n _ a (came e)) first
 
 module _ (up : ℕ) (m : Memory) (root v : ℕ) where
   unmapped : Past (total_of m * 512) m.words (unmap_leaf up m root v).words
@@ -199,9 +199,9 @@ module _ (up : ℕ) (m : Memory) (root v : ℕ) where
   unfolding free_page
   stays_free_page = by (unmap_leaf up m root v).walked
     where
-      by : (w : Outcome) → Stays m (memory (unmap_leaf up m root v).words (freed w m.frames))
-      by (Value f) = record { start = (span_give m.frames f).start; total = (span_give m.frames f).total; levels = (span_give m.frames f).levels; words = unmapped }
-      by (Stop a) = stays_words m _ unmapped
+      by : (w : Result ℕ Refusal) → Stays m (memory (unmap_leaf up m root v).words (freed w m.frames))
+      by (Ok f) = record { start = (span_give m.frames f).start; total = (span_give m.frames f).total; levels = (span_give m.frames f).levels; words = unmapped }
+      by (Err a) = stays_words m _ unmapped
 
 pub stays_clear_pages : (up root n : ℕ) (m : Memory) (v : ℕ) → Stays m (clear_pages up m root v n)
 unfolding clear_pages
@@ -223,17 +223,17 @@ module _ (up : ℕ) (w : Bool) (start total root : ℕ) where
       i : ℕ
       i = index 0 v
 
-      stored : Outcome → List ℕ
+      stored : Result ℕ Refusal → List ℕ
       stored o = and_then o (λ _. ws) (λ x. set ws x (with_writable w (get_or ws x 0)))
 
-      by-table : (o : Outcome) → Past (total * 512) ws (stored (and_then o Stop (λ t. and_then (entry_at ws start total t i) Stop (λ _. Value (place start t i)))))
-      by-table (Value t) =
-          let P : Outcome → Type 0 = λ o. Past (total * 512) ws (stored (and_then o Stop (λ _. Value (place start t i)))) in
+      by-table : (o : Result ℕ Refusal) → Past (total * 512) ws (stored (and_then o Err (λ t. and_then (entry_at ws start total t i) Err (λ _. Ok (place start t i)))))
+      by-table (Ok t) =
+          let P : Result ℕ Refusal → Type 0 = λ o. Past (total * 512) ws (stored (and_then o Err (λ _. Ok (place start t i)))) in
           pick_cases P (inside start total t) _ _
           (λ h. pick_cases P (ltb i 512) _ _
           (λ _. pick_cases P (flag 0 (get_or ws (place start t i) 0)) _ _ (λ _. past_entry ws start total t i _ h (omega arith)) (λ _. past_same _ ws)) (λ _. past_same _ ws))
           (λ _. past_same _ ws)
-      by-table (Stop n) = past_same _ ws
+      by-table (Err n) = past_same _ ws
 
   pub past_protect_pages : (n : ℕ) (ws : List ℕ) (v : ℕ) → Past (total * 512) ws (protect_pages up w ws start total root v n)
   unfolding protect_pages

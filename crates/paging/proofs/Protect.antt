@@ -11,16 +11,16 @@ use lib.Dec.{ltb}
 use lib.ListN.{length, get_or, set, take, length-set, get_or-eq_default}
 use lib.Seq.{set_out, set-get_or, get_or-set_same, get_or-set_other}
 use borrow.Author.Tests.{lt-ltb}
+use Rattle.std.specs.Prelude.{Ok, Err, Result}
+use Rattle.answer.specs.declared.Refusal.{Refusal}
+use Rattle.answer.specs.declared.Refusal.TheVariants.{NotMapped, TableOutside}
 use Rattle.bits.specs.Bit.{pick, flag}
 use Rattle.bits.proofs.Choice.{pick_cases}
 use Rattle.answer.specs.Outcomes.{and_then}
-use Rattle.answer.specs.Numbers.{not_mapped, outside}
 use Rattle.entry.specs.Entry.{frame_of, index, indices, with_writable}
 use Rattle.entry.proofs.Entry.{flag_zero, index_last}
 use Rattle.entry.proofs.Writable.{Alike, alike_same, writable_alike, writable_flag, writable_same}
 use Rattle.frame.specs.Frames.{inside}
-use Rattle.answer.specs.declared.Outcome.{Outcome}
-use Rattle.answer.specs.declared.Outcome.TheVariants.{Value, Stop}
 use Rattle.paging.specs.Walk.{place, present, entry_at, reach}
 use Rattle.paging.specs.Map.{left, take_leaf, unmap_entry}
 use Rattle.paging.specs.Calls.{unmap_at}
@@ -73,24 +73,24 @@ toward_set w ws x = record { number = length-set ws x _; each = λ y. go y (ℕ_
 
 module _ (ws : List ℕ) (start total : ℕ) where
   -- its last entry is present, so that its word is one of those lent
-  pub place_present : (up root v x : ℕ) → page_place up ws start total root v ≡ Value x → flag 0 (get_or ws x 0) ≡ true
+  pub place_present : (up root v x : ℕ) → page_place up ws start total root v ≡ Ok x → flag 0 (get_or ws x 0) ≡ true
   unfolding page_place entry_at present
   place_present up root v x h = by-table (reach ws start total root (take up (indices (suc up) v))) h
     where
-      by_word : (t i : ℕ) → and_then (entry_at ws start total t i) Stop (λ _. Value (place start t i)) ≡ Value x → flag 0 (get_or ws x 0) ≡ true
+      by_word : (t i : ℕ) → and_then (entry_at ws start total t i) Err (λ _. Ok (place start t i)) ≡ Ok x → flag 0 (get_or ws x 0) ≡ true
       by_word t i =
-          let P : Outcome → Type 0 = λ o. and_then o Stop (λ _. Value (place start t i)) ≡ Value x → flag 0 (get_or ws x 0) ≡ true in
+          let P : Result ℕ Refusal → Type 0 = λ o. and_then o Err (λ _. Ok (place start t i)) ≡ Ok x → flag 0 (get_or ws x 0) ≡ true in
           pick_cases P (inside start total t) _ _
           (λ _. pick_cases P (ltb i 512) _ _
           (λ _. pick_cases P (flag 0 (get_or ws (place start t i) 0)) _ _
           (λ c g. let at : place start t i ≡ x = cc in subst (λ (n : ℕ). flag 0 (get_or ws n 0) ≡ true) at c)
           (λ _ g. absurd (no_value (sym g)))) (λ _ g. absurd (no_value (sym g)))) (λ _ g. absurd (no_value (sym g)))
 
-      by-table : (o : Outcome) → and_then o Stop (λ t. and_then (entry_at ws start total t (index 0 v)) Stop (λ _. Value (place start t (index 0 v)))) ≡ Value x → flag 0 (get_or ws x 0) ≡ true
-      by-table (Value t) g = by_word t (index 0 v) g
-      by-table (Stop n) g = absurd (no_value (sym g))
+      by-table : (o : Result ℕ Refusal) → and_then o Err (λ t. and_then (entry_at ws start total t (index 0 v)) Err (λ _. Ok (place start t (index 0 v)))) ≡ Ok x → flag 0 (get_or ws x 0) ≡ true
+      by-table (Ok t) g = by_word t (index 0 v) g
+      by-table (Err n) g = absurd (no_value (sym g))
 
-  pub place_within : (up root v x : ℕ) → page_place up ws start total root v ≡ Value x → x < length ws
+  pub place_within : (up root v x : ℕ) → page_place up ws start total root v ≡ Ok x → x < length ws
   place_within up root v x h = go (dec_lt x (length ws))
     where
       go : Dec (x < length ws) → x < length ws
@@ -98,11 +98,11 @@ module _ (ws : List ℕ) (start total : ℕ) where
       go (no l) = absurd (false≢true (sym (ap (flag 0) (get_or-eq_default ws 0 (omega arith)) ∙ flag_zero 0) ∙ place_present up root v x h))
 
   module _ (w : Bool) (up root v : ℕ) where
-    pub protect_none : (n : ℕ) → page_place up ws start total root v ≡ Stop n → protect_page up w ws start total root v ≡ ws
+    pub protect_none : (n : Refusal) → page_place up ws start total root v ≡ Err n → protect_page up w ws start total root v ≡ ws
     unfolding protect_page
     protect_none n h = rw h
 
-    pub protect_at : (x : ℕ) → page_place up ws start total root v ≡ Value x → protect_page up w ws start total root v ≡ set ws x (with_writable w (get_or ws x 0))
+    pub protect_at : (x : ℕ) → page_place up ws start total root v ≡ Ok x → protect_page up w ws start total root v ≡ set ws x (with_writable w (get_or ws x 0))
     unfolding protect_page
     protect_at x h = rw h
 
@@ -110,20 +110,20 @@ module _ (ws : List ℕ) (start total : ℕ) where
     unfolding protect_page
     page_toward = go (page_place up ws start total root v)
       where
-        go : (o : Outcome) → Toward w ws (and_then o (λ _. ws) (λ x. set ws x (with_writable w (get_or ws x 0))))
-        go (Value x) = toward_set w ws x
-        go (Stop n) = toward_same ws
+        go : (o : Result ℕ Refusal) → Toward w ws (and_then o (λ _. ws) (λ x. set ws x (with_writable w (get_or ws x 0))))
+        go (Ok x) = toward_set w ws x
+        go (Err n) = toward_same ws
 
     -- one that follows w already
-    pub protect_same : ((x : ℕ) → page_place up ws start total root v ≡ Value x → flag 1 (get_or ws x 0) ≡ w) → protect_page up w ws start total root v ≡ ws
+    pub protect_same : ((x : ℕ) → page_place up ws start total root v ≡ Ok x → flag 1 (get_or ws x 0) ≡ w) → protect_page up w ws start total root v ≡ ws
     protect_same h = go (page_place up ws start total root v) refl
       where
-        go : (o : Outcome) → page_place up ws start total root v ≡ o → protect_page up w ws start total root v ≡ ws
-        go (Value x) e = protect_at x e ∙ ap (set ws x) (writable_same w (get_or ws x 0) (h x e)) ∙ set-get_or ws x 0
-        go (Stop n) e = protect_none n e
+        go : (o : Result ℕ Refusal) → page_place up ws start total root v ≡ o → protect_page up w ws start total root v ≡ ws
+        go (Ok x) e = protect_at x e ∙ ap (set ws x) (writable_same w (get_or ws x 0) (h x e)) ∙ set-get_or ws x 0
+        go (Err n) e = protect_none n e
 
     -- and one that was made to
-    pub page_follows : (x : ℕ) → page_place up ws start total root v ≡ Value x → flag 1 (get_or (protect_page up w ws start total root v) x 0) ≡ w
+    pub page_follows : (x : ℕ) → page_place up ws start total root v ≡ Ok x → flag 1 (get_or (protect_page up w ws start total root v) x 0) ≡ w
     page_follows x h =
         ap (λ (s : List ℕ). flag 1 (get_or s x 0)) (protect_at x h) ∙ ap (flag 1) (get_or-set_same ws x _ 0 (place_within up root v x h)) ∙ writable_flag w (get_or ws x 0)
 
@@ -150,7 +150,7 @@ module _ (up : ℕ) (w : Bool) (start total root : ℕ) where
 
   -- those that follow w already
   abbrev pub Follow : List ℕ → ℕ → ℕ → Type 0
-  Follow ws v n = (j x : ℕ) → j < n → page_place up ws start total root (v + j * 4096) ≡ Value x → flag 1 (get_or ws x 0) ≡ w
+  Follow ws v n = (j x : ℕ) → j < n → page_place up ws start total root (v + j * 4096) ≡ Ok x → flag 1 (get_or ws x 0) ≡ w
 
   pub pages_same : (n : ℕ) (ws : List ℕ) (v : ℕ) → Follow ws v n → protect_pages up w ws start total root v n ≡ ws
   unfolding protect_pages
@@ -169,7 +169,7 @@ module _ (up : ℕ) (w : Bool) (start total root : ℕ) where
       let ws' = protect_page up w ws start total root v in
       let here : v + 0 * 4096 ≡ v = omega arith in
       let t = pages_toward n ws' (v + 4096) in
-      let there : page_place up ws start total root v ≡ Value x =
+      let there : page_place up ws start total root v ≡ Ok x =
       sym (place_alike (toward_alike (toward_then (page_toward ws start total w up root v) t)) start total up root v) ∙ ap (page_place up _ start total root) (sym here) ∙ e in
       toward_follows t x (page_follows ws start total w up root v x there)
   pages_follow (suc n) ws v (suc j) x l e =
@@ -181,7 +181,7 @@ module _ (up : ℕ) (w : Bool) (start total root : ℕ) where
 module _ (up : ℕ) (w : Bool) (start total root : ℕ) where
   -- word x as it was, or made to follow w as the last entry of one of n pages from v on
   abbrev pub Where : List ℕ → ℕ → ℕ → ℕ → ℕ → Type 0
-  Where ws v n x e = (e ≡ get_or ws x 0) ⊎ ((e ≡ with_writable w (get_or ws x 0)) × ((j : ℕ) × ((j < n) × (page_place up ws start total root (v + j * 4096) ≡ Value x))))
+  Where ws v n x e = (e ≡ get_or ws x 0) ⊎ ((e ≡ with_writable w (get_or ws x 0)) × ((j : ℕ) × ((j < n) × (page_place up ws start total root (v + j * 4096) ≡ Ok x))))
 
   page_where : (ws : List ℕ) (v x : ℕ) → Where ws v 1 x (get_or (protect_page up w ws start total root v) x 0)
   page_where ws v x = go (page_place up ws start total root v) refl
@@ -189,13 +189,13 @@ module _ (up : ℕ) (w : Bool) (start total root : ℕ) where
       here : v + 0 * 4096 ≡ v
       here = omega arith
 
-      by : (y : ℕ) → page_place up ws start total root v ≡ Value y → Dec (x ≡ y) → Where ws v 1 x (get_or (set ws y (with_writable w (get_or ws y 0))) x 0)
-      by y e (yes q) = inr (rw q (get_or-set_same ws y _ 0 (place_within ws start total up root v y e)), (0, (omega arith, rw here (e ∙ ap Value (sym q)))))
+      by : (y : ℕ) → page_place up ws start total root v ≡ Ok y → Dec (x ≡ y) → Where ws v 1 x (get_or (set ws y (with_writable w (get_or ws y 0))) x 0)
+      by y e (yes q) = inr (rw q (get_or-set_same ws y _ 0 (place_within ws start total up root v y e)), (0, (omega arith, rw here (e ∙ ap Ok (sym q)))))
       by y e (no q) = inl (get_or-set_other ws y x _ 0 q)
 
-      go : (o : Outcome) → page_place up ws start total root v ≡ o → Where ws v 1 x (get_or (protect_page up w ws start total root v) x 0)
-      go (Value y) e = rw (protect_at ws start total w up root v y e) (by y e (ℕ_discrete x y))
-      go (Stop n) e = rw (protect_none ws start total w up root v n e) (inl refl)
+      go : (o : Result ℕ Refusal) → page_place up ws start total root v ≡ o → Where ws v 1 x (get_or (protect_page up w ws start total root v) x 0)
+      go (Ok y) e = rw (protect_at ws start total w up root v y e) (by y e (ℕ_discrete x y))
+      go (Err n) e = rw (protect_none ws start total w up root v n e) (inl refl)
 
   pub pages_where : (n : ℕ) (ws : List ℕ) (v x : ℕ) → Where ws v n x (get_or (protect_pages up w ws start total root v n) x 0)
   unfolding protect_pages
@@ -212,7 +212,7 @@ module _ (up : ℕ) (w : Bool) (start total root : ℕ) where
       same : last ≡ get_or ws' x 0 → Where ws v (suc n) x last
       same q = ⊎_elim (λ p. inl (q ∙ p)) (λ p. inr (q ∙ p.0, (p.1.0, (omega (arith, p.1.1.0), p.1.1.1)))) (page_where ws v x)
 
-      made : ((last ≡ with_writable w (get_or ws' x 0)) × ((j : ℕ) × ((j < n) × (page_place up ws' start total root ((v + 4096) + j * 4096) ≡ Value x)))) → Where ws v (suc n) x last
+      made : ((last ≡ with_writable w (get_or ws' x 0)) × ((j : ℕ) × ((j < n) × (page_place up ws' start total root ((v + 4096) + j * 4096) ≡ Ok x)))) → Where ws v (suc n) x last
       made p =
           let j = p.1.0 in
           let next : v + suc j * 4096 ≡ (v + 4096) + j * 4096 = omega arith in
@@ -226,7 +226,7 @@ module _ (up : ℕ) (w : Bool) (start total root : ℕ) where
 
 pub unmap_at_place : (up : ℕ) (ws : List ℕ) (start total root v : ℕ)
     → unmap_at up ws start total root v
-    ≡ and_then (page_place up ws start total root v) (λ n. left (Stop n) ws) (λ x. left (Value (frame_of (get_or ws x 0))) (set ws x 0))
+    ≡ and_then (page_place up ws start total root v) (λ n. left (Err n) ws) (λ x. left (Ok (frame_of (get_or ws x 0))) (set ws x 0))
 unfolding unmap_entry take_leaf page_place entry_at present
 unmap_at_place up ws start total root v =
     rw (index_last up v, lt-ltb (index 0 v) 512 (omega arith)) (by-table (reach ws start total root (take up (indices (suc up) v))))
@@ -235,16 +235,16 @@ unmap_at_place up ws start total root v =
     i = index 0 v
 
     by_word : (p e : ℕ) (b c : Bool)
-        → pick b (pick c (left (Value (frame_of (get_or ws p 0))) (set ws p 0)) (left (Stop not_mapped) ws)) (left (Stop outside) ws)
-        ≡ and_then (and_then (pick b (pick c (Value e) (Stop not_mapped)) (Stop outside)) Stop (λ _. Value p)) (λ n. left (Stop n) ws) (λ x. left (Value (frame_of (get_or ws x 0))) (set ws x 0))
+        → pick b (pick c (left (Ok (frame_of (get_or ws p 0))) (set ws p 0)) (left (Err NotMapped) ws)) (left (Err TableOutside) ws)
+        ≡ and_then (and_then (pick b (pick c (Ok e) (Err NotMapped)) (Err TableOutside)) Err (λ _. Ok p)) (λ n. left (Err n) ws) (λ x. left (Ok (frame_of (get_or ws x 0))) (set ws x 0))
     by_word p e true true = refl
     by_word p e true false = refl
     by_word p e false c = refl
 
-    by-table : (o : Outcome)
-        → and_then o (λ n. left (Stop n) ws) (λ t. pick (inside start total t) (pick (flag 0 (get_or ws (place start t i) 0))
-        (left (Value (frame_of (get_or ws (place start t i) 0))) (set ws (place start t i) 0)) (left (Stop not_mapped) ws)) (left (Stop outside) ws))
-        ≡ and_then (and_then o Stop (λ t. and_then (pick (inside start total t) (pick (flag 0 (get_or ws (place start t i) 0)) (Value (get_or ws (place start t i) 0)) (Stop not_mapped)) (Stop outside))
-        Stop (λ _. Value (place start t i)))) (λ n. left (Stop n) ws) (λ x. left (Value (frame_of (get_or ws x 0))) (set ws x 0))
-    by-table (Value t) = by_word (place start t i) (get_or ws (place start t i) 0) (inside start total t) (flag 0 (get_or ws (place start t i) 0))
-    by-table (Stop n) = refl
+    by-table : (o : Result ℕ Refusal)
+        → and_then o (λ n. left (Err n) ws) (λ t. pick (inside start total t) (pick (flag 0 (get_or ws (place start t i) 0))
+        (left (Ok (frame_of (get_or ws (place start t i) 0))) (set ws (place start t i) 0)) (left (Err NotMapped) ws)) (left (Err TableOutside) ws))
+        ≡ and_then (and_then o Err (λ t. and_then (pick (inside start total t) (pick (flag 0 (get_or ws (place start t i) 0)) (Ok (get_or ws (place start t i) 0)) (Err NotMapped)) (Err TableOutside))
+        Err (λ _. Ok (place start t i)))) (λ n. left (Err n) ws) (λ x. left (Ok (frame_of (get_or ws x 0))) (set ws x 0))
+    by-table (Ok t) = by_word (place start t i) (get_or ws (place start t i) 0) (inside start total t) (flag 0 (get_or ws (place start t i) 0))
+    by-table (Err n) = refl

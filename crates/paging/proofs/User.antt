@@ -7,16 +7,16 @@ use mathlib.Core.List.{List, [], ◌∷◌, Memᴰ}
 use mathlib.Core.Logic.{◌⊎◌, inl, inr, ◌↔◌, ⊎_elim}
 use native.Mathlib.Omega.{arith}
 use lib.ListN.{length, get_or}
+use Rattle.std.specs.Prelude.{Ok, Err, Result}
+use Rattle.answer.specs.declared.Refusal.{Refusal}
+use Rattle.answer.specs.declared.Refusal.TheVariants.{BrokenRecord}
 use Rattle.bits.specs.Bit.{both, flag}
 use Rattle.bits.proofs.Choice.{both_true, both_false}
-use Rattle.answer.specs.Numbers.{broken_record}
-use Rattle.answer.specs.declared.FlagAnswer.{FlagAnswer}
-use Rattle.answer.specs.declared.FlagAnswer.TheVariants.{Flag, NoFlag}
 use Rattle.entry.specs.Entry.{frame_of, indices}
 use Rattle.entry.proofs.Entry.{length_indices}
 use Rattle.frame.specs.Frames.{inside}
 use Rattle.paging.specs.declared.Leaf.{Leaf}
-use Rattle.paging.specs.declared.Leaf.TheVariants.{Page, Large, NoLeaf}
+use Rattle.paging.specs.declared.Leaf.TheVariants.{Page, Large}
 use Rattle.paging.specs.declared.Verdict.{Verdict}
 use Rattle.paging.specs.declared.Verdict.TheVariants.{Absent, Outside, LargePage, Last}
 use Rattle.paging.specs.declared.Row.{Row}
@@ -149,17 +149,17 @@ all_user_lem write (s ∷ rows) =
     )
 
 module _ (levels : ℕ) (ws : List ℕ) (start total root v : ℕ) where
-  pub may_broken : (write : Bool) → lent_walk levels (length ws) start total root ≡ false → user_may levels ws start total root v write ≡ NoFlag broken_record
+  pub may_broken : (write : Bool) → lent_walk levels (length ws) start total root ≡ false → user_may levels ws start total root v write ≡ Err BrokenRecord
   unfolding user_may
   may_broken write h = rw h
 
   pub may_is : (write : Bool) → lent_walk levels (length ws) start total root ≡ true
-      → user_may levels ws start total root v write ≡ Flag (user_rows write (rows_below ws start total root (indices levels v)))
+      → user_may levels ws start total root v write ≡ Ok (user_rows write (rows_below ws start total root (indices levels v)))
   unfolding user_may
   may_is write h = rw h
 
   -- yes is yes
-  same_flag : {a b : Bool} → Flag a ≡ Flag b → a ≡ b
+  same_flag : {a b : Bool} → ◌≡◌ {A = Result Bool Refusal} (Ok a) (Ok b) → a ≡ b
   same_flag e = cc
 
   module _ (h : lent_walk levels (length ws) start total root ≡ true) where
@@ -178,13 +178,13 @@ module _ (levels : ℕ) (ws : List ℕ) (start total root v : ℕ) where
     Each write l = (r : Row) → Memᴰ r l → user_entry write r.word ≡ true
 
     -- yes, where it comes to a 4 KiB page and each entry lets
-    yes-is : (write : Bool) → (user_may levels ws start total root v write ≡ Flag true)
+    yes-is : (write : Bool) → (user_may levels ws start total root v write ≡ Ok true)
         ↔ ((is_page (leaf ws start total root (indices levels v)) ≡ true) × Each write (show_translate levels ws start total root v).rows)
     unfolding user_rows
     yes-is write = (
       λ e. let parts = both_true (is_page (end_of rows)) _ (same_flag (sym (may_is write h) ∙ e)) in
           (sym ends ∙ parts.0, subst (Each write) (sym shown) ((all_user_lem write rows).0 parts.1)),
-      λ y. may_is write h ∙ ap Flag (rw (ends ∙ y.0) ((all_user_lem write rows).1 (subst (Each write) shown y.1))),
+      λ y. may_is write h ∙ ap Ok (rw (ends ∙ y.0) ((all_user_lem write rows).1 (subst (Each write) shown y.1))),
     )
 
 -- what one entry asks
@@ -196,10 +196,10 @@ reads_is e = by (flag 2 e)
     by false = refl
 
 -- a page is one with an entry
-page_of_lem : (l : Leaf) → is_page l ≡ true → (e : ℕ) × (l ≡ Page e)
-page_of_lem (Page e) h = (e, refl)
-page_of_lem (Large e) h = absurd (false≢true h)
-page_of_lem (NoLeaf n) h = absurd (false≢true h)
+page_of_lem : (l : Result Leaf Refusal) → is_page l ≡ true → (e : ℕ) × (l ≡ Ok (Page e))
+page_of_lem (Ok (Page e)) h = (e, refl)
+page_of_lem (Ok (Large e)) h = absurd (false≢true h)
+page_of_lem (Err n) h = absurd (false≢true h)
 
 pub user_rule : UserRule
 user_rule =
@@ -221,6 +221,6 @@ user_rule =
       broken = may_broken;
     }
   where
-    told : {a : FlagAnswer} (b : Bool) → a ≡ Flag b → (a ≡ Flag true) ⊎ (a ≡ Flag false)
+    told : {a : Result Bool Refusal} (b : Bool) → a ≡ Ok b → (a ≡ Ok true) ⊎ (a ≡ Ok false)
     told true e = inl e
     told false e = inr e

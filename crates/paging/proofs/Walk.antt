@@ -7,37 +7,39 @@ use native.Mathlib.Omega.{arith}
 use lib.Dec.{leb}
 use lib.ListN.{length, get_or}
 use borrow.Author.Tests.{le-leb, lt-leb, lt-ltb, le-ltb, leb-true}
+use Rattle.std.specs.Prelude.{Result}
+use Rattle.answer.specs.declared.Refusal.{Refusal}
+use Rattle.std.specs.Prelude.{Ok, Err}
+use Rattle.answer.specs.declared.Refusal.TheVariants.{NotMapped, TableOutside}
 use Rattle.bits.specs.Bit.{pick, flag}
 use Rattle.bits.proofs.Choice.{both_true}
-use Rattle.answer.specs.Numbers.{not_mapped, outside}
 use Rattle.entry.specs.Entry.{frame_of}
 use Rattle.frame.specs.Frames.{inside}
 use Rattle.frame.proofs.Laws.{inside_from, inside_under}
-use Rattle.answer.specs.declared.Outcome.TheVariants.{Value, Stop}
 use Rattle.paging.specs.declared.Leaf.{Leaf}
-use Rattle.paging.specs.declared.Leaf.TheVariants.{Page, Large, NoLeaf}
+use Rattle.paging.specs.declared.Leaf.TheVariants.{Page, Large}
 use Rattle.paging.specs.Walk.{place, present, entry_at, reach, judge, leaf, may_walk, WordsLent}
 
 -- a value is no stop
-pub no_value : {a n : ℕ} → Value a ≡ Stop n → ⊥
+pub no_value : {a : ℕ} {n : Refusal} → Ok a ≡ Err n → ⊥
 no_value e = let z : ◌≡◌ {A = ℕ} 0 1 = cc in omega arith
 
 -- ---- one entry
 
-pub present_yes : (e : ℕ) → flag 0 e ≡ true → present e ≡ Value e
+pub present_yes : (e : ℕ) → flag 0 e ≡ true → present e ≡ Ok e
 unfolding present
 present_yes e h = rw h
 
-pub present_no : (e : ℕ) → flag 0 e ≡ false → present e ≡ Stop not_mapped
+pub present_no : (e : ℕ) → flag 0 e ≡ false → present e ≡ Err NotMapped
 unfolding present
 present_no e h = rw h
 
 module _ (ws : List ℕ) (start total t i : ℕ) where
-  pub entry_out : inside start total t ≡ false → entry_at ws start total t i ≡ Stop outside
+  pub entry_out : inside start total t ≡ false → entry_at ws start total t i ≡ Err TableOutside
   unfolding entry_at
   entry_out h = rw h
 
-  pub entry_past : inside start total t ≡ true → 512 ≤ i → entry_at ws start total t i ≡ Stop not_mapped
+  pub entry_past : inside start total t ≡ true → 512 ≤ i → entry_at ws start total t i ≡ Err NotMapped
   unfolding entry_at
   entry_past h k = rw (h, le-ltb i 512 k)
 
@@ -60,55 +62,55 @@ lent_still e l = record { few = l.few; enough = omega (arith, e, l.enough); low 
 -- ---- the frame at the end of a path. The laws of walks take a path by an equation, so that they serve one that is written out, by `refl`, and a loop's turn
 
 module _ (ws : List ℕ) (start total t : ℕ) {p : List ℕ} where
-  pub reach_end : p ≡ [] → reach ws start total t p ≡ Value t
+  pub reach_end : p ≡ [] → reach ws start total t p ≡ Ok t
   unfolding reach
   reach_end c = rw c
 
   module _ {i : ℕ} {is : List ℕ} (c : p ≡ i ∷ is) where
-    pub reach_stop : (n : ℕ) → entry_at ws start total t i ≡ Stop n → reach ws start total t p ≡ Stop n
+    pub reach_stop : (n : Refusal) → entry_at ws start total t i ≡ Err n → reach ws start total t p ≡ Err n
     unfolding reach
     reach_stop n h = rw (c, h)
 
-    pub reach_on : (e : ℕ) → entry_at ws start total t i ≡ Value e → reach ws start total t p ≡ reach ws start total (frame_of e) is
+    pub reach_on : (e : ℕ) → entry_at ws start total t i ≡ Ok e → reach ws start total t p ≡ reach ws start total (frame_of e) is
     unfolding reach
     reach_on e h = rw (c, h)
 
 -- ---- the entry that a translation ends at, by the number of indices that are left: 0 at the last level, 1 at the last but one
 
-pub judge_last : (is : List ℕ) (e : ℕ) (on : Leaf) → length is ≡ 0 → judge is e on ≡ Page e
+pub judge_last : (is : List ℕ) (e : ℕ) (on : Result Leaf Refusal) → length is ≡ 0 → judge is e on ≡ Ok (Page e)
 judge_last [] e on h = refl
 judge_last (i ∷ is) e on h = absurd (omega arith)
 
-pub judge_one : (is : List ℕ) (e : ℕ) (on : Leaf) → length is ≡ 1 → judge is e on ≡ pick (flag 7 e) (Large e) on
+pub judge_one : (is : List ℕ) (e : ℕ) (on : Result Leaf Refusal) → length is ≡ 1 → judge is e on ≡ pick (flag 7 e) (Ok (Large e)) on
 judge_one [] e on h = absurd (omega arith)
 judge_one (i ∷ []) e on h = refl
 judge_one (i ∷ j ∷ is) e on h = absurd (omega arith)
 
-pub judge_above : (is : List ℕ) (e : ℕ) (on : Leaf) → 1 < length is → judge is e on ≡ on
+pub judge_above : (is : List ℕ) (e : ℕ) (on : Result Leaf Refusal) → 1 < length is → judge is e on ≡ on
 judge_above [] e on h = absurd (omega arith)
 judge_above (i ∷ []) e on h = absurd (omega arith)
 judge_above (i ∷ j ∷ is) e on h = refl
 
 module _ (ws : List ℕ) (start total t : ℕ) {p : List ℕ} where
-  pub leaf_end : p ≡ [] → leaf ws start total t p ≡ NoLeaf not_mapped
+  pub leaf_end : p ≡ [] → leaf ws start total t p ≡ Err NotMapped
   unfolding leaf
   leaf_end c = rw c
 
   module _ {i : ℕ} {is : List ℕ} (c : p ≡ i ∷ is) where
-    pub leaf_stop : (n : ℕ) → entry_at ws start total t i ≡ Stop n → leaf ws start total t p ≡ NoLeaf n
+    pub leaf_stop : (n : Refusal) → entry_at ws start total t i ≡ Err n → leaf ws start total t p ≡ Err n
     unfolding leaf
     leaf_stop n h = rw (c, h)
 
-    pub leaf_on : (e : ℕ) → entry_at ws start total t i ≡ Value e → leaf ws start total t p ≡ judge is e (leaf ws start total (frame_of e) is)
+    pub leaf_on : (e : ℕ) → entry_at ws start total t i ≡ Ok e → leaf ws start total t p ≡ judge is e (leaf ws start total (frame_of e) is)
     unfolding leaf
     leaf_on e h = rw (c, h)
 
     -- the same by level
-    module _ (e : ℕ) (h : entry_at ws start total t i ≡ Value e) where
-      pub leaf_page : length is ≡ 0 → leaf ws start total t p ≡ Page e
+    module _ (e : ℕ) (h : entry_at ws start total t i ≡ Ok e) where
+      pub leaf_page : length is ≡ 0 → leaf ws start total t p ≡ Ok (Page e)
       leaf_page l = leaf_on e h ∙ judge_last is e _ l
 
-      pub leaf_large : length is ≡ 1 → flag 7 e ≡ true → leaf ws start total t p ≡ Large e
+      pub leaf_large : length is ≡ 1 → flag 7 e ≡ true → leaf ws start total t p ≡ Ok (Large e)
       leaf_large l k = leaf_on e h ∙ judge_one is e _ l ∙ rw k
 
       pub leaf_small : length is ≡ 1 → flag 7 e ≡ false → leaf ws start total t p ≡ leaf ws start total (frame_of e) is

@@ -7,18 +7,18 @@ use native.Mathlib.Omega.{arith}
 use lib.Dec.{eqb, ltb, lit≤}
 use lib.ListN.{length, get_or, take, replicate}
 use borrow.Author.Tests.{ne_eqb, lt-ltb}
+use Rattle.std.specs.Prelude.{Ok, Err, Result}
+use Rattle.answer.specs.declared.Refusal.{Refusal}
+use Rattle.answer.specs.declared.Refusal.TheVariants.{NotMapped, TableOutside}
 use Rattle.bits.specs.Bit.{pick, both, flag}
 use Rattle.bits.proofs.Choice.{pick_cases}
-use Rattle.answer.specs.Numbers.{not_mapped, outside}
 use Rattle.answer.specs.Outcomes.{and_then}
-use Rattle.answer.specs.declared.Outcome.{Outcome}
-use Rattle.answer.specs.declared.Outcome.TheVariants.{Value, Stop}
 use Rattle.entry.specs.Entry.{frame_of, index, indices}
 use Rattle.entry.proofs.Entry.{length_indices}
 use Rattle.frame.specs.Frames.{inside}
 use Rattle.frame.proofs.Laws.{levels_least}
 use Rattle.paging.specs.declared.Leaf.{Leaf}
-use Rattle.paging.specs.declared.Leaf.TheVariants.{Page, Large, NoLeaf}
+use Rattle.paging.specs.declared.Leaf.TheVariants.{Page, Large}
 use Rattle.paging.specs.declared.Verdict.{Verdict}
 use Rattle.paging.specs.declared.Verdict.TheVariants.{Absent, Outside, Followed, LargePage, Last}
 use Rattle.paging.specs.declared.Row.{Row}
@@ -130,21 +130,21 @@ one_more (suc n) h x rs = let e : suc n - 1 ≡ n = omega arith in rw e
 
 -- ---- a word that names a table: the walk goes on, with its log and without
 
-judge_names : (is : List ℕ) (e : ℕ) (on : Leaf) → NamesTable (length is) e → judge is e on ≡ on
+judge_names : (is : List ℕ) (e : ℕ) (on : Result Leaf Refusal) → NamesTable (length is) e → judge is e on ≡ on
 judge_names [] e on n = absurd (omega (arith, n.1))
 judge_names (j ∷ []) e on n = let k : flag 7 e ≡ false = n.2 in rw k
 judge_names (j ∷ k ∷ is) e on n = refl
 
-judge_logged_names : (is : List ℕ) (e : ℕ) (on : Logged Leaf) → NamesTable (length is) e → judge_logged is e on ≡ on
+judge_logged_names : (is : List ℕ) (e : ℕ) (on : Logged (Result Leaf Refusal)) → NamesTable (length is) e → judge_logged is e on ≡ on
 judge_logged_names [] e on n = absurd (omega (arith, n.1))
 judge_logged_names (j ∷ []) e on n = let k : flag 7 e ≡ false = n.2 in rw k
 judge_logged_names (j ∷ k ∷ is) e on n = refl
 
-judge_logged_last : (is : List ℕ) (e : ℕ) (on : Logged Leaf) → length is ≡ 0 → judge_logged is e on ≡ logged (Page e) []
+judge_logged_last : (is : List ℕ) (e : ℕ) (on : Logged (Result Leaf Refusal)) → length is ≡ 0 → judge_logged is e on ≡ logged (Ok (Page e)) []
 judge_logged_last [] e on h = refl
 judge_logged_last (i ∷ is) e on h = absurd (omega arith)
 
-judge_logged_large : (is : List ℕ) (e : ℕ) (on : Logged Leaf) → length is ≡ 1 → flag 7 e ≡ true → judge_logged is e on ≡ logged (Large e) []
+judge_logged_large : (is : List ℕ) (e : ℕ) (on : Logged (Result Leaf Refusal)) → length is ≡ 1 → flag 7 e ≡ true → judge_logged is e on ≡ logged (Ok (Large e)) []
 judge_logged_large [] e on h k = absurd (omega arith)
 judge_logged_large (i ∷ []) e on h k = rw k
 judge_logged_large (i ∷ j ∷ is) e on h k = absurd (omega arith)
@@ -156,14 +156,14 @@ pick_walked : {A : Type 0} (b : Bool) (x y : Logged A) → (pick b x y).walked �
 pick_walked true x y = refl
 pick_walked false x y = refl
 
-judge_walked : (is : List ℕ) (e : ℕ) (on : Logged Leaf) → (judge_logged is e on).walked ≡ judge is e on.walked
+judge_walked : (is : List ℕ) (e : ℕ) (on : Logged (Result Leaf Refusal)) → (judge_logged is e on).walked ≡ judge is e on.walked
 judge_walked [] e on = refl
-judge_walked (j ∷ []) e on = pick_walked (flag 7 e) (logged (Large e) []) on
+judge_walked (j ∷ []) e on = pick_walked (flag 7 e) (logged (Ok (Large e)) []) on
 judge_walked (j ∷ k ∷ is) e on = refl
 
-then_walked : (o : Outcome) (k : ℕ → Logged Leaf) (j : ℕ → Leaf) → ((e : ℕ) → (k e).walked ≡ j e) → (and_then o (λ n. logged (NoLeaf n) []) k).walked ≡ and_then o NoLeaf j
-then_walked (Value e) k j h = h e
-then_walked (Stop n) k j h = refl
+then_walked : (o : Result ℕ Refusal) (k : ℕ → Logged (Result Leaf Refusal)) (j : ℕ → Result Leaf Refusal) → ((e : ℕ) → (k e).walked ≡ j e) → (and_then o (λ n. logged (Err n) []) k).walked ≡ and_then o Err j
+then_walked (Ok e) k j h = h e
+then_walked (Err n) k j h = refl
 
 module _ (ws : List ℕ) (start total t i : ℕ) where
   -- what was read of an entry
@@ -174,16 +174,16 @@ module _ (ws : List ℕ) (start total t i : ℕ) where
   unfolding entry_logged
   entry_logged_in h k = rw (h, lt-ltb i 512 k)
 
-  entry_logged_out : inside start total t ≡ false → entry_logged ws start total t i ≡ logged (Stop outside) []
+  entry_logged_out : inside start total t ≡ false → entry_logged ws start total t i ≡ logged (Err TableOutside) []
   unfolding entry_logged
   entry_logged_out h = rw h
 
   entry_walked : (entry_logged ws start total t i).walked ≡ entry_at ws start total t i
   unfolding entry_logged entry_at
   entry_walked =
-      let read : Logged Outcome = logged (present (word_at ws start t i)) (read_at ∷ []) in
-      pick_walked (inside start total t) (pick (ltb i 512) read (logged (Stop not_mapped) [])) (logged (Stop outside) [])
-      ∙ ap (λ (o : Outcome). pick (inside start total t) o (Stop outside)) (pick_walked (ltb i 512) read (logged (Stop not_mapped) []))
+      let read : Logged (Result ℕ Refusal) = logged (present (word_at ws start t i)) (read_at ∷ []) in
+      pick_walked (inside start total t) (pick (ltb i 512) read (logged (Err NotMapped) [])) (logged (Err TableOutside) [])
+      ∙ ap (λ (o : Result ℕ Refusal). pick (inside start total t) o (Err TableOutside)) (pick_walked (ltb i 512) read (logged (Err NotMapped) []))
 
 pub walk_logged : (ws : List ℕ) (start total t : ℕ) (path : List ℕ) → (leaf_logged ws start total t path).walked ≡ leaf ws start total t path
 unfolding leaf_logged leaf
@@ -192,27 +192,27 @@ walk_logged ws start total t (i ∷ is) =
     let l = entry_logged ws start total t i in
     then_walked l.walked (λ e. judge_logged is e (leaf_logged ws start total (frame_of e) is)) (λ e. judge is e (leaf ws start total (frame_of e) is))
     (λ e. judge_walked is e (leaf_logged ws start total (frame_of e) is) ∙ ap (judge is e) (walk_logged ws start total (frame_of e) is))
-    ∙ ap (λ (o : Outcome). and_then o NoLeaf (λ e. judge is e (leaf ws start total (frame_of e) is))) (entry_walked ws start total t i)
+    ∙ ap (λ (o : Result ℕ Refusal). and_then o Err (λ e. judge is e (leaf ws start total (frame_of e) is))) (entry_walked ws start total t i)
 
 module _ (ws : List ℕ) (start total t : ℕ) {p : List ℕ} {i : ℕ} {is : List ℕ} (c : p ≡ i ∷ is) {rs : List Read} where
-  logged_stop : (n : ℕ) → entry_logged ws start total t i ≡ logged (Stop n) rs → (leaf_logged ws start total t p).reads ≡ rs
+  logged_stop : (n : Refusal) → entry_logged ws start total t i ≡ logged (Err n) rs → (leaf_logged ws start total t p).reads ≡ rs
   unfolding leaf_logged
   logged_stop n h = rw (c, h) (append-nil rs)
 
-  logged_on : (e : ℕ) → entry_logged ws start total t i ≡ logged (Value e) rs
+  logged_on : (e : ℕ) → entry_logged ws start total t i ≡ logged (Ok e) rs
       → (leaf_logged ws start total t p).reads ≡ rs ++ (judge_logged is e (leaf_logged ws start total (frame_of e) is)).reads
   unfolding leaf_logged
   logged_on e h = rw (c, h)
 
 -- a table that is not lent: nothing is read, and 19
 module _ (ws : List ℕ) (start total f : ℕ) (h : inside start total f ≡ false) where
-  leaf_out : (is : List ℕ) → 0 < length is → leaf ws start total f is ≡ NoLeaf outside
+  leaf_out : (is : List ℕ) → 0 < length is → leaf ws start total f is ≡ Err TableOutside
   leaf_out [] k = absurd (omega arith)
-  leaf_out (i ∷ is) k = leaf_stop ws start total f refl outside (entry_out ws start total f i h)
+  leaf_out (i ∷ is) k = leaf_stop ws start total f refl TableOutside (entry_out ws start total f i h)
 
   logged_out : (is : List ℕ) → 0 < length is → (leaf_logged ws start total f is).reads ≡ []
   logged_out [] k = absurd (omega arith)
-  logged_out (i ∷ is) k = logged_stop ws start total f refl outside (entry_logged_out ws start total f i h)
+  logged_out (i ∷ is) k = logged_stop ws start total f refl TableOutside (entry_logged_out ws start total f i h)
 
 -- ---- the rows are right: they end where the walk ends, and are its reads
 
@@ -233,10 +233,10 @@ module _ (ws : List ℕ) (start total t i : ℕ) (is : List ℕ) (h : inside sta
   below = length is
 
   -- what is read there
-  value : flag 0 here ≡ true → entry_at ws start total t i ≡ Value here
+  value : flag 0 here ≡ true → entry_at ws start total t i ≡ Ok here
   value f = entry_in ws start total t i h k ∙ present_yes here f
 
-  value_logged : flag 0 here ≡ true → entry_logged ws start total t i ≡ logged (Value here) (read_at ws start total t i ∷ [])
+  value_logged : flag 0 here ≡ true → entry_logged ws start total t i ≡ logged (Ok here) (read_at ws start total t i ∷ [])
   value_logged f = entry_logged_in ws start total t i h k ∙ ap (λ o. logged o (read_at ws start total t i ∷ [])) (present_yes here f)
 
   -- a row that is the last of all
@@ -265,7 +265,7 @@ module _ (ws : List ℕ) (start total t i : ℕ) (is : List ℕ) (h : inside sta
         ends = ap end_of w ∙ end_more row rest r.least ∙ r.ends ∙ sym (leaf_on ws start total t refl here (value n.0) ∙ judge_names is here _ n);
         reads =
             ap (map read_of) w ∙ ap (λ rs. read_at ws start total t i ∷ rs) r.reads
-            ∙ sym (logged_on ws start total t refl here (value_logged n.0) ∙ ap (λ (l : Logged Leaf). read_at ws start total t i ∷ l.reads) (judge_logged_names is here _ n));
+            ∙ sym (logged_on ws start total t refl here (value_logged n.0) ∙ ap (λ (l : Logged (Result Leaf Refusal)). read_at ws start total t i ∷ l.reads) (judge_logged_names is here _ n));
         down = rw w (ap (λ ls. suc below ∷ ls) r.down);
         verdicts =
             rw w
@@ -273,7 +273,7 @@ module _ (ws : List ℕ) (start total t i : ℕ) (is : List ℕ) (h : inside sta
             ∙ ap (λ vs. Followed ∷ vs) r.verdicts
             ∙ one_more (length rest) r.least Followed (end_verdict (leaf ws start total (frame_of here) is) ∷ [])
             ∙ ap (λ k. replicate k Followed ++ end_verdict (leaf ws start total (frame_of here) is) ∷ []) less
-            ∙ ap (λ (l : Leaf). replicate (length (row ∷ rest) - 1) Followed ++ end_verdict l ∷ []) (sym (leaf_on ws start total t refl here (value n.0) ∙ judge_names is here _ n)));
+            ∙ ap (λ (l : Result Leaf Refusal). replicate (length (row ∷ rest) - 1) Followed ++ end_verdict l ∷ []) (sym (leaf_on ws start total t refl here (value n.0) ∙ judge_names is here _ n)));
         most = rw w (omega (arith, r.most));
         least = rw w (omega arith);
       }
@@ -284,7 +284,7 @@ module _ (ws : List ℕ) (start total t i : ℕ) (is : List ℕ) (h : inside sta
       right_end Outside (verdict_outside start total below here n j) refl
       (sym (leaf_on ws start total t refl here (value n.0) ∙ judge_names is here _ n ∙ leaf_out ws start total (frame_of here) j is n.1))
       (logged_on ws start total t refl here (value_logged n.0)
-      ∙ ap (λ (l : Logged Leaf). read_at ws start total t i ∷ l.reads) (judge_logged_names is here _ n)
+      ∙ ap (λ (l : Logged (Result Leaf Refusal)). read_at ws start total t i ∷ l.reads) (judge_logged_names is here _ n)
       ∙ ap (λ rs. read_at ws start total t i ∷ rs) (logged_out ws start total (frame_of here) j is n.1))
 
   right_by : (0 < below → inside start total (frame_of here) ≡ true → Right ws start total (frame_of here) is) → Right ws start total t (i ∷ is)
@@ -297,14 +297,14 @@ module _ (ws : List ℕ) (start total t i : ℕ) (is : List ℕ) (h : inside sta
       by : Case below here → Right ws start total t (i ∷ is)
       by (absent f) =
           right_end Absent (verdict_absent start total below here f) refl
-          (sym (leaf_stop ws start total t refl not_mapped (entry_in ws start total t i h k ∙ present_no here f)))
-          (logged_stop ws start total t refl not_mapped (entry_logged_in ws start total t i h k ∙ ap (λ o. logged o (read_at ws start total t i ∷ [])) (present_no here f)))
+          (sym (leaf_stop ws start total t refl NotMapped (entry_in ws start total t i h k ∙ present_no here f)))
+          (logged_stop ws start total t refl NotMapped (entry_logged_in ws start total t i h k ∙ ap (λ o. logged o (read_at ws start total t i ∷ [])) (present_no here f)))
       by (last f z) =
           right_end Last (verdict_last start total below here f z) refl (sym (leaf_on ws start total t refl here (value f) ∙ judge_last is here _ z))
-          (logged_on ws start total t refl here (value_logged f) ∙ ap (λ (l : Logged Leaf). read_at ws start total t i ∷ l.reads) (judge_logged_last is here _ z))
+          (logged_on ws start total t refl here (value_logged f) ∙ ap (λ (l : Logged (Result Leaf Refusal)). read_at ws start total t i ∷ l.reads) (judge_logged_last is here _ z))
       by (large f o g) =
           right_end LargePage (verdict_large start total below here f o g) refl (sym (leaf_on ws start total t refl here (value f) ∙ judge_one is here _ o ∙ rw g))
-          (logged_on ws start total t refl here (value_logged f) ∙ ap (λ (l : Logged Leaf). read_at ws start total t i ∷ l.reads) (judge_logged_large is here _ o g))
+          (logged_on ws start total t refl here (value_logged f) ∙ ap (λ (l : Logged (Result Leaf Refusal)). read_at ws start total t i ∷ l.reads) (judge_logged_large is here _ o g))
       by (names n) = follow n (inside start total (frame_of here)) refl
 
 pub right : (ws : List ℕ) (start total v n t : ℕ) → inside start total t ≡ true → Right ws start total t (indices (suc n) v)

@@ -1,12 +1,12 @@
 -- What the frames of pages that are freed were found to be (document 02, slip 5), and what that tells of the memory before and after. A board has `up` levels above
 -- the last.
+use Rattle.std.specs.Prelude.{Ok, Err, Result}
+use Rattle.answer.specs.declared.Refusal.{Refusal}
 use Rattle.std.specs.Prelude.{ℕ, zero, suc, ◌+◌, ◌*◌, ◌≡◌, Bool, not, List, get_or}
 use Rattle.bits.specs.Bit.{both, one, flag}
 use Rattle.bitmap.specs.Bitmap.{count}
 use Rattle.entry.specs.Entry.{frame_of}
 use Rattle.answer.specs.Outcomes.{and_then}
-use Rattle.answer.specs.declared.Outcome.{Outcome}
-use Rattle.answer.specs.declared.Outcome.TheVariants.{Value, Stop}
 use Rattle.frame.specs.declared.Tally.{Tally}
 use Rattle.frame.specs.Frames.{Frames, inside, give_frame}
 use Rattle.frame.specs.Found.{none_found, one_found, and_found, all_found}
@@ -15,9 +15,9 @@ use Rattle.paging.specs.Calls.{unmap_at}
 use Rattle.paging.specs.Pages.{unmap_leaf, free_page}
 
 -- the frame of a leaf that was cleared; none where `unmap_page` gives 14 or 19
-abbrev pub frame_found : Outcome → Frames → Tally
-frame_found (Value f) fr = one_found (give_frame fr f).answer
-frame_found (Stop n) fr = none_found
+abbrev pub frame_found : Result ℕ Refusal → Frames → Tally
+frame_found (Ok f) fr = one_found (give_frame fr f).answer
+frame_found (Err n) fr = none_found
 
 -- .. of page v, as `free_page` frees it
 unfoldable pub page_found : ℕ → Memory → ℕ → ℕ → Tally

@@ -1,15 +1,17 @@
 -- The working of a translation, document 02's slip 4: 'The result lists the entries read .. For each it gives the level, the frame and index, the word, and the verdict:
 -- absent, outside, followed, large page .. or last'. Levels count from the bottom, 1 the last.
+use Rattle.std.specs.Prelude.{Ok}
+use Rattle.std.specs.Prelude.{Err, Result}
+use Rattle.answer.specs.Numbers.{same_refusal}
+use Rattle.answer.specs.declared.Refusal.{Refusal}
+use Rattle.answer.specs.declared.Refusal.TheVariants.{BrokenRecord, NotMapped, TableOutside}
 use Rattle.std.specs.Prelude.{ℕ, zero, suc, ◌-◌, ◌≤◌, ◌≡◌, Bool, true, false, List, [], ◌∷◌, ◌++◌, map, eqb, ltb, length, get_or, take, replicate}
 use Rattle.bits.specs.Bit.{pick, unless, both, flag}
-use Rattle.answer.specs.Numbers.{broken_record, not_mapped, outside}
 use Rattle.answer.specs.Outcomes.{and_then}
-use Rattle.answer.specs.declared.Outcome.{Outcome}
-use Rattle.answer.specs.declared.Outcome.TheVariants.{Stop}
 use Rattle.entry.specs.Entry.{frame_of, indices}
 use Rattle.frame.specs.Frames.{inside}
 use Rattle.paging.specs.declared.Leaf.{Leaf}
-use Rattle.paging.specs.declared.Leaf.TheVariants.{Page, Large, NoLeaf}
+use Rattle.paging.specs.declared.Leaf.TheVariants.{Page, Large}
 use Rattle.paging.specs.declared.Verdict.{Verdict}
 use Rattle.paging.specs.declared.Verdict.TheVariants.{Absent, Outside, Followed, LargePage, Last}
 use Rattle.paging.specs.declared.Row.{Row}
@@ -50,21 +52,21 @@ rows_below ws start total t (i ∷ is) =
 -- ---- the rule that gave the result
 
 -- what a translation ends at whose last row has this verdict and word; none ends at a row that is followed
-abbrev pub by_verdict : Verdict → ℕ → Leaf
-by_verdict Absent e = NoLeaf not_mapped
-by_verdict Outside e = NoLeaf outside
-by_verdict Followed e = NoLeaf not_mapped
-by_verdict LargePage e = Large e
-by_verdict Last e = Page e
+abbrev pub by_verdict : Verdict → ℕ → Result Leaf Refusal
+by_verdict Absent e = Err NotMapped
+by_verdict Outside e = Err TableOutside
+by_verdict Followed e = Err NotMapped
+by_verdict LargePage e = Ok (Large e)
+by_verdict Last e = Ok (Page e)
 
 -- by the last row alone; no walk has no row (`least`)
-abbrev pub end_of : List Row → Leaf
-end_of [] = NoLeaf not_mapped
+abbrev pub end_of : List Row → Result Leaf Refusal
+end_of [] = Err NotMapped
 end_of (r ∷ []) = by_verdict r.verdict r.word
 end_of (r ∷ s ∷ rs) = end_of (s ∷ rs)
 
 pub record Working : Type 0 where
-  pub answer : Outcome
+  pub answer : Result ℕ Refusal
   pub rows : List Row
 
 abbrev pub by_rows : ℕ → List Row → Working
@@ -72,7 +74,7 @@ by_rows v rows = record { answer = address v (end_of rows); rows = rows }
 
 -- .. and 10 has none
 abbrev pub no_working : Working
-no_working = record { answer = Stop broken_record; rows = [] }
+no_working = record { answer = Err BrokenRecord; rows = [] }
 
 unfoldable pub show_translate : ℕ → List ℕ → ℕ → ℕ → ℕ → ℕ → Working
 show_translate levels ws start total root v =
@@ -94,18 +96,18 @@ abbrev pub logged : {A : Type 0} → A → List Read → Logged A
 logged a rs = record { walked = a; reads = rs }
 
 -- `entry_at`: the word is read where the table is lent and the index is below 512
-unfoldable pub entry_logged : List ℕ → ℕ → ℕ → ℕ → ℕ → Logged Outcome
+unfoldable pub entry_logged : List ℕ → ℕ → ℕ → ℕ → ℕ → Logged (Result ℕ Refusal)
 entry_logged ws start total t i =
     pick (inside start total t)
     (pick (ltb i 512)
     (let e = get_or ws (place start t i) 0 in logged (present e) (record { table = t; index = i; word = e } ∷ []))
-    (logged (Stop not_mapped) []))
-    (logged (Stop outside) [])
+    (logged (Err NotMapped) []))
+    (logged (Err TableOutside) [])
 
 -- `judge`
-abbrev pub judge_logged : List ℕ → ℕ → Logged Leaf → Logged Leaf
-judge_logged [] e on = logged (Page e) []
-judge_logged (j ∷ []) e on = pick (flag 7 e) (logged (Large e) []) on
+abbrev pub judge_logged : List ℕ → ℕ → Logged (Result Leaf Refusal) → Logged (Result Leaf Refusal)
+judge_logged [] e on = logged (Ok (Page e)) []
+judge_logged (j ∷ []) e on = pick (flag 7 e) (logged (Ok (Large e)) []) on
 judge_logged (j ∷ k ∷ is) e on = on
 
 -- what was read before, then what is read after it
@@ -113,11 +115,11 @@ abbrev pub read_first : {A : Type 0} → List Read → Logged A → Logged A
 read_first rs l = logged l.walked (rs ++ l.reads)
 
 -- `leaf`
-unfoldable pub leaf_logged : List ℕ → ℕ → ℕ → ℕ → List ℕ → Logged Leaf
-leaf_logged ws start total t [] = logged (NoLeaf not_mapped) []
+unfoldable pub leaf_logged : List ℕ → ℕ → ℕ → ℕ → List ℕ → Logged (Result Leaf Refusal)
+leaf_logged ws start total t [] = logged (Err NotMapped) []
 leaf_logged ws start total t (i ∷ is) =
     let l = entry_logged ws start total t i in
-    read_first l.reads (and_then l.walked (λ n. logged (NoLeaf n) []) (λ e. judge_logged is e (leaf_logged ws start total (frame_of e) is)))
+    read_first l.reads (and_then l.walked (λ n. logged (Err n) []) (λ e. judge_logged is e (leaf_logged ws start total (frame_of e) is)))
 
 -- what a row says was read
 abbrev pub read_of : Row → Read
@@ -131,10 +133,10 @@ countdown zero = []
 countdown (suc n) = suc n ∷ countdown n
 
 -- the verdict on the entry that a walk ends at
-abbrev pub end_verdict : Leaf → Verdict
-end_verdict (Page e) = Last
-end_verdict (Large e) = LargePage
-end_verdict (NoLeaf n) = pick (eqb n outside) Outside Absent
+abbrev pub end_verdict : Result Leaf Refusal → Verdict
+end_verdict (Ok (Page e)) = Last
+end_verdict (Ok (Large e)) = LargePage
+end_verdict (Err n) = pick (same_refusal n TableOutside) Outside Absent
 
 pub record Shows : Type 0 where
   -- 'The address and number equal translate's for every address and board'

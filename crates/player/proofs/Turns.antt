@@ -3,12 +3,12 @@ use Prim.Native.Nat.{ℕ}
 use mathlib.Core.Path.{◌≡◌, ◌∙◌, ap}
 use mathlib.Core.Bool.{true}
 use mathlib.Core.List.{List}
+use Rattle.std.specs.Prelude.{Result, ⊤}
+use Rattle.answer.specs.declared.Refusal.{Refusal}
 use Rattle.bits.proofs.Choice.{both_true}
 use Rattle.answer.specs.Numbers.{answer_line}
 use Rattle.answer.specs.Outcomes.{as_answer}
-use Rattle.answer.specs.declared.Answer.{Answer}
 use Rattle.answer.specs.declared.Line.{Line}
-use Rattle.answer.specs.declared.Outcome.{Outcome}
 use Rattle.frame.specs.declared.FrameAllocator.{FrameAllocator}
 use Rattle.paging.specs.Map.{Memory}
 use Rattle.paging.specs.Kept.{Kept, kept, lent_memory}
@@ -29,12 +29,12 @@ use Rattle.player.specs.Play.{turn}
 
 -- ---- where bytes stand for a list, a call on them is the call on the list
 
-kernel_on : {A : Type 0} (form : Outcome → A) (call : Kernel → KernelDid) (m : Memory) (list : List ℕ) → vm_fit list ≡ true
+kernel_on : {A : Type 0} (form : Result ℕ Refusal → A) (call : Kernel → KernelDid) (m : Memory) (list : List ℕ) → vm_fit list ≡ true
     → on_vm_list form call m list ≡ kept_kernel form (call (kernel m (vm_in list)))
 unfolding on_vm_list
 kernel_on form call m list fit = rw fit
 
-user_on : {A : Type 0} (form : Outcome → A) (call : User → UserDid) (m : Memory) (list : List ℕ) → mmap_fit list ≡ true
+user_on : {A : Type 0} (form : Result ℕ Refusal → A) (call : User → UserDid) (m : Memory) (list : List ℕ) → mmap_fit list ≡ true
     → on_mmap_list form call m list ≡ kept_user form (call (user_in m list))
 unfolding on_mmap_list
 user_on form call m list fit = rw fit
@@ -53,7 +53,7 @@ module _ (records : Records) (ws bm list : List ℕ) (kind : ℕ) where
   abbrev left : FrameAllocator → Records
   left fr = record { frames = fr; root = records.root }
 
-  module _ {A : Type 0} (form : Outcome → A) (line : A → Line) {l : Line} {a : A} {ws' list' : List ℕ} (bm' : List ℕ) {fr : FrameAllocator} (e : l ≡ line a) where
+  module _ {A : Type 0} (form : Result ℕ Refusal → A) (line : A → Line) {l : Line} {a : A} {ws' list' : List ℕ} (bm' : List ℕ) {fr : FrameAllocator} (e : l ≡ line a) where
     pub kernel_turn : (call : Kernel → KernelDid) → vm_fit list ≡ true → kept a (lent_memory ws' bm' fr) list' ≡ on_vm_list form call lent list → KernelReads call lent list list'
         → let d = call (kernel lent (vm_in list)) in
         ((u m : List ℕ) → turn kind l (board_of ws' bm' list' u m (left fr)) ≡ turn kind (line (form d.answer)) (with_kernel (board_of ws bm list u m records) d.kernel))
@@ -76,14 +76,14 @@ module _ (records : Records) (ws bm list : List ℕ) (kind : ℕ) where
           (reads fit).0,
         )
 
-  pub fault_turn : {l : Line} {a : Answer} {ws' list' : List ℕ} (bm' : List ℕ) {fr : FrameAllocator} → l ≡ answer_line a → (call : Faulting → FaultDid) → marked_fit list ≡ true
+  pub fault_turn : {l : Line} {a : Result ⊤ Refusal} {ws' list' : List ℕ} (bm' : List ℕ) {fr : FrameAllocator} → l ≡ answer_line a → (call : Faulting → FaultDid) → marked_fit list ≡ true
       → kept a (lent_memory ws' bm' fr) list' ≡ on_pages call lent list → FaultReads call lent list list'
       → let d = call (faulting lent (marked_in list)) in
       ((k u : List ℕ) → turn kind l (board_of ws' bm' k u list' (left fr)) ≡ turn kind (answer_line (as_answer d.answer)) (with_faulting (board_of ws bm k u list records) d.state))
       × (marked_fit list' ≡ true)
   fault_turn bm' e call fit h reads =
       let o = h ∙ pages_on call lent list fit in (
-        λ k u j. turn kind ((e ∙ ap (λ (x : Kept Answer). answer_line x.answer) o) j)
+        λ k u j. turn kind ((e ∙ ap (λ (x : Kept (Result ⊤ Refusal)). answer_line x.answer) o) j)
             (record { mem = (o j).mem; root = records.root.0; kernel = vm_in k; user = mmap_in u; next = next_in u; marked = (reads fit).1 j }),
         (reads fit).0,
       )

@@ -1,7 +1,6 @@
 -- One call of a tape on a board, document 01's 'The key program': its kind, what its line says, and the board that it leaves, as crate trace plays every call.
 use Rattle.std.specs.Prelude.{ℕ}
 use Rattle.answer.specs.declared.Line.{Line}
-use Rattle.mmap.specs.Packed.{opt_addr}
 use Rattle.board.specs.Board.{Board}
 use Rattle.release.specs.Calls.{vmalloc_call, vfree_call, mmap_call, munmap_call}
 use Rattle.trace.specs.Trace.{AnyCall, region_call, fault_call, translate_call}
@@ -22,7 +21,7 @@ turn k l b = record { kind = k; line = l; board = b }
 abbrev pub any_call : Call → AnyCall
 any_call (Vmalloc n) = region_call (vmalloc_call n)
 any_call (Vfree a) = region_call (vfree_call a)
-any_call (Mmap c) = region_call (mmap_call (opt_addr c.given c.addr) c.size c.prot c.flags)
+any_call (Mmap c) = region_call (mmap_call c.addr c.size c.prot c.flags)
 any_call (Munmap c) = region_call (munmap_call c.addr c.size)
 any_call (Fault c) = fault_call c.addr c.code
 any_call (Translate a) = translate_call a

@@ -7,18 +7,19 @@ ghost use Rattle.mappings.specs.Packed.{mmap_fit};
 ghost use Rattle.cow.specs.Packed.{marked_fit};
 ghost use Rattle.board.specs.Packed.{board_of, lists_fit};
 ghost use Rattle.tape.specs.declared.Call.{Call};
+ghost use Rattle.tape.specs.Kinds.{number_of};
 ghost use Rattle.player.specs.Play.{turn, play as play_of};
 
 use address::VirtAddr;
 use answer::Line;
 use board::Records;
 use frame::Marks;
-use tape::{Call, FaultCall, MmapCall, MunmapCall};
+use tape::{Call, FaultCall, Kind, MmapCall, MunmapCall};
 
 // What a call prints, and the records that it leaves.
 #[derive(Clone, Copy)]
 pub struct Played {
-    pub kind: u64,
+    pub kind: Kind,
     pub line: Line,
     pub records: Records,
 }
@@ -32,7 +33,7 @@ fn play_vmalloc(
 ) -> Played
     requires { vm_fit kernel.old ≡ true }
     ensures by_index { (u m : List ℕ)
-        → turn result.kind result.line (board_of words.new bitmap.new kernel.new u m result.records)
+        → turn (number_of result.kind) result.line (board_of words.new bitmap.new kernel.new u m result.records)
         ≡ play_of (board_of words.old bitmap.old kernel.old u m records) (Call.Vmalloc size) }
     ensures kernel_after { vm_fit kernel.new ≡ true }
 {
@@ -42,8 +43,8 @@ fn play_vmalloc(
     let a = did.answer;
     let left = did.frames;
     Played {
-        kind: 1,
-        line: address::virt_line(a),
+        kind: Kind::Vmalloc,
+        line: answer::line_of(a),
         records: Records { frames: left, root },
     }
 }
@@ -57,7 +58,7 @@ fn play_vfree(
 ) -> Played
     requires { vm_fit kernel.old ≡ true }
     ensures by_index { (u m : List ℕ)
-        → turn result.kind result.line (board_of words.new bitmap.new kernel.new u m result.records)
+        → turn (number_of result.kind) result.line (board_of words.new bitmap.new kernel.new u m result.records)
         ≡ play_of (board_of words.old bitmap.old kernel.old u m records) (Call.Vfree addr) }
     ensures kernel_after { vm_fit kernel.new ≡ true }
 {
@@ -67,8 +68,8 @@ fn play_vfree(
     let a = did.answer;
     let left = did.frames;
     Played {
-        kind: 2,
-        line: answer::answer_line(a),
+        kind: Kind::Vfree,
+        line: answer::line_of(a),
         records: Records { frames: left, root },
     }
 }
@@ -82,21 +83,20 @@ fn play_mmap(
 ) -> Played
     requires { mmap_fit user.old ≡ true }
     ensures by_index { (k m : List ℕ)
-        → turn result.kind result.line (board_of words.new bitmap.new k user.new m result.records)
+        → turn (number_of result.kind) result.line (board_of words.new bitmap.new k user.new m result.records)
         ≡ play_of (board_of words.old bitmap.old k user.old m records) (Call.Mmap c) }
     ensures user_after { mmap_fit user.new ≡ true }
 {
     let frames = records.frames;
     let root = records.root;
-    let hint = mmap::opt_addr(c.given, c.addr);
     let did = mmap::mmap(
-        words, bitmap, frames, root, user, hint, c.size, c.prot, c.flags,
+        words, bitmap, frames, root, user, c.addr, c.size, c.prot, c.flags,
     );
     let a = did.answer;
     let left = did.frames;
     Played {
-        kind: 3,
-        line: address::virt_line(a),
+        kind: Kind::Mmap,
+        line: answer::line_of(a),
         records: Records { frames: left, root },
     }
 }
@@ -110,7 +110,7 @@ fn play_munmap(
 ) -> Played
     requires { mmap_fit user.old ≡ true }
     ensures by_index { (k m : List ℕ)
-        → turn result.kind result.line (board_of words.new bitmap.new k user.new m result.records)
+        → turn (number_of result.kind) result.line (board_of words.new bitmap.new k user.new m result.records)
         ≡ play_of (board_of words.old bitmap.old k user.old m records) (Call.Munmap c) }
     ensures user_after { mmap_fit user.new ≡ true }
 {
@@ -120,8 +120,8 @@ fn play_munmap(
     let a = did.answer;
     let left = did.frames;
     Played {
-        kind: 4,
-        line: answer::answer_line(a),
+        kind: Kind::Munmap,
+        line: answer::line_of(a),
         records: Records { frames: left, root },
     }
 }
@@ -135,7 +135,7 @@ fn play_fault(
 ) -> Played
     requires { marked_fit marked.old ≡ true }
     ensures by_index { (k u : List ℕ)
-        → turn result.kind result.line (board_of words.new bitmap.new k u marked.new result.records)
+        → turn (number_of result.kind) result.line (board_of words.new bitmap.new k u marked.new result.records)
         ≡ play_of (board_of words.old bitmap.old k u marked.old records) (Call.Fault c) }
     ensures marked_after { marked_fit marked.new ≡ true }
 {
@@ -153,14 +153,14 @@ fn play_fault(
     let a = did.answer;
     let left = did.frames;
     Played {
-        kind: 5,
-        line: answer::answer_line(a),
+        kind: Kind::Fault,
+        line: answer::line_of(a),
         records: Records { frames: left, root },
     }
 }
 
 fn play_translate(words: &[u64], records: Records, addr: u64) -> Played
-    ensures { (b k u m : List ℕ) → turn result.kind result.line (board_of words.now b k u m result.records)
+    ensures { (b k u m : List ℕ) → turn (number_of result.kind) result.line (board_of words.now b k u m result.records)
         ≡ play_of (board_of words.now b k u m records) (Call.Translate addr) }
 {
     let frames = records.frames;
@@ -174,8 +174,8 @@ fn play_translate(words: &[u64], records: Records, addr: u64) -> Played
         VirtAddr(addr),
     );
     Played {
-        kind: 6,
-        line: address::phys_line(a),
+        kind: Kind::Translate,
+        line: answer::line_of(a),
         records,
     }
 }
@@ -191,7 +191,7 @@ pub fn play(
     call: Call,
 ) -> Played
     requires { lists_fit kernel.old user.old marked.old ≡ true }
-    ensures records_after { turn result.kind result.line
+    ensures records_after { turn (number_of result.kind) result.line
         (board_of words.new bitmap.new kernel.new user.new marked.new result.records)
         ≡ play_of (board_of words.old bitmap.old kernel.old user.old marked.old records) call }
     ensures marked_after { lists_fit kernel.new user.new marked.new ≡ true }

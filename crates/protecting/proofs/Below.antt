@@ -8,13 +8,13 @@ use native.Mathlib.Decide.{dec_le}
 use native.Mathlib.Omega.{arith}
 use lib.ListN.{get_or, set, take}
 use lib.Pow.{pow_pos}
+use Rattle.std.specs.Prelude.{Ok, Err, Result}
+use Rattle.answer.specs.declared.Refusal.{Refusal}
+use Rattle.answer.specs.declared.Refusal.TheVariants.{TableOutside}
 use Rattle.answer.specs.Outcomes.{and_then}
-use Rattle.answer.specs.Numbers.{outside}
 use Rattle.entry.specs.Entry.{frame_of, index, indices, with_writable}
 use Rattle.entry.proofs.Entry.{index_last}
 use Rattle.frame.specs.Frames.{inside}
-use Rattle.answer.specs.declared.Outcome.{Outcome}
-use Rattle.answer.specs.declared.Outcome.TheVariants.{Value, Stop}
 use Rattle.paging.specs.Walk.{place, entry_at, reach}
 use Rattle.paging.specs.Protect.{page_place, protect_page, protect_pages}
 use Rattle.paging.proofs.Walk.{no_value, entry_out}
@@ -36,25 +36,25 @@ module _ (ws : List ℕ) (start total : ℕ) where
 
   -- one level further down
   place_down : (d t v : ℕ)
-      → page_place (suc d) ws start total t v ≡ and_then (entry_at ws start total t (index (suc d) v)) Stop (λ e. page_place d ws start total (frame_of e) v)
+      → page_place (suc d) ws start total t v ≡ and_then (entry_at ws start total t (index (suc d) v)) Err (λ e. page_place d ws start total (frame_of e) v)
   unfolding page_place reach
   place_down d t v = go (entry_at ws start total t (index (suc d) v))
     where
-      last : ℕ → Outcome
-      last s = and_then (entry_at ws start total s (index 0 v)) Stop (λ _. Value (place start s (index 0 v)))
+      last : ℕ → Result ℕ Refusal
+      last s = and_then (entry_at ws start total s (index 0 v)) Err (λ _. Ok (place start s (index 0 v)))
 
-      go : (x : Outcome)
-          → and_then (and_then x Stop (λ e. reach ws start total (frame_of e) (take d (indices (suc d) v)))) Stop last
-          ≡ and_then x Stop (λ e. and_then (reach ws start total (frame_of e) (take d (indices (suc d) v))) Stop last)
-      go (Value e) = refl
-      go (Stop n) = refl
+      go : (x : Result ℕ Refusal)
+          → and_then (and_then x Err (λ e. reach ws start total (frame_of e) (take d (indices (suc d) v)))) Err last
+          ≡ and_then x Err (λ e. and_then (reach ws start total (frame_of e) (take d (indices (suc d) v))) Err last)
+      go (Ok e) = refl
+      go (Err n) = refl
 
 -- ---- runs of pages with the same places
 
 module _ (w : Bool) (start total a b t f : ℕ) where
   page_agree : (ws : List ℕ) (v : ℕ) → page_place a ws start total t v ≡ page_place b ws start total f v → protect_page a w ws start total t v ≡ protect_page b w ws start total f v
   unfolding protect_page
-  page_agree ws v e = ap (λ (x : Outcome). and_then x (λ _. ws) (λ y. set ws y (with_writable w (get_or ws y 0)))) e
+  page_agree ws v e = ap (λ (x : Result ℕ Refusal). and_then x (λ _. ws) (λ y. set ws y (with_writable w (get_or ws y 0)))) e
 
   pages_agree : (k : ℕ) (ws : List ℕ) (v : ℕ)
       → ((j : ℕ) → j < k → page_place a ws start total t (v + j * 4096) ≡ page_place b ws start total f (v + j * 4096))
@@ -78,15 +78,15 @@ module _ (w : Bool) (ws : List ℕ) (start total t v k : ℕ) where
   span_index d j h = ap (λ (x : ℕ). x % 512) (span_above d v j h)
 
   -- an absent entry, or one of a table that is not lent
-  pub part_absent : (d a : ℕ) → 0 < d → k ≤ to_end d v → entry_at ws start total t (index d v) ≡ Stop a → protect_pages d w ws start total t v k ≡ ws
+  pub part_absent : (d : ℕ) (a : Refusal) → 0 < d → k ≤ to_end d v → entry_at ws start total t (index d v) ≡ Err a → protect_pages d w ws start total t v k ≡ ws
   part_absent zero a some fit e = absurd (omega arith)
   part_absent (suc d) a some fit e =
       pages_same (suc d) w start total t k ws v (λ j x l h.
-      let stop : page_place (suc d) ws start total t (v + j * 4096) ≡ Stop a = place_down ws start total d t (v + j * 4096) ∙ rw (span_index (suc d) j (omega arith), e) in
+      let stop : page_place (suc d) ws start total t (v + j * 4096) ≡ Err a = place_down ws start total d t (v + j * 4096) ∙ rw (span_index (suc d) j (omega arith), e) in
       absurd (no_value (sym h ∙ stop)))
 
   -- one that leads down
-  pub part_down : (d e : ℕ) → 0 < d → k ≤ to_end d v → entry_at ws start total t (index d v) ≡ Value e
+  pub part_down : (d e : ℕ) → 0 < d → k ≤ to_end d v → entry_at ws start total t (index d v) ≡ Ok e
       → protect_pages d w ws start total t v k ≡ protect_pages (d - 1) w ws start total (frame_of e) v k
   part_down zero e some fit h = absurd (omega arith)
   part_down (suc d) e some fit h =
@@ -101,14 +101,14 @@ module _ (w : Bool) (ws : List ℕ) (start total up root v k : ℕ) (fit : k ≤
   same_way : (j : ℕ) → j < k → reach ws start total root (take up (indices (suc up) (v + j * 4096))) ≡ reach ws start total root (take up (indices (suc up) v))
   same_way j l = ap (reach ws start total root) (same_above (suc up) 1 (v + j * 4096) v (span_above 1 v j (omega arith)) up (omega arith))
 
-  pub last_none : (a : ℕ) → reach ws start total root (take up (indices (suc up) v)) ≡ Stop a → protect_pages up w ws start total root v k ≡ ws
+  pub last_none : (a : Refusal) → reach ws start total root (take up (indices (suc up) v)) ≡ Err a → protect_pages up w ws start total root v k ≡ ws
   unfolding page_place
   last_none a h =
       pages_same up w start total root k ws v (λ j x l e.
-      let stop : page_place up ws start total root (v + j * 4096) ≡ Stop a = rw (same_way j l ∙ h) in
+      let stop : page_place up ws start total root (v + j * 4096) ≡ Err a = rw (same_way j l ∙ h) in
       absurd (no_value (sym e ∙ stop)))
 
-  pub last_there : (t : ℕ) → reach ws start total root (take up (indices (suc up) v)) ≡ Value t → protect_pages up w ws start total root v k ≡ protect_pages 0 w ws start total t v k
+  pub last_there : (t : ℕ) → reach ws start total root (take up (indices (suc up) v)) ≡ Ok t → protect_pages up w ws start total root v k ≡ protect_pages 0 w ws start total t v k
   unfolding page_place reach
   last_there t h = pages_agree w start total up 0 root t k ws v (λ j l. rw (same_way j l ∙ h))
 
@@ -177,10 +177,10 @@ module _ (d : ℕ) (w : Bool) (start total t : ℕ) where
 pub follows_outside : (d : ℕ) (w : Bool) (ws : List ℕ) (start total t : ℕ) → inside start total t ≡ false → Follows d w ws start total t
 unfolding page_place reach
 follows_outside zero w ws start total t h =
-    record { page = λ v x e. let stop : page_place zero ws start total t v ≡ Stop outside = rw (entry_out ws start total t (index 0 v) h) in absurd (no_value (sym e ∙ stop)) }
+    record { page = λ v x e. let stop : page_place zero ws start total t v ≡ Err TableOutside = rw (entry_out ws start total t (index 0 v) h) in absurd (no_value (sym e ∙ stop)) }
 follows_outside (suc d) w ws start total t h =
     record {
       page = λ v x e.
-          let stop : page_place (suc d) ws start total t v ≡ Stop outside = place_down ws start total d t v ∙ rw (entry_out ws start total t (index (suc d) v) h) in
+          let stop : page_place (suc d) ws start total t v ≡ Err TableOutside = place_down ws start total d t v ∙ rw (entry_out ws start total t (index (suc d) v) h) in
           absurd (no_value (sym e ∙ stop));
     }

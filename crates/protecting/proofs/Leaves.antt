@@ -5,8 +5,8 @@ use mathlib.Core.Bool.{Bool, true, false}
 use mathlib.Core.List.{List}
 use native.Mathlib.Omega.{arith}
 use lib.ListN.{length, get_or, set}
+use Rattle.answer.specs.declared.Refusal.TheVariants.{NotMapped, TableOutside}
 use Rattle.bits.specs.Bit.{flag}
-use Rattle.answer.specs.Numbers.{outside, not_mapped}
 use Rattle.entry.specs.Entry.{index, with_writable}
 use Rattle.frame.specs.Frames.{inside}
 use Rattle.paging.specs.Walk.{place, reach, WordsLent}
@@ -21,13 +21,13 @@ module _ (w : Bool) (ws : List ℕ) (start total : ℕ) where
     -- a table that is not lent, an absent entry, and a present one
     pub leaf_outside : inside start total t ≡ false → protect_page 0 w ws start total t v ≡ ws
     unfolding page_place reach
-    leaf_outside h = protect_none ws start total w 0 t v outside (rw (entry_out ws start total t (index 0 v) h))
+    leaf_outside h = protect_none ws start total w 0 t v TableOutside (rw (entry_out ws start total t (index 0 v) h))
 
     module _ (h : inside start total t ≡ true) (at : ℕ) (here : at ≡ place start t (index 0 v)) where
       pub leaf_absent : flag 0 (get_or ws at 0) ≡ false → protect_page 0 w ws start total t v ≡ ws
       unfolding page_place reach
       leaf_absent k =
-          protect_none ws start total w 0 t v not_mapped
+          protect_none ws start total w 0 t v NotMapped
           (rw (entry_in ws start total t (index 0 v) h (omega arith) ∙ present_no _ (ap (λ (x : ℕ). flag 0 (get_or ws x 0)) (sym here) ∙ k)))
 
       pub leaf_present : flag 0 (get_or ws at 0) ≡ true → protect_page 0 w ws start total t v ≡ set ws at (with_writable w (get_or ws at 0))

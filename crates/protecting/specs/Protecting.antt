@@ -1,13 +1,13 @@
 -- Tables below which every page follows w already, and what code remembers of them.
+use Rattle.std.specs.Prelude.{Ok}
 use Rattle.std.specs.Prelude.{ℕ, ◌+◌, ◌-◌, ◌≡◌, Bool, true, List, ◌⊎◌, get_or}
 use Rattle.bits.specs.Bit.{pick, flag}
 use Rattle.frame.specs.Frames.{inside}
-use Rattle.answer.specs.declared.Outcome.TheVariants.{Value}
 use Rattle.paging.specs.Protect.{page_place}
 
 -- every page below table t, which has d levels below it, has WRITABLE as w
 pub record Follows (d : ℕ) (w : Bool) (ws : List ℕ) (start total t : ℕ) : Type 0 where
-  pub page : (v x : ℕ) → page_place d ws start total t v ≡ Value x → flag 1 (get_or ws x 0) ≡ w
+  pub page : (v x : ℕ) → page_place d ws start total t v ≡ Ok x → flag 1 (get_or ws x 0) ≡ w
 
 -- of each frame lent a byte: bit d is set where it was gone through whole, as a table with d levels below it
 pub record Remembered (w : Bool) (ws : List ℕ) (start total : ℕ) (gone : List ℕ) : Type 0 where

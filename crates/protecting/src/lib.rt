@@ -9,7 +9,6 @@ ghost use Rattle.paging.specs.Levels.{most_above};
 ghost use Rattle.paging.specs.Protect.{protect_page, protect_pages};
 
 use address::{Frame, VirtAddr};
-use answer::Outcome;
 use entry::paging::PageTableEntry;
 
 // Runs of fewer pages are gone through one last table after the other; of longer ones tables are remembered.
@@ -74,12 +73,13 @@ fn protect_run(
     ensures { words.new ≡ protect_pages up writable words.old start total root.0 virt.0 n }
 {
     let mut done = 0;
+    // Each turn goes on by as many pages as it dealt with.
     while done < n {
         let at = VirtAddr(virt.0 + done * 4096);
         let part = spans::at_most(spans::to_end(at, 1), n - done);
         match walk::find_table(words, start, total, up, root, at) {
-            Outcome::Stop(_) => {}
-            Outcome::Value(t) => protect_leaves(words, start, total, t, at, part, writable),
+            Err(_) => {}
+            Ok(t) => protect_leaves(words, start, total, t, at, part, writable),
         }
         done = done + part;
     }

@@ -7,7 +7,6 @@ ghost use Rattle.paging.specs.Protect.{protect_pages};
 ghost use Rattle.protecting.specs.Protecting.{Remembered, Noted, is_done};
 
 use address::VirtAddr;
-use answer::Outcome;
 use entry::paging::PageTableEntry;
 
 // Of each frame lent a byte: bit d is set where it was gone through whole, as a table with d levels below it.
@@ -66,12 +65,13 @@ fn protect_entries(
     ensures remembered_2 { Remembered writable words.new start total gone.new }
 {
     let mut done = 0;
+    // Each turn goes on by as many pages as it dealt with.
     while done < n {
         let at = VirtAddr(virt.0 + done * 4096);
         let part = spans::at_most(spans::to_end(at, d), n - done);
         match walk::entry_at(words, start, total, t, entry::page_index(at, d)) {
-            Outcome::Stop(_) => {}
-            Outcome::Value(e) => {
+            Err(_) => {}
+            Ok(e) => {
                 let f = PageTableEntry(e).addr().0 >> 12;
                 protect_below(words, gone, start, total, d - 1, f, at, part, writable);
             }

@@ -1,9 +1,9 @@
 -- The first region that passes a test, by its index: what `first_fit`, `take_first`, `used_size` and `free_first` come to there.
+use Rattle.std.specs.Prelude.{Ok, Err}
+use Rattle.answer.specs.declared.Refusal.TheVariants.{NoRegion, RegionNotFound}
 use Rattle.std.proofs.Common.{◌≡◌, ℕ, zero, suc, ◌<◌, ◌≤◌, Bool, true, false, not, eqb, leb, List, [], ◌∷◌, ◌++◌, length, get_or, take, drop, sym, refl, subst, arith, length-take-le, get_or-take, eqb-true, leb-true}
 use Rattle.bits.specs.Bit.{pick}
 use Rattle.bits.proofs.Choice.{both_true}
-use Rattle.answer.specs.Numbers.{no_region, region_not_found}
-use Rattle.answer.specs.declared.Outcome.TheVariants.{Value, Stop}
 use Rattle.slots.specs.Slots.{Slots, listed, first_at}
 use Rattle.regions.specs.declared.VMRegion.{VMRegion}
 use Rattle.regions.specs.Regions.{vm_region, no_vm_region, fits, first_fit, behind, take_first, used_size, free_first}
@@ -46,13 +46,13 @@ module _ {A : Type 0} (test : A → Bool) where
 
 -- a free region of n bytes or more
 module _ (n : ℕ) where
-  pub fit_at : (l : List VMRegion) → first_at (fits n) l < length l → first_fit n l ≡ Value (get_or l (first_at (fits n) l) no_vm_region).start
+  pub fit_at : (l : List VMRegion) → first_at (fits n) l < length l → first_fit n l ≡ Ok (get_or l (first_at (fits n) l) no_vm_region).start
   unfolding first_fit
-  fit_at = first_found (fits n) (λ l i. first_fit n l ≡ Value (get_or l i no_vm_region).start) (λ r l e. rw e) (λ r l i e more. rw e more)
+  fit_at = first_found (fits n) (λ l i. first_fit n l ≡ Ok (get_or l i no_vm_region).start) (λ r l e. rw e) (λ r l i e more. rw e more)
 
-  pub fit_none : (l : List VMRegion) → length l ≤ first_at (fits n) l → first_fit n l ≡ Stop no_region
+  pub fit_none : (l : List VMRegion) → length l ≤ first_at (fits n) l → first_fit n l ≡ Err NoRegion
   unfolding first_fit
-  fit_none = first_missing (fits n) (λ l. first_fit n l ≡ Stop no_region) refl (λ r l e more. rw (e, more))
+  fit_none = first_missing (fits n) (λ l. first_fit n l ≡ Err NoRegion) refl (λ r l e more. rw (e, more))
 
   pub fit_large : (l : List VMRegion) → first_at (fits n) l < length l → n ≤ (get_or l (first_at (fits n) l) no_vm_region).size
   fit_large l h =
@@ -68,13 +68,13 @@ module _ (n : ℕ) where
 
 -- a used region at a
 module _ (a : ℕ) where
-  pub used_missing : (l : List VMRegion) → length l ≤ first_at (used_at a) l → used_size a l ≡ Stop region_not_found
+  pub used_missing : (l : List VMRegion) → length l ≤ first_at (used_at a) l → used_size a l ≡ Err RegionNotFound
   unfolding used_size
-  used_missing = first_missing (used_at a) (λ l. used_size a l ≡ Stop region_not_found) refl (λ r l e more. rw (e, more))
+  used_missing = first_missing (used_at a) (λ l. used_size a l ≡ Err RegionNotFound) refl (λ r l e more. rw (e, more))
 
-  pub used_at_lem : (l : List VMRegion) → first_at (used_at a) l < length l → used_size a l ≡ Value (get_or l (first_at (used_at a) l) no_vm_region).size
+  pub used_at_lem : (l : List VMRegion) → first_at (used_at a) l < length l → used_size a l ≡ Ok (get_or l (first_at (used_at a) l) no_vm_region).size
   unfolding used_size
-  used_at_lem = first_found (used_at a) (λ l i. used_size a l ≡ Value (get_or l i no_vm_region).size) (λ r l e. rw e) (λ r l i e more. rw (e, more))
+  used_at_lem = first_found (used_at a) (λ l i. used_size a l ≡ Ok (get_or l i no_vm_region).size) (λ r l e. rw e) (λ r l i e more. rw (e, more))
 
   pub used_start : (l : List VMRegion) → first_at (used_at a) l < length l → (get_or l (first_at (used_at a) l) no_vm_region).start ≡ a
   used_start l h =
@@ -94,25 +94,25 @@ module _ (s : Slots VMRegion) (enough : s.count ≤ length s.slots) where
   first_below test i e d = omega (arith, d, e, first_le test (listed s), listed_length)
 
   module _ (n i : ℕ) (e : i ≡ first_at (fits n) (listed s)) where
-    pub fit_none_of : i ≡ s.count → first_fit n (listed s) ≡ Stop no_region
+    pub fit_none_of : i ≡ s.count → first_fit n (listed s) ≡ Err NoRegion
     fit_none_of h = fit_none n (listed s) (omega (arith, e, listed_length))
 
-    pub fit_of : i < s.count → (first_fit n (listed s) ≡ Value (get_or s.slots i no_vm_region).start) × (n ≤ (get_or s.slots i no_vm_region).size)
+    pub fit_of : i < s.count → (first_fit n (listed s) ≡ Ok (get_or s.slots i no_vm_region).start) × (n ≤ (get_or s.slots i no_vm_region).size)
     fit_of h =
         let k : first_at (fits n) (listed s) < length (listed s) = omega (arith, e, listed_length) in
-        subst (λ (r : VMRegion). (first_fit n (listed s) ≡ Value r.start) × (n ≤ r.size)) (get_or-take s.count s.slots i no_vm_region h)
-        (subst (λ (j : ℕ). (first_fit n (listed s) ≡ Value (get_or (listed s) j no_vm_region).start) × (n ≤ (get_or (listed s) j no_vm_region).size)) (sym e)
+        subst (λ (r : VMRegion). (first_fit n (listed s) ≡ Ok r.start) × (n ≤ r.size)) (get_or-take s.count s.slots i no_vm_region h)
+        (subst (λ (j : ℕ). (first_fit n (listed s) ≡ Ok (get_or (listed s) j no_vm_region).start) × (n ≤ (get_or (listed s) j no_vm_region).size)) (sym e)
         (fit_at n (listed s) k, fit_large n (listed s) k))
 
   module _ (a i : ℕ) (e : i ≡ first_at (used_at a) (listed s)) where
-    pub used_none_of : i ≡ s.count → used_size a (listed s) ≡ Stop region_not_found
+    pub used_none_of : i ≡ s.count → used_size a (listed s) ≡ Err RegionNotFound
     used_none_of h = used_missing a (listed s) (omega (arith, e, listed_length))
 
-    pub used_of : i < s.count → (used_size a (listed s) ≡ Value (get_or s.slots i no_vm_region).size) × ((get_or s.slots i no_vm_region).start ≡ a)
+    pub used_of : i < s.count → (used_size a (listed s) ≡ Ok (get_or s.slots i no_vm_region).size) × ((get_or s.slots i no_vm_region).start ≡ a)
     used_of h =
         let k : first_at (used_at a) (listed s) < length (listed s) = omega (arith, e, listed_length) in
-        subst (λ (r : VMRegion). (used_size a (listed s) ≡ Value r.size) × (r.start ≡ a)) (get_or-take s.count s.slots i no_vm_region h)
-        (subst (λ (j : ℕ). (used_size a (listed s) ≡ Value (get_or (listed s) j no_vm_region).size) × ((get_or (listed s) j no_vm_region).start ≡ a)) (sym e)
+        subst (λ (r : VMRegion). (used_size a (listed s) ≡ Ok r.size) × (r.start ≡ a)) (get_or-take s.count s.slots i no_vm_region h)
+        (subst (λ (j : ℕ). (used_size a (listed s) ≡ Ok (get_or (listed s) j no_vm_region).size) × ((get_or (listed s) j no_vm_region).start ≡ a)) (sym e)
         (used_at_lem a (listed s) k, used_start a (listed s) k))
 
     pub free_of : i < s.count → free_first a (listed s) ≡ freed_at i (listed s)

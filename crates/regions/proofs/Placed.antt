@@ -19,6 +19,10 @@ ends a n e h = by (dec_le n (e - a))
     by (yes l) = le-leb _ _ l ∙ sym (le-leb (a + n) e (omega arith))
     by (no l) = lt-leb n (e - a) (omega arith) ∙ sym (lt-leb (a + n) e (omega arith))
 
+-- the default of a slot is the one that holds no region
+pub default_blank : (r : VMRegion) → (r.start ≡ 0) × ((r.size ≡ 0) × (r.used ≡ false)) → r ≡ no_vm_region
+default_blank r h = λ j. record { start = h.0 j; size = h.1.0 j; used = h.1.1 j }
+
 -- what it says that a region is well placed
 pub record Placed (a n : ℕ) : Type 0 where
   pub even : a % 4096 ≡ 0

@@ -1,9 +1,9 @@
 -- Regions in the order of their addresses: what cutting, freeing and merging keep of it.
+use Rattle.std.specs.Prelude.{Ok}
 use Rattle.std.proofs.Common.{◌≡◌, ℕ, suc, ◌+◌, ◌-◌, ◌%◌, ◌<◌, ◌≤◌, Bool, true, false, not, eqb, ltb, leb, List, [], ◌∷◌, length, sym, refl, ap, ap₂, le_trans, le_refl, arith, ltb-true, lt-ltb, eq-eqb, ne_eqb, eqb-true, le-leb, leb-true}
 use Rattle.bits.specs.Bit.{pick, both, one}
 use Rattle.bits.proofs.Choice.{both_true}
 use Rattle.allocator.specs.Round.{last_page}
-use Rattle.answer.specs.declared.Outcome.TheVariants.{Value}
 use Rattle.slots.specs.Slots.{every}
 use Rattle.regions.specs.declared.VMRegion.{VMRegion}
 use Rattle.regions.specs.Regions.{vm_region, well_placed_vm, fits, first_fit, behind, take_first, taken, free_first, joins, merge_from, merge}
@@ -39,12 +39,12 @@ rows_placed lo hi (r ∷ l) e h =
     rw (eq-eqb _ _ h.0.even, eq-eqb _ _ h.0.whole, lt-ltb _ _ h.0.some, le-leb _ _ end, rows_placed (r.start + r.size) hi l e h.1)
 
 -- the first region large enough starts where the rows do, or later
-pub fit_from : (n lo hi a : ℕ) (l : List VMRegion) → Rows lo hi l → first_fit n l ≡ Value a → lo ≤ a
+pub fit_from : (n lo hi a : ℕ) (l : List VMRegion) → Rows lo hi l → first_fit n l ≡ Ok a → lo ≤ a
 unfolding first_fit
 fit_from n lo hi a [] h e = let z : ◌≡◌ {A = ℕ} 0 1 = cc in absurd (omega arith)
 fit_from n lo hi a (r ∷ l) h e = by (fits n r) e (fit_from n (r.start + r.size) hi a l h.1)
   where
-    by : (b : Bool) → pick b (Value r.start) (first_fit n l) ≡ Value a → (first_fit n l ≡ Value a → r.start + r.size ≤ a) → lo ≤ a
+    by : (b : Bool) → pick b (Ok r.start) (first_fit n l) ≡ Ok a → (first_fit n l ≡ Ok a → r.start + r.size ≤ a) → lo ≤ a
     by true g later = let k : r.start ≡ a = cc in omega (arith, h.0.from)
     by false g later = omega (arith, h.0.from, later g)
 

@@ -1,10 +1,10 @@
 -- Which regions are used: what cutting, freeing and merging change of it. `used_size a l ≡ At n` says that l has a used region of n bytes at a.
+use Rattle.std.specs.Prelude.{Ok, Err}
+use Rattle.answer.specs.declared.Refusal.TheVariants.{RegionNotFound}
 use Rattle.std.proofs.Common.{◌≡◌, ℕ, ◌+◌, ◌-◌, ◌%◌, ◌<◌, ◌≤◌, Bool, true, false, not, eqb, ltb, leb, List, [], ◌∷◌, sym, refl, ap, ◌∙◌, arith, eq-eqb, ne_eqb, eqb-true}
 use borrow.Author.Tests.{not-true}
 use Rattle.bits.specs.Bit.{pick, both}
 use Rattle.bits.proofs.Choice.{both_true, both_false}
-use Rattle.answer.specs.Numbers.{region_not_found}
-use Rattle.answer.specs.declared.Outcome.TheVariants.{Value, Stop}
 use Rattle.regions.specs.declared.VMRegion.{VMRegion}
 use Rattle.regions.specs.Regions.{vm_region, fits, first_fit, behind, take_first, used_size, joins, merge_from, merge}
 use Rattle.regions.proofs.Merge.{join, joined, freed_all}
@@ -26,7 +26,7 @@ used_from b r (s ∷ l) = by (joins r s) refl (used_from b (join r s) l) (used_f
     by true e one two =
         let u = joined r s e in
         one ∙ skip b (join r s) l refl ∙ sym (skip b r (s ∷ l) u.first ∙ skip b s l u.second)
-    by false e one two = ap (pick (both (eqb r.start b) r.used) (Value r.size)) two
+    by false e one two = ap (pick (both (eqb r.start b) r.used) (Ok r.size)) two
 
 pub used_merge : (b : ℕ) (l : List VMRegion) → used_size b (merge l) ≡ used_size b l
 unfolding merge
@@ -40,25 +40,25 @@ used_freed a b [] d = refl
 used_freed a b (r ∷ l) d = by (eqb r.start b) refl r.used (used_freed a b l d)
   where
     by : (x : Bool) → eqb r.start b ≡ x → (y : Bool) → used_size b (freed_all a l) ≡ used_size b l
-        → pick (both x (both y (not (eqb r.start a)))) (Value r.size) (used_size b (freed_all a l)) ≡ pick (both x y) (Value r.size) (used_size b l)
+        → pick (both x (both y (not (eqb r.start a)))) (Ok r.size) (used_size b (freed_all a l)) ≡ pick (both x y) (Ok r.size) (used_size b l)
     by true e true more =
         let n : eqb r.start a ≡ false = ne_eqb r.start a (λ g. d (sym (eqb-true r.start b e) ∙ g)) in
         rw n
     by true e false more = more
     by false e y more = more
 
-pub used_gone : (a : ℕ) (l : List VMRegion) → used_size a (freed_all a l) ≡ Stop region_not_found
+pub used_gone : (a : ℕ) (l : List VMRegion) → used_size a (freed_all a l) ≡ Err RegionNotFound
 unfolding freed_all used_size
 used_gone a [] = refl
 used_gone a (r ∷ l) = by (eqb r.start a) r.used (used_gone a l)
   where
-    by : (x y : Bool) → used_size a (freed_all a l) ≡ Stop region_not_found → pick (both x (both y (not x))) (Value r.size) (used_size a (freed_all a l)) ≡ Stop region_not_found
+    by : (x y : Bool) → used_size a (freed_all a l) ≡ Err RegionNotFound → pick (both x (both y (not x))) (Ok r.size) (used_size a (freed_all a l)) ≡ Err RegionNotFound
     by true true more = more
     by true false more = more
     by false y more = more
 
 -- below its rows a list has no used region
-pub used_none : (b lo hi : ℕ) (l : List VMRegion) → b < lo → Rows lo hi l → used_size b l ≡ Stop region_not_found
+pub used_none : (b lo hi : ℕ) (l : List VMRegion) → b < lo → Rows lo hi l → used_size b l ≡ Err RegionNotFound
 unfolding used_size
 used_none b lo hi [] k h = refl
 used_none b lo hi (r ∷ l) k h =
@@ -73,12 +73,12 @@ pub record Inside (lo hi b n : ℕ) : Type 0 where
   pub whole : n % 4096 ≡ 0
   pub some : 0 < n
 
-pub used_inside : (b n lo hi : ℕ) (l : List VMRegion) → Rows lo hi l → used_size b l ≡ Value n → Inside lo hi b n
+pub used_inside : (b n lo hi : ℕ) (l : List VMRegion) → Rows lo hi l → used_size b l ≡ Ok n → Inside lo hi b n
 unfolding used_size
 used_inside b n lo hi [] h e = let z : ◌≡◌ {A = ℕ} 0 1 = cc in absurd (omega arith)
 used_inside b n lo hi (r ∷ l) h e = by (both (eqb r.start b) r.used) refl e (used_inside b n (r.start + r.size) hi l h.1)
   where
-    by : (x : Bool) → both (eqb r.start b) r.used ≡ x → pick x (Value r.size) (used_size b l) ≡ Value n → (used_size b l ≡ Value n → Inside (r.start + r.size) hi b n) → Inside lo hi b n
+    by : (x : Bool) → both (eqb r.start b) r.used ≡ x → pick x (Ok r.size) (used_size b l) ≡ Ok n → (used_size b l ≡ Ok n → Inside (r.start + r.size) hi b n) → Inside lo hi b n
     by true f g more =
         let k : r.size ≡ n = cc in
         let s : r.start ≡ b = eqb-true _ _ (both_true (eqb r.start b) r.used f).0 in
@@ -100,25 +100,25 @@ module _ (n : ℕ) (room : Bool) where
       by true = skip b (vm_region (r.start + n) (r.size - n) false) l refl
       by false = refl
 
-  pub taken_used : (a lo hi : ℕ) (l : List VMRegion) → Rows lo hi l → first_fit n l ≡ Value a → used_size a (take_first true n room l) ≡ Value n
+  pub taken_used : (a lo hi : ℕ) (l : List VMRegion) → Rows lo hi l → first_fit n l ≡ Ok a → used_size a (take_first true n room l) ≡ Ok n
   unfolding first_fit take_first used_size
   taken_used a lo hi [] h e = let z : ◌≡◌ {A = ℕ} 0 1 = cc in absurd (omega arith)
   taken_used a lo hi (r ∷ l) h e = by (fits n r) refl e (taken_used a (r.start + r.size) hi l h.1)
     where
-      by : (x : Bool) → fits n r ≡ x → pick x (Value r.start) (first_fit n l) ≡ Value a → (first_fit n l ≡ Value a → used_size a (take_first true n room l) ≡ Value n)
-          → used_size a (pick x (vm_region r.start n true ∷ behind n room r l) (r ∷ take_first true n room l)) ≡ Value n
+      by : (x : Bool) → fits n r ≡ x → pick x (Ok r.start) (first_fit n l) ≡ Ok a → (first_fit n l ≡ Ok a → used_size a (take_first true n room l) ≡ Ok n)
+          → used_size a (pick x (vm_region r.start n true ∷ behind n room r l) (r ∷ take_first true n room l)) ≡ Ok n
       by true f g more = let k : r.start ≡ a = cc in rw (eq-eqb r.start a k)
       by false f g more =
           let d : eqb r.start a ≡ false = ne_eqb r.start a (λ k. omega (arith, fit_from n (r.start + r.size) hi a l h.1 g, h.0.some)) in
           rw d (more g)
 
-  pub taken_was_free : (a lo hi : ℕ) (l : List VMRegion) → Rows lo hi l → first_fit n l ≡ Value a → used_size a l ≡ Stop region_not_found
+  pub taken_was_free : (a lo hi : ℕ) (l : List VMRegion) → Rows lo hi l → first_fit n l ≡ Ok a → used_size a l ≡ Err RegionNotFound
   unfolding first_fit used_size
   taken_was_free a lo hi [] h e = refl
   taken_was_free a lo hi (r ∷ l) h e = by (fits n r) refl e (taken_was_free a (r.start + r.size) hi l h.1)
     where
-      by : (x : Bool) → fits n r ≡ x → pick x (Value r.start) (first_fit n l) ≡ Value a → (first_fit n l ≡ Value a → used_size a l ≡ Stop region_not_found)
-          → used_size a (r ∷ l) ≡ Stop region_not_found
+      by : (x : Bool) → fits n r ≡ x → pick x (Ok r.start) (first_fit n l) ≡ Ok a → (first_fit n l ≡ Ok a → used_size a l ≡ Err RegionNotFound)
+          → used_size a (r ∷ l) ≡ Err RegionNotFound
       by true f g more =
           let k : r.start ≡ a = cc in
           skip a r l (fits_free n r f) ∙ used_none a (r.start + r.size) hi l (omega (arith, h.0.some)) h.1
@@ -126,25 +126,25 @@ module _ (n : ℕ) (room : Bool) where
           let d : eqb r.start a ≡ false = ne_eqb r.start a (λ k. omega (arith, fit_from n (r.start + r.size) hi a l h.1 g, h.0.some)) in
           rw d (more g)
 
-  pub taken_others : (used : Bool) (a b : ℕ) (l : List VMRegion) → first_fit n l ≡ Value a → (b ≡ a → ⊥) → used_size b (take_first used n room l) ≡ used_size b l
+  pub taken_others : (used : Bool) (a b : ℕ) (l : List VMRegion) → first_fit n l ≡ Ok a → (b ≡ a → ⊥) → used_size b (take_first used n room l) ≡ used_size b l
   unfolding first_fit take_first used_size
   taken_others used a b [] e d = refl
   taken_others used a b (r ∷ l) e d = by (fits n r) refl e (λ g. taken_others used a b l g d)
     where
-      by : (x : Bool) → fits n r ≡ x → pick x (Value r.start) (first_fit n l) ≡ Value a → (first_fit n l ≡ Value a → used_size b (take_first used n room l) ≡ used_size b l)
+      by : (x : Bool) → fits n r ≡ x → pick x (Ok r.start) (first_fit n l) ≡ Ok a → (first_fit n l ≡ Ok a → used_size b (take_first used n room l) ≡ used_size b l)
           → used_size b (pick x (vm_region r.start n used ∷ behind n room r l) (r ∷ take_first used n room l)) ≡ used_size b (r ∷ l)
       by true f g more =
           let k : r.start ≡ a = cc in
           let z : eqb r.start b ≡ false = ne_eqb r.start b (λ q. d (sym q ∙ k)) in
           rw z (behind_used b r l)
-      by false f g more = ap (pick (both (eqb r.start b) r.used) (Value r.size)) (more g)
+      by false f g more = ap (pick (both (eqb r.start b) r.used) (Ok r.size)) (more g)
 
 -- where no region is used, all are free
 abbrev pub AllFree : List VMRegion → Type 0
 AllFree [] = Unit {0}
 AllFree (r ∷ l) = (r.used ≡ false) × AllFree l
 
-pub all_free : (l : List VMRegion) → ((b : ℕ) → used_size b l ≡ Stop region_not_found) → AllFree l
+pub all_free : (l : List VMRegion) → ((b : ℕ) → used_size b l ≡ Err RegionNotFound) → AllFree l
 unfolding used_size
 all_free [] h = tt
 all_free (r ∷ l) h = let u = free r.used refl in (u, all_free l (λ b. sym (skip b r l u) ∙ h b))
@@ -152,6 +152,6 @@ all_free (r ∷ l) h = let u = free r.used refl in (u, all_free l (λ b. sym (sk
     free : (x : Bool) → r.used ≡ x → r.used ≡ false
     free false e = e
     free true e =
-        let z : pick (both (eqb r.start r.start) r.used) (Value r.size) (used_size r.start l) ≡ Stop region_not_found = h r.start in
-        let y : Value r.size ≡ Stop region_not_found = rw (eq-eqb r.start r.start refl, e) at z in
+        let z : pick (both (eqb r.start r.start) r.used) (Ok r.size) (used_size r.start l) ≡ Err RegionNotFound = h r.start in
+        let y : Ok r.size ≡ Err RegionNotFound = rw (eq-eqb r.start r.start refl, e) at z in
         let w : ◌≡◌ {A = ℕ} 0 1 = cc in absurd (omega arith)

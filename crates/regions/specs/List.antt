@@ -3,12 +3,7 @@ use Rattle.std.specs.Prelude.{ℕ, ◌+◌, ◌≤◌, min, Bool, false, List, �
 use Rattle.bits.specs.Bit.{both}
 use Rattle.slots.specs.Slots.{Slots}
 use Rattle.regions.specs.declared.VMRegion.{VMRegion}
-use Rattle.regions.specs.declared.Stepped.{Stepped}
 use Rattle.regions.specs.Regions.{vm_region, window, no_vm_region}
-
--- what a step leaves, as code holds it
-abbrev pub stepped : Slots VMRegion → Stepped
-stepped s = record { regions = s.slots; count = s.count }
 
 -- `FEW_REGIONS`: how many slots the small local array has
 abbrev pub few_regions : ℕ

@@ -1,10 +1,10 @@
 -- The vmalloc list, document 01's 'vmalloc': first fit, split, merge.
+use Rattle.std.specs.Prelude.{Ok, Err, Result}
+use Rattle.answer.specs.declared.Refusal.{Refusal}
+use Rattle.answer.specs.declared.Refusal.TheVariants.{NoRegion, RegionNotFound}
 use Rattle.std.specs.Prelude.{ℕ, ◌+◌, ◌-◌, ◌%◌, Bool, false, not, List, [], ◌∷◌, length, drop, ◌==◌, nat_le, nat_lt}
 use Rattle.bits.specs.Bit.{pick, both}
 use Rattle.allocator.specs.Round.{last_page}
-use Rattle.answer.specs.Numbers.{no_region, region_not_found}
-use Rattle.answer.specs.declared.Outcome.{Outcome}
-use Rattle.answer.specs.declared.Outcome.TheVariants.{Value, Stop}
 use Rattle.slots.specs.Slots.{Slots, listed, every, store}
 use Rattle.regions.specs.declared.VMRegion.{VMRegion}
 
@@ -46,9 +46,9 @@ abbrev pub fits : ℕ → VMRegion → Bool
 fits n r = both (not r.used) (nat_le n r.size)
 
 -- 'First free region large enough'; 15 where there is none
-unfoldable pub first_fit : ℕ → List VMRegion → Outcome
-first_fit n [] = Stop no_region
-first_fit n (r ∷ l) = pick (fits n r) (Value r.start) (first_fit n l)
+unfoldable pub first_fit : ℕ → List VMRegion → Result ℕ Refusal
+first_fit n [] = Err NoRegion
+first_fit n (r ∷ l) = pick (fits n r) (Ok r.start) (first_fit n l)
 
 -- the regions behind the one that n bytes are taken of: 'A larger one is split if fewer than 256 stand; at 256 the tail is lost'
 abbrev pub behind : ℕ → Bool → VMRegion → List VMRegion → List VMRegion
@@ -68,9 +68,9 @@ abbrev pub taken_slots : Bool → ℕ → Slots VMRegion → Slots VMRegion
 taken_slots used n s = store no_vm_region (taken used n (listed s)) s
 
 -- the size of the used region at a; 16 where there is none
-unfoldable pub used_size : ℕ → List VMRegion → Outcome
-used_size a [] = Stop region_not_found
-used_size a (r ∷ l) = pick (both (r.start == a) r.used) (Value r.size) (used_size a l)
+unfoldable pub used_size : ℕ → List VMRegion → Result ℕ Refusal
+used_size a [] = Err RegionNotFound
+used_size a (r ∷ l) = pick (both (r.start == a) r.used) (Ok r.size) (used_size a l)
 
 -- that region, free
 unfoldable pub free_first : ℕ → List VMRegion → List VMRegion

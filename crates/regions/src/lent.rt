@@ -4,20 +4,19 @@ ghost use Rattle.bits.specs.Bit.{both};
 ghost use Rattle.slots.specs.Slots.{slotted, every, store, first_at};
 ghost use Rattle.regions.specs.Regions.{vm_region, no_vm_region, well_placed_vm, fits, taken_slots, joins as joins_of, merge};
 ghost use Rattle.slots.specs.Shifts.{shifted_up, shifted_down};
-ghost use Rattle.regions.specs.List.{stepped, few_regions, HasRoom, marked_at, freed_at};
+ghost use Rattle.regions.specs.List.{HasRoom, marked_at, freed_at};
 
-use crate::{FEW_REGIONS, MAX_VM_REGIONS, Stepped, SteppedFew, VMRegion};
+use crate::{MAX_VM_REGIONS, VMRegion};
 
 // Region i has `size` bytes then, and is used or free.
 pub fn mark(regions: &mut [VMRegion], i: usize, size: u64, used: bool)
     requires { i < length regions.old }
     ensures { regions.new ≡ marked_at i size used regions.old }
 {
-    let r = regions[i];
     regions[i] = VMRegion {
-        start: r.start,
         size,
         used,
+        ..regions[i]
     };
 }
 
@@ -26,11 +25,7 @@ pub fn shift_up(regions: &mut [VMRegion], at: usize, end: usize, r: VMRegion)
     requires { (at ≤ end) × (end < length regions.old) }
     ensures { regions.new ≡ slice_set (shifted_up regions.old at end) at r }
 {
-    let mut j = end;
-    while at < j {
-        regions[j] = regions[j - 1];
-        j -= 1;
-    }
+    regions.copy_within(at..end, at + 1);
     regions[at] = r;
 }
 
@@ -39,17 +34,8 @@ pub fn shift_down(regions: &mut [VMRegion], at: usize, end: usize)
     requires { (at < end) × (end ≤ length regions.old) }
     ensures { regions.new ≡ shifted_down no_vm_region regions.old at end }
 {
-    let last = end - 1;
-    let mut j = at;
-    while j < last {
-        regions[j] = regions[j + 1];
-        j += 1;
-    }
-    regions[last] = VMRegion {
-        start: 0,
-        size: 0,
-        used: false,
-    };
+    regions.copy_within(at + 1..end, at);
+    regions[end - 1] = VMRegion::default();
 }
 
 // What is left of a region of which `size` bytes are taken.
@@ -68,10 +54,7 @@ fn tail(r: VMRegion, size: u64) -> VMRegion
 fn keeps_tail(count: usize, r: VMRegion, size: u64) -> bool
     ensures { result ≡ both (nat_lt count 256) (nat_lt size r.size) }
 {
-    if count < MAX_VM_REGIONS {
-        return size < r.size;
-    }
-    false
+    count < MAX_VM_REGIONS && size < r.size
 }
 
 // `size` bytes taken of region i, the first that is large enough: it has `size` bytes then, and is used or free. A larger one is split if fewer than 256 stand;
@@ -95,13 +78,7 @@ fn joins(r: VMRegion, s: VMRegion) -> bool
     requires { r.start + r.size < 2 ^ 64 }
     ensures { result ≡ joins_of r s }
 {
-    if r.used {
-        return false;
-    }
-    if s.used {
-        return false;
-    }
-    r.start + r.size == s.start
+    !r.used && !s.used && r.start + r.size == s.start
 }
 
 // Every adjoining pair of free regions joined, in one pass from the left. Answers how many regions stand then.
@@ -111,6 +88,7 @@ pub fn merge_free_regions(regions: &mut [VMRegion], count: usize) -> usize
 {
     let mut n = count;
     let mut i = 0;
+    // No range counts i: it stays where a pair was joined, and n falls.
     while i + 1 < n {
         let r = regions[i];
         let s = regions[i + 1];
@@ -133,61 +111,4 @@ pub fn free_region(regions: &mut [VMRegion], count: usize, i: usize) -> usize
     let r = regions[i];
     mark(regions, i, r.size, false);
     merge_free_regions(regions, count)
-}
-
-// The steps on slots that are held by value, which are put in a local and lent to them.
-pub fn taken(regions: [VMRegion; 256], count: usize, i: usize, size: u64, used: bool) -> Stepped
-    requires { (count ≤ 256) × (every well_placed_vm (take count regions) ≡ true) × (i ≡ first_at (fits size) (take count regions)) × (i < count) }
-    ensures { result ≡ stepped (taken_slots used size (slotted regions count)) }
-{
-    let mut next = regions;
-    let n = take_region(&mut next, count, i, size, used);
-    Stepped {
-        regions: next,
-        count: n,
-    }
-}
-
-pub fn freed(regions: [VMRegion; 256], count: usize, i: usize) -> Stepped
-    requires { (count ≤ 256) × (every well_placed_vm (take count regions) ≡ true) × (i < count) }
-    ensures { result ≡ stepped (store no_vm_region (merge (freed_at i (take count regions))) (slotted regions count)) }
-{
-    let mut next = regions;
-    let n = free_region(&mut next, count, i);
-    Stepped {
-        regions: next,
-        count: n,
-    }
-}
-
-// The same in the small array, which has a slot for the tail.
-pub fn taken_few(
-    regions: [VMRegion; FEW_REGIONS],
-    count: usize,
-    i: usize,
-    size: u64,
-    used: bool,
-) -> SteppedFew
-    requires { (count < few_regions) × (every well_placed_vm (take count regions) ≡ true) × (i ≡ first_at (fits size) (take count regions)) × (i < count) }
-    ensures { slotted result.regions result.count ≡ taken_slots used size (slotted regions count) }
-{
-    let mut next = regions;
-    let n = take_region(&mut next, count, i, size, used);
-    SteppedFew {
-        regions: next,
-        count: n,
-    }
-}
-
-// The same in the small array.
-pub fn freed_few(regions: [VMRegion; FEW_REGIONS], count: usize, i: usize) -> SteppedFew
-    requires { (count ≤ few_regions) × (every well_placed_vm (take count regions) ≡ true) × (i < count) }
-    ensures { slotted result.regions result.count ≡ store no_vm_region (merge (freed_at i (take count regions))) (slotted regions count) }
-{
-    let mut next = regions;
-    let n = free_region(&mut next, count, i);
-    SteppedFew {
-        regions: next,
-        count: n,
-    }
 }

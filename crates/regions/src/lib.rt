@@ -16,25 +16,12 @@ pub const MAX_VM_REGIONS: usize = 256;
 // Lists of so many regions at most go through a small array: 1.5 KB to fill instead of 6.
 pub const FEW_REGIONS: usize = 64;
 
-#[derive(Clone, Copy)]
+// A slot that holds no region is all zero, as the default.
+#[derive(Clone, Copy, Default)]
 pub struct VMRegion {
     pub start: u64,
     pub size: u64,
     pub used: bool,
-}
-
-// What a step on slots that are held by value leaves: the slots, and how many regions stand.
-#[derive(Clone, Copy)]
-pub struct Stepped {
-    pub regions: [VMRegion; 256],
-    pub count: usize,
-}
-
-// The same of the small array.
-#[derive(Clone, Copy)]
-pub struct SteppedFew {
-    pub regions: [VMRegion; FEW_REGIONS],
-    pub count: usize,
 }
 
 // Whether a recorded region is aligned, not empty, and ends at most where the last page starts. Numbers of whole pages whose sum does not wrap end there, so that two
@@ -42,8 +29,5 @@ pub struct SteppedFew {
 pub fn is_well_placed(start: u64, size: u64) -> bool
     ensures { result ≡ well_placed start size }
 {
-    if start % 4096 + size % 4096 != 0 {
-        return false;
-    }
-    start < std::num::wrapping_add_u64(start, size)
+    start % 4096 + size % 4096 == 0 && start < start.wrapping_add(size)
 }

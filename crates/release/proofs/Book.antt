@@ -7,9 +7,9 @@ use native.Mathlib.Omega.{arith}
 use native.Mathlib.Nat.{add_assoc}
 use lib.Dec.{eqb, leb, ltb}
 use borrow.Author.Tests.{eq-eqb, ne_eqb, eqb-true}
+use Rattle.std.specs.Prelude.{Ok}
 use Rattle.bits.specs.Bit.{pick, both}
 use Rattle.bits.proofs.Choice.{both_true}
-use Rattle.answer.specs.declared.Outcome.TheVariants.{Value}
 use Rattle.regions.specs.declared.VMRegion.{VMRegion}
 use Rattle.regions.specs.Regions.{vm_region, fits, first_fit, behind, take_first, free_first, joins, merge_from, merge}
 use Rattle.regions.proofs.Merge.{join, left_of_lem, right_of}
@@ -18,7 +18,7 @@ use Rattle.regions.proofs.Tiles.{larger}
 use Rattle.release.specs.Demand3.{take_part, free_part, join_onto, join_parts, exceeds}
 
 -- a region that does not fit, before one that does, does not start where that one does
-module _ (n a lo hi : ℕ) (r : VMRegion) (l : List VMRegion) (h : Rows lo hi (r ∷ l)) (g : first_fit n l ≡ Value a) where
+module _ (n a lo hi : ℕ) (r : VMRegion) (l : List VMRegion) (h : Rows lo hi (r ∷ l)) (g : first_fit n l ≡ Ok a) where
   earlier : eqb r.start a ≡ false
   earlier = ne_eqb r.start a (λ e. omega (arith, fit_from n (r.start + r.size) hi a l h.1 g, h.0.some))
 
@@ -29,7 +29,7 @@ module _ (n a lo hi : ℕ) (r : VMRegion) (l : List VMRegion) (h : Rows lo hi (r
       by true = refl
       by false = refl
 
-pub take_cut : (n a lo hi : ℕ) (room : Bool) (l : List VMRegion) → Rows lo hi l → first_fit n l ≡ Value a → take_part a n room l ≡ take_first true n room l
+pub take_cut : (n a lo hi : ℕ) (room : Bool) (l : List VMRegion) → Rows lo hi l → first_fit n l ≡ Ok a → take_part a n room l ≡ take_first true n room l
 unfolding take_part take_first first_fit
 take_cut n a lo hi room [] h e = refl
 take_cut n a lo hi room (r ∷ l) h e = by (fits n r) refl e (take_cut n a (r.start + r.size) hi room l h.1)
@@ -40,7 +40,7 @@ take_cut n a lo hi room (r ∷ l) h e = by (fits n r) refl e (take_cut n a (r.st
     tail false true = refl
     tail false false = refl
 
-    by : (x : Bool) → fits n r ≡ x → pick x (Value r.start) (first_fit n l) ≡ Value a → (first_fit n l ≡ Value a → take_part a n room l ≡ take_first true n room l)
+    by : (x : Bool) → fits n r ≡ x → pick x (Ok r.start) (first_fit n l) ≡ Ok a → (first_fit n l ≡ Ok a → take_part a n room l ≡ take_first true n room l)
         → take_part a n room (r ∷ l) ≡ pick x (vm_region r.start n true ∷ behind n room r l) (r ∷ take_first true n room l)
     by true f g more =
         let k : r.start ≡ a = cc in
@@ -49,12 +49,12 @@ take_cut n a lo hi room (r ∷ l) h e = by (fits n r) refl e (take_cut n a (r.st
     by false f g more = rw (passed n a lo hi r l h g) (ap (λ (xs : List VMRegion). r ∷ xs) (more g))
 
 -- the part that is taken exceeds the size where the first fit does
-pub exceeds_larger : (n a lo hi : ℕ) (l : List VMRegion) → Rows lo hi l → first_fit n l ≡ Value a → exceeds a n l ≡ larger n l
+pub exceeds_larger : (n a lo hi : ℕ) (l : List VMRegion) → Rows lo hi l → first_fit n l ≡ Ok a → exceeds a n l ≡ larger n l
 unfolding exceeds first_fit
 exceeds_larger n a lo hi [] h e = refl
 exceeds_larger n a lo hi (r ∷ l) h e = by (fits n r) refl e (exceeds_larger n a (r.start + r.size) hi l h.1)
   where
-    by : (x : Bool) → fits n r ≡ x → pick x (Value r.start) (first_fit n l) ≡ Value a → (first_fit n l ≡ Value a → exceeds a n l ≡ larger n l)
+    by : (x : Bool) → fits n r ≡ x → pick x (Ok r.start) (first_fit n l) ≡ Ok a → (first_fit n l ≡ Ok a → exceeds a n l ≡ larger n l)
         → exceeds a n (r ∷ l) ≡ pick x (ltb n r.size) (larger n l)
     by true f g more =
         let k : r.start ≡ a = cc in

@@ -6,8 +6,8 @@ use mathlib.Core.List.Memᴰ
 use mathlib.Core.List.{List, ◌∷◌}
 use native.Mathlib.Omega.{arith}
 use borrow.Author.Tests.{eq-eqb, ne_eqb}
+use Rattle.std.specs.Prelude.{Ok}
 use Rattle.allocator.specs.Round.{rounded}
-use Rattle.answer.specs.declared.Outcome.TheVariants.{Value}
 use Rattle.paging.specs.Map.{Memory}
 use Rattle.paging.specs.Pages.{free_pages}
 use Rattle.slots.specs.Slots.{listed}
@@ -55,34 +55,34 @@ user_after u (user_region a n) = remove a u
 
 -- one release
 pub record Gave (up : ℕ) (left : Leftover) (b : Board) (k : List VMRegion) (u : List MappedRegion) (r : Region) (l : List Region) (c : Call) : Type 0 where
-  pub met : (play b c).answer ≡ Value 0
+  pub met : (play b c).answer ≡ Ok 0
   pub found : found_by b c ≡ whole_freed r
   pub leaves : (play b c).board ≡ board b (memory_after up b.root b.mem r) (kernel_after k r) (user_after u r)
   pub inv : Inv up left (board b (memory_after up b.root b.mem r) (kernel_after k r) (user_after u r)) (kernel_after k r) (user_after u r) l
 
 -- of a kernel's region
 module _ {up : ℕ} {b : Board} {k : List VMRegion} {u : List MappedRegion} {l : List Region} {left : Leftover} (a n : ℕ) (h : Inv up left b k u (kernel_region a n ∷ l)) where
-  used : used_size a k ≡ Value n
+  used : used_size a k ≡ Ok n
   used = h.kernel_list.live a n (Memᴰ.head refl)
 
   above : 0 < a
   above = omega (arith, (used_inside a n window_start window_end k h.kernel_list.rows used).from)
 
-  listed_used : used_size a (listed b.kernel) ≡ Value n
+  listed_used : used_size a (listed b.kernel) ≡ Ok n
   listed_used = ap (used_size a) (kernel_listed h) ∙ used
 
   kernel_found : found_by b (vfree_call a) ≡ whole_freed (kernel_region a n)
   unfolding vfree_found
   kernel_found = rw (above_is h, kernel_sound h, ne_eqb a 0 (λ z. omega (arith, above)), listed_used) (paged_found a (n / 4096) (pages_with l left.stranded) h.paged)
 
-  kernel_play : play b (vfree_call a) ≡ board_did (Value 0) (board b (free_pages up b.mem b.root a (n / 4096)) (merge (freed_all a k)) u)
+  kernel_play : play b (vfree_call a) ≡ board_did (Ok 0) (board b (free_pages up b.mem b.root a (n / 4096)) (merge (freed_all a k)) u)
   unfolding play
   kernel_play =
       rw (
         above_is h,
         vfree_met up (kernel_of b) b.root a n (kernel_sound h) above listed_used,
       )
-      λ i. board_did (Value 0) (record { mem = free_pages up b.mem b.root a (n / 4096); root = b.root; kernel = slots_freed h a i; user = h.user_is i; next = b.next; marked = b.marked })
+      λ i. board_did (Ok 0) (record { mem = free_pages up b.mem b.root a (n / 4096); root = b.root; kernel = slots_freed h a i; user = h.user_is i; next = b.next; marked = b.marked })
 
   pub kernel_gave : Gave up left b k u (kernel_region a n) l (vfree_call a)
   kernel_gave = record {
@@ -102,7 +102,7 @@ module _ {up : ℕ} {b : Board} {k : List VMRegion} {u : List MappedRegion} {l :
   }
 
 -- of a user's
-module _ {up : ℕ} {b : Board} {k : List VMRegion} {u : List MappedRegion} {l : List Region} {left : Leftover} (a n size : ℕ) (r : rounded size ≡ Value n) (h : Inv up left b k u (user_region a n ∷ l)) where
+module _ {up : ℕ} {b : Board} {k : List VMRegion} {u : List MappedRegion} {l : List Region} {left : Leftover} (a n size : ℕ) (r : rounded size ≡ Ok n) (h : Inv up left b k u (user_region a n ∷ l)) where
   held : holds a n u ≡ true
   held = h.user_list.live a n (Memᴰ.head refl)
 
@@ -112,7 +112,7 @@ module _ {up : ℕ} {b : Board} {k : List VMRegion} {u : List MappedRegion} {l :
     where
       by : (z : ℕ) → size ≡ z → 0 < size
       by zero e =
-          let q : Value 0 ≡ Value n = subst (λ (x : ℕ). rounded x ≡ Value n) e r in
+          let q : Ok 0 ≡ Ok n = subst (λ (x : ℕ). rounded x ≡ Ok n) e r in
           let w : 0 ≡ n = cc in
           absurd (omega (arith, (holds_placed a n 0 u h.user_list.rising held).some))
       by (suc z) e = omega arith
@@ -127,14 +127,14 @@ module _ {up : ℕ} {b : Board} {k : List VMRegion} {u : List MappedRegion} {l :
   unfolding munmap_found
   user_found = rw (above_is h, user_sound h, ne_eqb size 0 (λ z. omega (arith, asked)), even, r, listed_held) (paged_found a (n / 4096) (pages_with l left.stranded) h.paged)
 
-  user_play : play b (munmap_call a size) ≡ board_did (Value 0) (board b (free_pages up b.mem b.root a (n / 4096)) k (remove a u))
+  user_play : play b (munmap_call a size) ≡ board_did (Ok 0) (board b (free_pages up b.mem b.root a (n / 4096)) k (remove a u))
   unfolding play
   user_play =
       rw (
         above_is h,
         munmap_met up (user_of b) b.root a size n (user_sound h) asked even r listed_held,
       )
-      λ i. board_did (Value 0) (record { mem = free_pages up b.mem b.root a (n / 4096); root = b.root; kernel = h.kernel_is i; user = slots_removed h a i; next = b.next; marked = b.marked })
+      λ i. board_did (Ok 0) (record { mem = free_pages up b.mem b.root a (n / 4096); root = b.root; kernel = h.kernel_is i; user = slots_removed h a i; next = b.next; marked = b.marked })
 
   pub user_gave : Gave up left b k u (user_region a n) l (munmap_call a size)
   user_gave = record {

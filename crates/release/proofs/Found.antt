@@ -4,10 +4,10 @@ use mathlib.Core.Path.{◌≡◌, refl, ◌∙◌, ap, sym}
 use mathlib.Core.Bool.{Bool, true, false}
 use mathlib.Core.List.{List, Memᴰ}
 use lib.Dec.{eqb}
+use Rattle.std.specs.Prelude.{Ok, Err, Result}
+use Rattle.answer.specs.declared.Refusal.{Refusal}
 use Rattle.bits.specs.Bit.{pick, unless}
 use Rattle.allocator.specs.Round.{rounded}
-use Rattle.answer.specs.declared.Outcome.{Outcome}
-use Rattle.answer.specs.declared.Outcome.TheVariants.{Value, Stop}
 use Rattle.frame.specs.Found.{none_found}
 use Rattle.paging.specs.Found.{pages_found}
 use Rattle.slots.specs.Slots.{listed}
@@ -36,24 +36,24 @@ module _ {up : ℕ} {b : Board} {k : List VMRegion} {u : List MappedRegion} {l :
   unfolding vfree_found
   vfree_other a other = rw (above_is h, kernel_sound h) (by (eqb a 0) (used_size a (listed b.kernel)) refl)
     where
-      by : (z : Bool) (w : Outcome) → used_size a (listed b.kernel) ≡ w → pick z none_found (released_found up (kernel_of b) b.root a w) ≡ none_found
+      by : (z : Bool) (w : Result ℕ Refusal) → used_size a (listed b.kernel) ≡ w → pick z none_found (released_found up (kernel_of b) b.root a w) ≡ none_found
       by true w e = refl
-      by false (Stop x) e = refl
-      by false (Value n) e = absurd (other (kernel_region a n) (h.kernel_list.used a n (ap (used_size a) (sym (kernel_listed h)) ∙ e)) by_vfree)
+      by false (Err x) e = refl
+      by false (Ok n) e = absurd (other (kernel_region a n) (h.kernel_list.used a n (ap (used_size a) (sym (kernel_listed h)) ∙ e)) by_vfree)
 
   munmap_other : (a size : ℕ) → ((r : Region) → Memᴰ r l → Releases r (munmap_call a size) → ⊥) → found_by b (munmap_call a size) ≡ none_found
   unfolding munmap_found
   munmap_other a size other = rw (above_is h, user_sound h) (by (eqb size 0) (on_page a) (rounded size) refl)
     where
-      held : (n : ℕ) → rounded size ≡ Value n → (x : Bool) → holds a n (listed b.user) ≡ x → unless x none_found (pages_found up b.mem b.root a (n / 4096)) ≡ none_found
+      held : (n : ℕ) → rounded size ≡ Ok n → (x : Bool) → holds a n (listed b.user) ≡ x → unless x none_found (pages_found up b.mem b.root a (n / 4096)) ≡ none_found
       held n e true q = absurd (other (user_region a n) (h.user_list.held a n (ap (holds a n) (sym (user_listed h)) ∙ q)) (by_munmap e))
       held n e false q = refl
 
-      by : (z y : Bool) (w : Outcome) → rounded size ≡ w → pick z none_found (unless y none_found (unmapped_found up (user_of b) b.root a w)) ≡ none_found
+      by : (z y : Bool) (w : Result ℕ Refusal) → rounded size ≡ w → pick z none_found (unless y none_found (unmapped_found up (user_of b) b.root a w)) ≡ none_found
       by true y w e = refl
       by false false w e = refl
-      by false true (Stop x) e = refl
-      by false true (Value n) e = held n e (holds a n (listed b.user)) refl
+      by false true (Err x) e = refl
+      by false true (Ok n) e = held n e (holds a n (listed b.user)) refl
 
   other_found : (c : Call) → ((r : Region) → Memᴰ r l → Releases r c → ⊥) → found_by b c ≡ none_found
   other_found (vmalloc_call size) other = refl

@@ -6,11 +6,11 @@ use mathlib.Core.List.{List, [], ◌∷◌, ◌++◌, Memᴰ}
 use native.Mathlib.Omega.{arith}
 use lib.Dec.{ltb}
 use lib.ListN.{length}
+use Rattle.std.specs.Prelude.{Ok, Err, Result}
+use Rattle.answer.specs.declared.Refusal.{Refusal}
 use Rattle.bits.proofs.Choice.{pick_cases}
 use Rattle.allocator.specs.Round.{round_up}
 use Rattle.allocator.proofs.Round.{round_multiple, round_pos}
-use Rattle.answer.specs.declared.Outcome.{Outcome}
-use Rattle.answer.specs.declared.Outcome.TheVariants.{Value, Stop}
 use Rattle.paging.specs.Pages.{free_pages}
 use Rattle.slots.specs.Slots.{Slots, listed, store}
 use Rattle.slots.proofs.Filled.{filled, listed_filled, store_filled}
@@ -34,15 +34,15 @@ use Rattle.release.proofs.Invariant.{Leftover, Inv, Tidy, inv_perm}
 use Rattle.release.proofs.Sound.{kernel_sound, above_is}
 
 -- the pages ever mapped, after a region of n bytes at a
-abbrev pub more_pages : List ℕ → Outcome → ℕ → List ℕ
-more_pages ever (Value a) n = pages_from a (n / 4096) ++ ever
-more_pages ever (Stop e) n = ever
+abbrev pub more_pages : List ℕ → Result ℕ Refusal → ℕ → List ℕ
+more_pages ever (Ok a) n = pages_from a (n / 4096) ++ ever
+more_pages ever (Err e) n = ever
 
 -- where no region fits it is 15, which is neither 11 nor 13
 fit_quiet : (n : ℕ) (l : List VMRegion) → turned_away (first_fit n l) ≡ false
 unfolding first_fit
 fit_quiet n [] = refl
-fit_quiet n (r ∷ l) = pick_cases (λ (w : Outcome). turned_away w ≡ false) (fits n r) _ _ (λ _. refl) (λ _. fit_quiet n l)
+fit_quiet n (r ∷ l) = pick_cases (λ (w : Result ℕ Refusal). turned_away w ≡ false) (fits n r) _ _ (λ _. refl) (λ _. fit_quiet n l)
 
 module _ {up : ℕ} {b : Board} {k : List VMRegion} {u : List MappedRegion} {l : List Region} {left : Leftover} (h : Inv up left b k u l) where
   pub kernel_listed : listed b.kernel ≡ k
@@ -63,38 +63,38 @@ module _ {up : ℕ} {b : Board} {k : List VMRegion} {u : List MappedRegion} {l :
 
   -- every outcome of a vmalloc: refused with nothing changed, met, turned away with 11 or 13
   pub vmalloc_outcomes : (size : ℕ) (P : KernelDid → Type 0) → let n = round_up 12 size in
-      ((e : ℕ) → turned_away (Stop e) ≡ false → P (kernel_did (Stop e) (kernel_of b)))
-      → ((a x : ℕ) → 0 < n → first_fit n k ≡ Value a → (kernel_pages up b.mem b.root a n).walked ≡ Value x
-      → P (kernel_did (Value a) (kernel (kernel_pages up b.mem b.root a n).mem (filled no_vm_region (taken true n k)))))
-      → ((a e : ℕ) → 0 < n → first_fit n k ≡ Value a → (kernel_pages up b.mem b.root a n).walked ≡ Stop e → turned_away (Stop e) ≡ true
-      → P (kernel_did (Stop e) (kernel (kernel_pages up b.mem b.root a n).mem (filled no_vm_region (taken false n k)))))
+      ((e : Refusal) → turned_away (Err e) ≡ false → P (kernel_did (Err e) (kernel_of b)))
+      → ((a x : ℕ) → 0 < n → first_fit n k ≡ Ok a → (kernel_pages up b.mem b.root a n).walked ≡ Ok x
+      → P (kernel_did (Ok a) (kernel (kernel_pages up b.mem b.root a n).mem (filled no_vm_region (taken true n k)))))
+      → ((a : ℕ) (e : Refusal) → 0 < n → first_fit n k ≡ Ok a → (kernel_pages up b.mem b.root a n).walked ≡ Err e → turned_away (Err e) ≡ true
+      → P (kernel_did (Err e) (kernel (kernel_pages up b.mem b.root a n).mem (filled no_vm_region (taken false n k)))))
       → P (vmalloc_of (kernel_of b) b.root size)
   vmalloc_outcomes size P refused met stopped =
       subst (λ (n : ℕ). P (vmalloc n (kernel_of b) b.root size)) (sym (above_is h)) (vmalloc_cases up (kernel_of b) b.root size P
       (λ e. absurd (true≢false (sym (kernel_sound h) ∙ e))) (refused _ refl) (refused _ refl)
       (λ e f. refused e (ap turned_away (sym f) ∙ fit_quiet n (listed b.kernel)))
-      (λ s pos le a f. by a (subst (λ (x : List VMRegion). first_fit n x ≡ Value a) kernel_listed f) (round_pos 12 size pos) (kernel_pages up b.mem b.root a n).walked refl))
+      (λ s pos le a f. by a (subst (λ (x : List VMRegion). first_fit n x ≡ Ok a) kernel_listed f) (round_pos 12 size pos) (kernel_pages up b.mem b.root a n).walked refl))
     where
       n : ℕ
       n = round_up 12 size
 
-      by : (a : ℕ) → first_fit n k ≡ Value a → 0 < n → (w : Outcome) → (kernel_pages up b.mem b.root a n).walked ≡ w
+      by : (a : ℕ) → first_fit n k ≡ Ok a → 0 < n → (w : Result ℕ Refusal) → (kernel_pages up b.mem b.root a n).walked ≡ w
           → P (kernel_mapped a n b.kernel w (kernel_pages up b.mem b.root a n).mem)
-      by a f pos (Value x) e = subst (λ (s : Slots VMRegion). P (kernel_did (Value a) (kernel (kernel_pages up b.mem b.root a n).mem s))) (sym (slots_taken true n)) (met a x pos f e)
-      by a f pos (Stop x) e =
-          subst (λ (s : Slots VMRegion). P (kernel_did (Stop x) (kernel (kernel_pages up b.mem b.root a n).mem s))) (sym (slots_taken false n))
+      by a f pos (Ok x) e = subst (λ (s : Slots VMRegion). P (kernel_did (Ok a) (kernel (kernel_pages up b.mem b.root a n).mem s))) (sym (slots_taken true n)) (met a x pos f e)
+      by a f pos (Err x) e =
+          subst (λ (s : Slots VMRegion). P (kernel_did (Err x) (kernel (kernel_pages up b.mem b.root a n).mem s))) (sym (slots_taken false n))
           (stopped a x pos f e (paged_stop true false h.paged a (n / 4096) x e))
 
   -- every outcome of a vfree
   pub vfree_outcomes : (a : ℕ) (P : KernelDid → Type 0)
-      → ((e : ℕ) → P (kernel_did (Stop e) (kernel_of b)))
-      → ((n : ℕ) → used_size a k ≡ Value n → P (kernel_did (Value 0) (kernel (free_pages up b.mem b.root a (n / 4096)) (filled no_vm_region (merge (freed_all a k))))))
+      → ((e : Refusal) → P (kernel_did (Err e) (kernel_of b)))
+      → ((n : ℕ) → used_size a k ≡ Ok n → P (kernel_did (Ok 0) (kernel (free_pages up b.mem b.root a (n / 4096)) (filled no_vm_region (merge (freed_all a k))))))
       → P (vfree_of (kernel_of b) b.root a)
   vfree_outcomes a P refused met =
       subst (λ (n : ℕ). P (vfree n (kernel_of b) b.root a)) (sym (above_is h)) (vfree_cases up (kernel_of b) b.root a P
       (λ e. absurd (true≢false (sym (kernel_sound h) ∙ e))) (λ e f. refused e)
-      (λ s pos n e. subst (λ (s : Slots VMRegion). P (kernel_did (Value 0) (kernel (free_pages up b.mem b.root a (n / 4096)) s))) (sym (slots_freed a))
-      (met n (subst (λ (x : List VMRegion). used_size a x ≡ Value n) kernel_listed e))))
+      (λ s pos n e. subst (λ (s : Slots VMRegion). P (kernel_did (Ok 0) (kernel (free_pages up b.mem b.root a (n / 4096)) s))) (sym (slots_freed a))
+      (met n (subst (λ (x : List VMRegion). used_size a x ≡ Ok n) kernel_listed e))))
 
   -- the book's list once a part is freed
   book_freed : (a : ℕ) → join_parts (free_part a k) ≡ merge (freed_all a k)
@@ -103,7 +103,7 @@ module _ {up : ℕ} {b : Board} {k : List VMRegion} {u : List MappedRegion} {l :
   -- ---- the invariant
 
   -- a region that is taken
-  pub kernel_took : (size a x : ℕ) → let n = round_up 12 size in 0 < n → first_fit n k ≡ Value a → (kernel_pages up b.mem b.root a n).walked ≡ Value x
+  pub kernel_took : (size a x : ℕ) → let n = round_up 12 size in 0 < n → first_fit n k ≡ Ok a → (kernel_pages up b.mem b.root a n).walked ≡ Ok x
       → Inv up left (with_kernel b (kernel (kernel_pages up b.mem b.root a n).mem (filled no_vm_region (taken true n k)))) (take_part a n (ltb (length k) 256) k) u (kernel_region a n ∷ l)
   kernel_took size a x pos f met =
       let n = round_up 12 size in
@@ -122,7 +122,7 @@ module _ {up : ℕ} {b : Board} {k : List VMRegion} {u : List MappedRegion} {l :
       new m = not_both (h.kernel_list.live a _ m) (taken_was_free (round_up 12 size) (ltb (length k) 256) a window_start window_end k h.kernel_list.rows f)
 
   -- a region that is released
-  gave : (a n : ℕ) → used_size a k ≡ Value n
+  gave : (a n : ℕ) → used_size a k ≡ Ok n
       → Inv up left (with_kernel b (kernel (free_pages up b.mem b.root a (n / 4096)) (filled no_vm_region (merge (freed_all a k))))) (join_parts (free_part a k)) u (drop_kernel a l)
   gave a n e =
       let p = drop_kernel_lem a n l (h.kernel_list.used a n e) (λ m q. same_at (h.kernel_list.live a m q) e) in

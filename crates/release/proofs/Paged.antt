@@ -5,11 +5,11 @@ use mathlib.Core.Bool.{Bool, true}
 use mathlib.Core.Logic.{⊎_elim}
 use mathlib.Core.List.{List, ◌∷◌, ◌++◌, Permᴰ}
 use native.Mathlib.Omega.{arith}
-use Rattle.answer.specs.Numbers.{no_free_frame, map_page_failed}
+use Rattle.std.specs.Prelude.{Ok, Err, Result}
+use Rattle.answer.specs.declared.Refusal.{Refusal}
+use Rattle.answer.specs.declared.Refusal.TheVariants.{NoFreeFrame, MapPageFailed}
 use Rattle.frame.specs.Found.{tally}
 use Rattle.frame.proofs.Steps.{span_give}
-use Rattle.answer.specs.declared.Outcome.{Outcome}
-use Rattle.answer.specs.declared.Outcome.TheVariants.{Value, Stop}
 use Rattle.paging.specs.Map.{Memory, start_frame}
 use Rattle.paging.specs.Pages.{Ran, map_fresh, map_pages, unmap_leaf, free_page, free_pages, freed}
 use Rattle.paging.specs.Found.{pages_found}
@@ -44,7 +44,7 @@ takes_start none = refl
 takes_start (more t r) = takes_start r ∙ t.grew.start
 
 -- n pages from v on are taken
-module _ (w u : Bool) {up : ℕ} {m : Memory} {root : ℕ} {pages lost : List ℕ} (h : Paged up m root pages lost) (v n x : ℕ) (e : (map_pages up w u m root v 0 n).walked ≡ Value x) where
+module _ (w u : Bool) {up : ℕ} {m : Memory} {root : ℕ} {pages lost : List ℕ} (h : Paged up m root pages lost) (v n x : ℕ) (e : (map_pages up w u m root v 0 n).walked ≡ Ok x) where
   pub met_takes : Takes root up m (run v n) (map_pages up w u m root v 0 n).mem
   met_takes = map_pages_met w u n h.account.order v 0 x e
 
@@ -62,26 +62,26 @@ module _ (w u : Bool) {up : ℕ} {m : Memory} {root : ℕ} {pages lost : List �
   pub take_start : start_frame (map_pages up w u m root v 0 n).mem ≡ start_frame m
   take_start = takes_start met_takes
 
-named : (e n : ℕ) → e ≡ n → turned_away (Stop n) ≡ true → turned_away (Stop e) ≡ true
-named e n q h = subst (λ (x : ℕ). turned_away (Stop x) ≡ true) (sym q) h
+named : (e : Refusal) (n : Refusal) → e ≡ n → turned_away (Err n) ≡ true → turned_away (Err e) ≡ true
+named e n q h = subst (λ (x : Refusal). turned_away (Err x) ≡ true) (sym q) h
 
 -- a run that is not had is turned away with 11 or 13
-stop_number : {up : ℕ} (w u : Bool) (n : ℕ) {m : Memory} {root : ℕ} → Ordered m root (suc up) → (v k e : ℕ) → (map_pages up w u m root v k n).walked ≡ Stop e → turned_away (Stop e) ≡ true
+stop_number : {up : ℕ} (w u : Bool) (n : ℕ) {m : Memory} {root : ℕ} → Ordered m root (suc up) → (v k : ℕ) (e : Refusal) → (map_pages up w u m root v k n).walked ≡ Err e → turned_away (Err e) ≡ true
 unfolding map_pages
 stop_number w u zero o v k e h = let z : ◌≡◌ {A = ℕ} 0 1 = cc in absurd (omega arith)
 stop_number {up} w u (suc n) {m} {root} o v k e h = go (map_fresh up w u m root v).walked refl (λ g. stop_number w u n g (v + 4096) (suc k) e)
   where
-    go : (y : Outcome) → (map_fresh up w u m root v).walked ≡ y
-        → (Ordered (map_fresh up w u m root v).mem root (suc up) → (map_pages up w u (map_fresh up w u m root v).mem root (v + 4096) (suc k) n).walked ≡ Stop e → turned_away (Stop e) ≡ true)
-        → turned_away (Stop e) ≡ true
-    go (Value x) f later = later (take_met o w u v x f).1.grew.order (ap (λ (q : Ran). q.walked) (sym (map_pages_on up w u m root v k n x f)) ∙ h)
-    go (Stop a) f later =
-        let q : Stop a ≡ Stop e = ap (λ (q : Ran). q.walked) (sym (map_pages_stop up w u m root v k n a f)) ∙ h in
+    go : (y : Result ℕ Refusal) → (map_fresh up w u m root v).walked ≡ y
+        → (Ordered (map_fresh up w u m root v).mem root (suc up) → (map_pages up w u (map_fresh up w u m root v).mem root (v + 4096) (suc k) n).walked ≡ Err e → turned_away (Err e) ≡ true)
+        → turned_away (Err e) ≡ true
+    go (Ok x) f later = later (take_met o w u v x f).1.grew.order (ap (λ (q : Ran). q.walked) (sym (map_pages_on up w u m root v k n x f)) ∙ h)
+    go (Err a) f later =
+        let q : ◌≡◌ {A = Result ℕ Refusal} (Err a) (Err e) = ap (λ (q : Ran). q.walked) (sym (map_pages_stop up w u m root v k n a f)) ∙ h in
         let z : a ≡ e = cc in
-        ⊎_elim (λ g. named e no_free_frame (sym z ∙ g) refl) (λ g. named e map_page_failed (sym z ∙ g) refl) (take_number o w u v a f)
+        ⊎_elim (λ g. named e NoFreeFrame (sym z ∙ g) refl) (λ g. named e MapPageFailed (sym z ∙ g) refl) (take_number o w u v a f)
 
-pub paged_stop : (w u : Bool) {up : ℕ} {m : Memory} {root : ℕ} {pages lost : List ℕ} → Paged up m root pages lost → (v n e : ℕ) → (map_pages up w u m root v 0 n).walked ≡ Stop e
-    → turned_away (Stop e) ≡ true
+pub paged_stop : (w u : Bool) {up : ℕ} {m : Memory} {root : ℕ} {pages lost : List ℕ} → Paged up m root pages lost → (v n : ℕ) (e : Refusal) → (map_pages up w u m root v 0 n).walked ≡ Err e
+    → turned_away (Err e) ≡ true
 paged_stop w u h v n e f = stop_number w u n h.account.order v 0 e f
 
 -- and freed again
@@ -89,9 +89,9 @@ free_start : (up : ℕ) (m : Memory) (root v : ℕ) → start_frame (free_page u
 unfolding free_page
 free_start up m root v = by (unmap_leaf up m root v).walked m.frames
   where
-    by : (w : Outcome) (fr : Frames) → (freed w fr).fa.start ≡ fr.fa.start
-    by (Value f) fr = (span_give fr f).start
-    by (Stop a) fr = refl
+    by : (w : Result ℕ Refusal) (fr : Frames) → (freed w fr).fa.start ≡ fr.fa.start
+    by (Ok f) fr = (span_give fr f).start
+    by (Err a) fr = refl
 
 pub give_start : (up : ℕ) (m : Memory) (root v n : ℕ) → start_frame (free_pages up m root v n) ≡ start_frame m
 unfolding free_pages

@@ -8,12 +8,14 @@ use lib.IntN.{ℤ}
 use lib.Dec.{eqb}
 use lib.ListN.{drop}
 use borrow.Author.Tests.{eqb-true}
+use Rattle.std.specs.Prelude.{Ok, Err, Result, Option}
+use Rattle.answer.proofs.Numbers.{same_yes}
+use Rattle.answer.specs.Numbers.{same_refusal}
+use Rattle.answer.specs.declared.Refusal.{Refusal}
+use Rattle.answer.specs.declared.Refusal.TheVariants.{NoFreeFrame, MapPageFailed}
 use Rattle.bits.specs.Bit.{pick}
 use Rattle.allocator.specs.Round.{round_up}
 use Rattle.allocator.proofs.Round.{round_multiple}
-use Rattle.answer.specs.Numbers.{no_free_frame, map_page_failed}
-use Rattle.answer.specs.declared.Outcome.{Outcome}
-use Rattle.answer.specs.declared.Outcome.TheVariants.{Value, Stop}
 use Rattle.paging.specs.Map.{Memory, start_frame}
 use Rattle.slots.specs.Slots.{listed}
 use Rattle.slots.proofs.Filled.{filled}
@@ -21,7 +23,6 @@ use Rattle.regions.specs.declared.VMRegion.{VMRegion}
 use Rattle.regions.specs.Regions.{first_fit, taken, no_vm_region}
 use Rattle.vmalloc.specs.Calls.{kernel, kernel_pages, vmalloc_of, KernelDid}
 use Rattle.mappings.specs.declared.MappedRegion.{MappedRegion}
-use Rattle.mmap.specs.declared.OptAddr.{OptAddr}
 use Rattle.mappings.specs.Regions.{mapped_region, insert}
 use Rattle.user_space.specs.Flags.{writable}
 use Rattle.user_space.specs.User.{user, UserDid}
@@ -54,17 +55,17 @@ user_left up b a n prot failed =
     pick failed (record { stranded = []; lost = frames_taken up (writable prot) true b.mem b.root a (n / 4096) })
     (record { stranded = pages_from a (user_pages up b.mem b.root a n prot).done; lost = [] })
 
-abbrev pub with13 : Outcome → Bool
-with13 (Value x) = false
-with13 (Stop e) = eqb e map_page_failed
+abbrev pub with13 : Result ℕ Refusal → Bool
+with13 (Ok x) = false
+with13 (Err e) = same_refusal e MapPageFailed
 
 -- where its range lies
-abbrev pub at_place : Outcome → (ℕ → Leftover) → Leftover
-at_place (Value a) then = then a
-at_place (Stop e) then = nothing_left
+abbrev pub at_place : Result ℕ Refusal → (ℕ → Leftover) → Leftover
+at_place (Ok a) then = then a
+at_place (Err e) then = nothing_left
 
 -- only a vmalloc or an mmap turned away with 11 or 13 leaves anything
-abbrev pub left_by : ℕ → Board → Call → Outcome → Leftover
+abbrev pub left_by : ℕ → Board → Call → Result ℕ Refusal → Leftover
 left_by up b (vmalloc_call size) w = pick (turned_away w) (at_place (first_fit (round_up 12 size) (listed b.kernel)) (λ a. kernel_left up b a (round_up 12 size))) nothing_left
 left_by up b (vfree_call a) w = nothing_left
 left_by up b (mmap_call hint size prot flags) w =
@@ -72,9 +73,9 @@ left_by up b (mmap_call hint size prot flags) w =
 left_by up b (munmap_call a size) w = nothing_left
 
 -- the kernel's list: as the book, but for a refused vmalloc's region, 'free with its size cut, split and unmerged'
-abbrev pub list_step : List VMRegion → Call → Outcome → List VMRegion
-list_step k (vmalloc_call size) (Value a) = book_step k (vmalloc_call size) (Value a)
-list_step k (vmalloc_call size) (Stop e) = pick (turned_away (Stop e)) (taken false (round_up 12 size) k) k
+abbrev pub list_step : List VMRegion → Call → Result ℕ Refusal → List VMRegion
+list_step k (vmalloc_call size) (Ok a) = book_step k (vmalloc_call size) (Ok a)
+list_step k (vmalloc_call size) (Err e) = pick (turned_away (Err e)) (taken false (round_up 12 size) k) k
 list_step k (vfree_call a) w = book_step k (vfree_call a) w
 list_step k (mmap_call hint size prot flags) w = k
 list_step k (munmap_call a size) w = k
@@ -82,11 +83,11 @@ list_step k (munmap_call a size) w = k
 -- ---- the steps
 
 -- 11 or 13, and not 13
-eleven : (e : ℕ) → turned_away (Stop e) ≡ true → eqb e map_page_failed ≡ false → e ≡ no_free_frame
-eleven e t q = by (eqb e no_free_frame) refl t
+eleven : (e : Refusal) → turned_away (Err e) ≡ true → same_refusal e MapPageFailed ≡ false → e ≡ NoFreeFrame
+eleven e t q = by (same_refusal e NoFreeFrame) refl t
   where
-    by : (x : Bool) → eqb e no_free_frame ≡ x → pick x true (eqb e map_page_failed) ≡ true → e ≡ no_free_frame
-    by true f g = eqb-true e no_free_frame f
+    by : (x : Bool) → same_refusal e NoFreeFrame ≡ x → pick x true (same_refusal e MapPageFailed) ≡ true → e ≡ NoFreeFrame
+    by true f g = same_yes e NoFreeFrame f
     by false f g = absurd (true≢false (sym g ∙ q))
 
 -- pages that are stranded now stand behind those of live regions
@@ -95,7 +96,7 @@ with_more l p s = rw (with_is l s, with_is l (p ++ s)) (exchange p (concat pages
 
 module _ {up : ℕ} {b : Board} {k : List VMRegion} {u : List MappedRegion} {l : List Region} {left : Leftover} (h : Inv up left b k u l) where
   -- a vmalloc turned away
-  kernel_stopped : (size a e : ℕ) → let n = round_up 12 size in 0 < n → (kernel_pages up b.mem b.root a n).walked ≡ Stop e
+  kernel_stopped : (size a : ℕ) (e : Refusal) → let n = round_up 12 size in 0 < n → (kernel_pages up b.mem b.root a n).walked ≡ Err e
       → Inv up (join_left (kernel_left up b a n) left) (with_kernel b (kernel (kernel_pages up b.mem b.root a n).mem (filled no_vm_region (taken false n k)))) (taken false n k) u l
   kernel_stopped size a e pos met =
       let n = round_up 12 size in
@@ -112,7 +113,7 @@ module _ {up : ℕ} {b : Board} {k : List VMRegion} {u : List MappedRegion} {l :
       }
 
   -- an mmap turned away
-  module _ (n a e : ℕ) (prot : ℤ) (met : (user_pages up b.mem b.root a n prot).walked ≡ Stop e) where
+  module _ (n a : ℕ) (e : Refusal) (prot : ℤ) (met : (user_pages up b.mem b.root a n prot).walked ≡ Err e) where
     abbrev leaves : Memory
     leaves = leftover up b.root a e (user_pages up b.mem b.root a n prot).done (user_pages up b.mem b.root a n prot).mem
 
@@ -120,20 +121,20 @@ module _ {up : ℕ} {b : Board} {k : List VMRegion} {u : List MappedRegion} {l :
         (user_pages up b.mem b.root a n prot).mem
     stopped = run_stopped (writable prot) true (n / 4096) h.paged.account.order a e met
 
-    user-paged : turned_away (Stop e) ≡ true → (x : Bool) → eqb e map_page_failed ≡ x
+    user-paged : turned_away (Err e) ≡ true → (x : Bool) → same_refusal e MapPageFailed ≡ x
         → Paged up leaves b.root (pages_with l (join_left (user_left up b a n prot x) left).stranded) (join_left (user_left up b a n prot x) left).lost
-    user-paged t true q = rw q (stopped_cleared stopped (eqb-true e map_page_failed q) h.paged)
+    user-paged t true q = rw q (stopped_cleared stopped (same_yes e MapPageFailed q) h.paged)
     user-paged t false q =
         rw q (paged_perm (with_more l (pages_from a (user_pages up b.mem b.root a n prot).done) left.stranded) (stopped_full stopped (eleven e t q) h.paged))
 
-    user_start_lem : (x : Bool) → eqb e map_page_failed ≡ x → start_frame leaves ≡ start_frame b.mem
+    user_start_lem : (x : Bool) → same_refusal e MapPageFailed ≡ x → start_frame leaves ≡ start_frame b.mem
     user_start_lem true q = rw q (clear_start up _ b.root a _ ∙ stopped_start stopped)
     user_start_lem false q = rw q (stopped_start stopped)
 
-    user-stopped : turned_away (Stop e) ≡ true → Inv up (join_left (user_left up b a n prot (eqb e map_page_failed)) left) (with_user b (user leaves b.user b.next)) k u l
+    user-stopped : turned_away (Err e) ≡ true → Inv up (join_left (user_left up b a n prot (same_refusal e MapPageFailed)) left) (with_user b (user leaves b.user b.next)) k u l
     user-stopped t = record {
-      paged = user-paged t (eqb e map_page_failed) refl;
-      first = h.first ∙ sym (user_start_lem (eqb e map_page_failed) refl);
+      paged = user-paged t (same_refusal e MapPageFailed) refl;
+      first = h.first ∙ sym (user_start_lem (same_refusal e MapPageFailed) refl);
       kernel_is = h.kernel_is;
       kernel_list = h.kernel_list;
       user_is = h.user_is;
@@ -151,7 +152,7 @@ module _ {up : ℕ} {b : Board} {k : List VMRegion} {u : List MappedRegion} {l :
       (λ e q. rw q h) (λ a x pos f met. kernel_took h size a x pos f met)
       (λ a e pos f met t. rw (t, kernel_listed h, f) (kernel_stopped size a e pos met))
 
-  pub mmap_any : (hint : OptAddr) (size : ℕ) (prot flags : ℤ) → let d = mmap_of (user_of b) b.root hint size prot flags in
+  pub mmap_any : (hint : Option ℕ) (size : ℕ) (prot flags : ℤ) → let d = mmap_of (user_of b) b.root hint size prot flags in
       (u' : List MappedRegion) × Inv up (join_left (left_by up b (mmap_call hint size prot flags) d.answer) left) (with_user b d.user) k u' (live_step l (mmap_call hint size prot flags) d.answer)
   mmap_any hint size prot flags =
       mmap_outcomes h hint size prot flags

@@ -12,11 +12,11 @@ use lib.IntN.{ℤ}
 use lib.Dec.{eqb, leb, ltb}
 use lib.ListN.{length}
 use borrow.Author.Tests.{eqb-true, eqb-false, ltb-true, not-true}
+use Rattle.std.specs.Prelude.{Ok, Err, Result}
+use Rattle.answer.specs.declared.Refusal.{Refusal}
+use Rattle.answer.specs.declared.Refusal.TheVariants.{RegionNotFound}
 use Rattle.bits.specs.Bit.{pick, both}
 use Rattle.bits.proofs.Choice.{both_true, both_false}
-use Rattle.answer.specs.Numbers.{region_not_found}
-use Rattle.answer.specs.declared.Outcome.{Outcome}
-use Rattle.answer.specs.declared.Outcome.TheVariants.{Value, Stop}
 use Rattle.regions.specs.declared.VMRegion.{VMRegion}
 use Rattle.regions.specs.Regions.{window_start, window_end, fits, first_fit, behind, take_first, taken, used_size, merge}
 use Rattle.regions.specs.Regions.{vm_region}
@@ -35,8 +35,8 @@ use Rattle.release.proofs.Lists.{Once}
 pub record KernelList (k : List VMRegion) (l : List Region) : Type 0 where
   pub rows : Rows window_start window_end k
   pub few : length k ≤ 256
-  pub used : (a n : ℕ) → used_size a k ≡ Value n → Memᴰ (kernel_region a n) l
-  pub live : (a n : ℕ) → Memᴰ (kernel_region a n) l → used_size a k ≡ Value n
+  pub used : (a n : ℕ) → used_size a k ≡ Ok n → Memᴰ (kernel_region a n) l
+  pub live : (a n : ℕ) → Memᴰ (kernel_region a n) l → used_size a k ≡ Ok n
 
 -- the user's list u, and the live regions l of the user
 pub record UserList (u : List MappedRegion) (l : List Region) : Type 0 where
@@ -61,25 +61,25 @@ user_size e = cc
 pub two_kinds : {a b n m : ℕ} → kernel_region a n ≡ user_region b m → ⊥
 two_kinds e = let z : ◌≡◌ {A = ℕ} 0 1 = cc in omega arith
 
-pub not_both : {w : Outcome} {x y : ℕ} → w ≡ Value x → w ≡ Stop y → ⊥
+pub not_both : {w : Result ℕ Refusal} {x : ℕ} {y : Refusal} → w ≡ Ok x → w ≡ Err y → ⊥
 not_both e f = let z : ◌≡◌ {A = ℕ} 0 1 = cc in omega arith
 
-pub same_at : {w : Outcome} {x y : ℕ} → w ≡ Value x → w ≡ Value y → x ≡ y
+pub same_at : {w : Result ℕ Refusal} {x y : ℕ} → w ≡ Ok x → w ≡ Ok y → x ≡ y
 same_at e f = cc
 
 -- ---- the kernel's list
 
 -- a region of n bytes is taken at a
-pub kernel_take : (a n : ℕ) {k : List VMRegion} {l : List Region} → n % 4096 ≡ 0 → 0 < n → KernelList k l → first_fit n k ≡ Value a
+pub kernel_take : (a n : ℕ) {k : List VMRegion} {l : List Region} → n % 4096 ≡ 0 → 0 < n → KernelList k l → first_fit n k ≡ Ok a
     → KernelList (take_first true n (ltb (length k) 256) k) (kernel_region a n ∷ l)
 kernel_take a n {k} {l} full pos h f = record {
   rows = rows_taken true n room full pos window_start window_end k h.rows;
   few = short room refl;
   used = λ b m e. by b m e (ℕ_discrete b a);
   live = λ b m e. ⊎_elim
-      (λ q. subst (λ (x : ℕ). used_size x (take_first true n room k) ≡ Value m) (sym (kernel_start q))
-      (taken_used n room a window_start window_end k h.rows f ∙ ap Value (sym (kernel_size q))))
-      (λ q. taken_others n room true a b k f (λ d. not_both (subst (λ (x : ℕ). used_size x k ≡ Value m) d (h.live b m q)) (taken_was_free n room a window_start window_end k h.rows f)) ∙ h.live b m q)
+      (λ q. subst (λ (x : ℕ). used_size x (take_first true n room k) ≡ Ok m) (sym (kernel_start q))
+      (taken_used n room a window_start window_end k h.rows f ∙ ap Ok (sym (kernel_size q))))
+      (λ q. taken_others n room true a b k f (λ d. not_both (subst (λ (x : ℕ). used_size x k ≡ Ok m) d (h.live b m q)) (taken_was_free n room a window_start window_end k h.rows f)) ∙ h.live b m q)
       (Memᴰ.cases_cons e);
 }
   where
@@ -90,9 +90,9 @@ kernel_take a n {k} {l} full pos h f = record {
     short true e = omega (arith, length_taken true n true k, ltb-true (length k) 256 e)
     short false e = omega (arith, length_taken true n false k, h.few)
 
-    by : (b m : ℕ) → used_size b (take_first true n room k) ≡ Value m → Dec (b ≡ a) → Memᴰ (kernel_region b m) (kernel_region a n ∷ l)
+    by : (b m : ℕ) → used_size b (take_first true n room k) ≡ Ok m → Dec (b ≡ a) → Memᴰ (kernel_region b m) (kernel_region a n ∷ l)
     by b m e (yes d) =
-        let z : m ≡ n = same_at (subst (λ (x : ℕ). used_size x (take_first true n room k) ≡ Value m) d e) (taken_used n room a window_start window_end k h.rows f) in
+        let z : m ≡ n = same_at (subst (λ (x : ℕ). used_size x (take_first true n room k) ≡ Ok m) d e) (taken_used n room a window_start window_end k h.rows f) in
         let q : kernel_region b m ≡ kernel_region a n = cc in
         Memᴰ.head q
     by b m e (no d) = Memᴰ.tail (h.used b m (sym (taken_others n room true a b k f d) ∙ e))
@@ -112,7 +112,7 @@ used_cut n room b (r ∷ l) = by (fits n r) refl (used_cut n room b l)
     by true f later =
         let free : r.used ≡ false = not-true r.used (both_true (not r.used) (leb n r.size) f).0 in
         rw (free, both_false (eqb r.start b)) (rest (both room (ltb n r.size)))
-    by false f later = ap (pick (both (eqb r.start b) r.used) (Value r.size)) later
+    by false f later = ap (pick (both (eqb r.start b) r.used) (Ok r.size)) later
 
 pub kernel_cut : (n : ℕ) {k : List VMRegion} {l : List Region} → n % 4096 ≡ 0 → 0 < n → KernelList k l → KernelList (taken false n k) l
 kernel_cut n {k} {l} full pos h = record {
@@ -133,11 +133,11 @@ kernel_give a n {k} {l} h o = record {
   where
     other : (b m : ℕ) → Memᴰ (kernel_region b m) l → b ≡ a → ⊥
     other b m e d =
-        let s : m ≡ n = same_at (subst (λ (x : ℕ). used_size x k ≡ Value m) d (h.live b m (Memᴰ.tail e))) (h.live a n (Memᴰ.head refl)) in
+        let s : m ≡ n = same_at (subst (λ (x : ℕ). used_size x k ≡ Ok m) d (h.live b m (Memᴰ.tail e))) (h.live a n (Memᴰ.head refl)) in
         o.0 (subst (λ (x : Region). Memᴰ x l) (cc) e)
 
-    by : (b m : ℕ) → used_size b (merge (freed_all a k)) ≡ Value m → Dec (b ≡ a) → Memᴰ (kernel_region b m) l
-    by b m e (yes d) = absurd (not_both (sym (used_merge b (freed_all a k)) ∙ e) (subst (λ (x : ℕ). used_size x (freed_all a k) ≡ Stop region_not_found) (sym d) (used_gone a k)))
+    by : (b m : ℕ) → used_size b (merge (freed_all a k)) ≡ Ok m → Dec (b ≡ a) → Memᴰ (kernel_region b m) l
+    by b m e (yes d) = absurd (not_both (sym (used_merge b (freed_all a k)) ∙ e) (subst (λ (x : ℕ). used_size x (freed_all a k) ≡ Err RegionNotFound) (sym d) (used_gone a k)))
     by b m e (no d) =
         ⊎_elim (λ q. absurd (d (kernel_start q))) (λ q. q)
         (Memᴰ.cases_cons (h.used b m (sym (used_freed a b k d) ∙ sym (used_merge b (freed_all a k)) ∙ e)))

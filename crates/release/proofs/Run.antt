@@ -8,15 +8,15 @@ use native.Mathlib.Omega.{arith}
 use lib.Dec.{eqb}
 use lib.ListN.{length}
 use borrow.Author.Tests.{not-true}
+use Rattle.std.specs.Prelude.{Ok, Err, Result}
+use Rattle.answer.specs.declared.Refusal.{Refusal}
+use Rattle.answer.specs.declared.Refusal.TheVariants.{BrokenRecord, NoFreeFrame}
 use Rattle.bits.specs.Bit.{pick, both}
 use Rattle.bits.proofs.Choice.{both_true}
 use Rattle.allocator.specs.Round.{round_up}
-use Rattle.answer.specs.Numbers.{broken_record, no_free_frame}
 use Rattle.frame.proofs.Steps.{span_with}
 use Rattle.frame.specs.Frames.{is_levels, with_mark}
 use Rattle.paging.specs.Map.{memory, zero_frame}
-use Rattle.answer.specs.declared.Outcome.{Outcome}
-use Rattle.answer.specs.declared.Outcome.TheVariants.{Value, Stop}
 use Rattle.tree.proofs.Ordered.{reach_in}
 use Rattle.tree.proofs.Books.{Tabled, bare_live, bare_tabled}
 use Rattle.tree.proofs.Start.{untaken, fresh_accounted, fresh_plain, fresh_only}
@@ -38,7 +38,7 @@ use Rattle.release.proofs.User.{mmap_step, munmap_step, mmap_tidy, munmap_tidy}
 use Rattle.release.proofs.Refused.{left_from, list_from, run_any}
 
 -- the pages ever mapped, call by call
-abbrev pub ever_step : List ℕ → Call → Outcome → List ℕ
+abbrev pub ever_step : List ℕ → Call → Result ℕ Refusal → List ℕ
 ever_step ever (vmalloc_call size) w = more_pages ever w (round_up 12 size)
 ever_step ever (vfree_call a) w = ever
 ever_step ever (mmap_call hint size prot flags) w = more_pages ever w (round_up 12 size)
@@ -95,7 +95,7 @@ fresh_kernel = record {
   live = λ a n m. absurd (Memᴰ.not-nil m);
 }
   where
-    unused : (x : Bool) (a n : ℕ) → pick (both x false) (Value (window_end - window_start)) (used_size a []) ≡ Value n → ⊥
+    unused : (x : Bool) (a n : ℕ) → pick (both x false) (Ok (window_end - window_start)) (used_size a []) ≡ Ok n → ⊥
     unused true a n e = let z : ◌≡◌ {A = ℕ} 0 1 = cc in omega arith
     unused false a n e = let z : ◌≡◌ {A = ℕ} 0 1 = cc in omega arith
 
@@ -109,18 +109,18 @@ fresh_user = record {
 }
 
 -- a refused start is not met
-refused : (n : ℕ) (a c : Board) → board_did (Stop n) a ≡ board_did (Value 0) c → ⊥
+refused : (n : Refusal) (a c : Board) → board_did (Err n) a ≡ board_did (Ok 0) c → ⊥
 refused n a c e = apart (ap (λ (d : BoardDid). d.answer) e)
   where
-    apart : Stop n ≡ Value 0 → ⊥
-    apart q = let z : ◌≡◌ {A = ℕ} 0 1 = cc in omega arith
+    apart : ◌≡◌ {A = Result ℕ Refusal} (Err n) (Ok 0) → ⊥
+    apart q = cc
 
 module _ (old : Board) (up s t : ℕ) (may : is_levels (suc up) ≡ true) (some : 0 < t) (few : t ≤ 8192) (enough : t * 512 ≤ length old.mem.words) (low : s + t ≤ 2 ^ 40) where
   from_first : s ≡ (with_mark (untaken s t (suc up)) 0).fa.start
   from_first = sym (span_with (untaken s t (suc up)) 0).start
 
   -- only the root is reached
-  root_only : (p : List ℕ) (f : ℕ) → reach_in (memory (zero_frame old.mem.words s s) (with_mark (untaken s t (suc up)) 0)) s p ≡ Value f → p ≡ []
+  root_only : (p : List ℕ) (f : ℕ) → reach_in (memory (zero_frame old.mem.words s s) (with_mark (untaken s t (suc up)) 0)) s p ≡ Ok f → p ≡ []
   root_only p f e = (fresh_only old.mem.words s t (suc up) some few enough low may p f e).0
 
   begun_inv : Inv up nothing_left (begun old s (with_mark (untaken s t (suc up)) 0)) (window ∷ []) [] []
@@ -149,29 +149,29 @@ module _ (old : Board) (up s t : ℕ) (may : is_levels (suc up) ≡ true) (some 
 module _ (old fresh : Board) (from to up : ℕ) where
   begun_cases : (P : Board → Type 0)
       → ((s t : ℕ) → is_levels (suc up) ≡ true → 0 < t → t ≤ 8192 → t * 512 ≤ length old.mem.words → s + t ≤ 2 ^ 40 → P (begun old s (with_mark (untaken s t (suc up)) 0)))
-      → start old from to (suc up) ≡ board_did (Value 0) fresh → P fresh
+      → start old from to (suc up) ≡ board_did (Ok 0) fresh → P fresh
   begun_cases P holds =
-      start_cases old from to (suc up) (λ (d : BoardDid). d ≡ board_did (Value 0) fresh → P fresh)
+      start_cases old from to (suc up) (λ (d : BoardDid). d ≡ board_did (Ok 0) fresh → P fresh)
       (λ may le top some enough e. subst P (ap (λ (d : BoardDid). d.board) e) (holds (from / 4096) (min ((to - from) / 4096) 8192) may some (omega arith) enough (omega arith)))
-      (λ e. absurd (refused broken_record old fresh e))
-      (λ e. absurd (refused no_free_frame old fresh e))
+      (λ e. absurd (refused BrokenRecord old fresh e))
+      (λ e. absurd (refused NoFreeFrame old fresh e))
 
-  pub fresh_inv : start old from to (suc up) ≡ board_did (Value 0) fresh → Inv up nothing_left fresh (window ∷ []) [] []
+  pub fresh_inv : start old from to (suc up) ≡ board_did (Ok 0) fresh → Inv up nothing_left fresh (window ∷ []) [] []
   fresh_inv = begun_cases (λ x. Inv up nothing_left x (window ∷ []) [] []) (begun_inv old up)
 
-  pub fresh_tidy : start old from to (suc up) ≡ board_did (Value 0) fresh → Tidy up fresh (window ∷ []) []
+  pub fresh_tidy : start old from to (suc up) ≡ board_did (Ok 0) fresh → Tidy up fresh (window ∷ []) []
   fresh_tidy = begun_cases (λ x. Tidy up x (window ∷ []) []) (begun_tidy old up)
 
 -- it is of 4 or 5 levels
-pub met_levels : (old fresh : Board) (from to levels : ℕ) → start old from to levels ≡ board_did (Value 0) fresh → is_levels levels ≡ true
+pub met_levels : (old fresh : Board) (from to levels : ℕ) → start old from to levels ≡ board_did (Ok 0) fresh → is_levels levels ≡ true
 met_levels old fresh from to levels =
-    start_cases old from to levels (λ (d : BoardDid). d ≡ board_did (Value 0) fresh → is_levels levels ≡ true) (λ may _ _ _ _ _. may)
-    (λ e. absurd (refused broken_record old fresh e)) (λ e. absurd (refused no_free_frame old fresh e))
+    start_cases old from to levels (λ (d : BoardDid). d ≡ board_did (Ok 0) fresh → is_levels levels ≡ true) (λ may _ _ _ _ _. may)
+    (λ e. absurd (refused BrokenRecord old fresh e)) (λ e. absurd (refused NoFreeFrame old fresh e))
 
-pub some_levels : (old fresh : Board) (from to : ℕ) → start old from to 0 ≡ board_did (Value 0) fresh → ⊥
+pub some_levels : (old fresh : Board) (from to : ℕ) → start old from to 0 ≡ board_did (Ok 0) fresh → ⊥
 some_levels old fresh from to e = false≢true (met_levels old fresh from to 0 e)
 
 -- so from a fresh board on the invariant holds along every list of calls, with what those turned away leave behind
-pub fresh_any : (old fresh : Board) (from to up : ℕ) → start old from to (suc up) ≡ board_did (Value 0) fresh → (cs : List Call)
+pub fresh_any : (old fresh : Board) (from to up : ℕ) → start old from to (suc up) ≡ board_did (Ok 0) fresh → (cs : List Call)
     → (u : List MappedRegion) × Inv up (left_from up nothing_left fresh cs) (after fresh cs) (list_from (window ∷ []) (events fresh cs)) u (live_from [] (events fresh cs))
 fresh_any old fresh from to up st cs = run_any cs (fresh_inv old fresh from to up st)

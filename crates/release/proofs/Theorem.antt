@@ -10,13 +10,13 @@ use native.Mathlib.Decide.{ℕ_discrete}
 use lib.ListN.{length, take, length-take}
 use lib.Seq.{take-take}
 use borrow.Author.Tests.{le-leb}
+use Rattle.std.specs.Prelude.{Ok, Err, Result}
+use Rattle.answer.specs.declared.Refusal.{Refusal}
 use Rattle.entry.specs.Entry.{indices}
 use Rattle.entry.proofs.Entry.{length_indices}
 use Rattle.frame.proofs.Laws.{inside_yes, inside_from, inside_under}
 use Rattle.bitmap.specs.Bitmap.{marked}
 use Rattle.allocator.specs.Round.{round_up}
-use Rattle.answer.specs.declared.Outcome.{Outcome}
-use Rattle.answer.specs.declared.Outcome.TheVariants.{Value, Stop}
 use Rattle.paging.specs.Walk.{reach}
 use Rattle.paging.specs.Map.{start_frame, total_of}
 use Rattle.paging.proofs.Walk.{reach_end}
@@ -42,26 +42,26 @@ use Rattle.release.proofs.Window.{whole_run, whole_window, whole_end, one_window
 
 -- ---- the pages ever mapped are those of the regions ever live
 
-born_pages : (ever : List ℕ) (c : Call) (w : Outcome) (v : ℕ) → Memᴰ v (ever_step ever c w) → Memᴰ v ever ⊎ Memᴰ v (concat pages_of (born_by c w))
+born_pages : (ever : List ℕ) (c : Call) (w : Result ℕ Refusal) (v : ℕ) → Memᴰ v (ever_step ever c w) → Memᴰ v ever ⊎ Memᴰ v (concat pages_of (born_by c w))
 unfolding concat
-born_pages ever (vmalloc_call size) (Value a) v m = ⊎_elim (λ q. inr (mathlib.Core.List.Memᴰ.append_left [] q)) (λ q. inl q) (mathlib.Core.List.Memᴰ.append_cases (pages_from a (round_up 12 size / 4096)) m)
-born_pages ever (vmalloc_call size) (Stop e) v m = inl m
+born_pages ever (vmalloc_call size) (Ok a) v m = ⊎_elim (λ q. inr (mathlib.Core.List.Memᴰ.append_left [] q)) (λ q. inl q) (mathlib.Core.List.Memᴰ.append_cases (pages_from a (round_up 12 size / 4096)) m)
+born_pages ever (vmalloc_call size) (Err e) v m = inl m
 born_pages ever (vfree_call a) w v m = inl m
-born_pages ever (mmap_call hint size prot flags) (Value a) v m = ⊎_elim (λ q. inr (mathlib.Core.List.Memᴰ.append_left [] q)) (λ q. inl q) (mathlib.Core.List.Memᴰ.append_cases (pages_from a (round_up 12 size / 4096)) m)
-born_pages ever (mmap_call hint size prot flags) (Stop e) v m = inl m
+born_pages ever (mmap_call hint size prot flags) (Ok a) v m = ⊎_elim (λ q. inr (mathlib.Core.List.Memᴰ.append_left [] q)) (λ q. inl q) (mathlib.Core.List.Memᴰ.append_cases (pages_from a (round_up 12 size / 4096)) m)
+born_pages ever (mmap_call hint size prot flags) (Err e) v m = inl m
 born_pages ever (munmap_call a size) w v m = inl m
 
-pages_born : (ever : List ℕ) (c : Call) (w : Outcome) (v : ℕ) → Memᴰ v ever ⊎ Memᴰ v (concat pages_of (born_by c w)) → Memᴰ v (ever_step ever c w)
+pages_born : (ever : List ℕ) (c : Call) (w : Result ℕ Refusal) (v : ℕ) → Memᴰ v ever ⊎ Memᴰ v (concat pages_of (born_by c w)) → Memᴰ v (ever_step ever c w)
 unfolding concat
-pages_born ever (vmalloc_call size) (Value a) v m =
+pages_born ever (vmalloc_call size) (Ok a) v m =
     ⊎_elim (λ q. mathlib.Core.List.Memᴰ.append_right (pages_from a (round_up 12 size / 4096)) q)
     (λ q. mathlib.Core.List.Memᴰ.append_left ever (⊎_elim (λ x. x) (λ x. absurd (mathlib.Core.List.Memᴰ.not-nil x)) (mathlib.Core.List.Memᴰ.append_cases (pages_from a (round_up 12 size / 4096)) q))) m
-pages_born ever (vmalloc_call size) (Stop e) v m = ⊎_elim (λ q. q) (λ q. absurd (mathlib.Core.List.Memᴰ.not-nil q)) m
+pages_born ever (vmalloc_call size) (Err e) v m = ⊎_elim (λ q. q) (λ q. absurd (mathlib.Core.List.Memᴰ.not-nil q)) m
 pages_born ever (vfree_call a) w v m = ⊎_elim (λ q. q) (λ q. absurd (mathlib.Core.List.Memᴰ.not-nil q)) m
-pages_born ever (mmap_call hint size prot flags) (Value a) v m =
+pages_born ever (mmap_call hint size prot flags) (Ok a) v m =
     ⊎_elim (λ q. mathlib.Core.List.Memᴰ.append_right (pages_from a (round_up 12 size / 4096)) q)
     (λ q. mathlib.Core.List.Memᴰ.append_left ever (⊎_elim (λ x. x) (λ x. absurd (mathlib.Core.List.Memᴰ.not-nil x)) (mathlib.Core.List.Memᴰ.append_cases (pages_from a (round_up 12 size / 4096)) q))) m
-pages_born ever (mmap_call hint size prot flags) (Stop e) v m = ⊎_elim (λ q. q) (λ q. absurd (mathlib.Core.List.Memᴰ.not-nil q)) m
+pages_born ever (mmap_call hint size prot flags) (Err e) v m = ⊎_elim (λ q. q) (λ q. absurd (mathlib.Core.List.Memᴰ.not-nil q)) m
 pages_born ever (munmap_call a size) w v m = ⊎_elim (λ q. q) (λ q. absurd (mathlib.Core.List.Memᴰ.not-nil q)) m
 
 ever_pages : (es : List Event) (ever : List ℕ) (v : ℕ) → Memᴰ v (ever_from ever es) → Memᴰ v ever ⊎ Memᴰ v (concat pages_of (ever_live es))
@@ -125,13 +125,13 @@ module _ {up : ℕ} {x : Board} {k : List VMRegion} {u : List MappedRegion} (es 
   ordered = h.paged.account.order
 
   -- its page tables are the leading runs
-  table_run : (p : List ℕ) (f : ℕ) → 1 ≤ length p → length p ≤ up → reach_in x.mem x.root p ≡ Value f → Memᴰ p (leading_runs (suc up) es)
+  table_run : (p : List ℕ) (f : ℕ) → 1 ≤ length p → length p ≤ up → reach_in x.mem x.root p ≡ Ok f → Memᴰ p (leading_runs (suc up) es)
   table_run p f ge le r =
       let w = t.tabled.tables p f ge le r in
       let v : Memᴰ w.0 (concat pages_of (ever_live es)) = ⊎_elim (λ q. absurd (mathlib.Core.List.Memᴰ.not-nil q)) (λ q. q) (ever_pages es [] w.0 w.1) in
       member_concat (runs_of (suc up)) p w.0 (concat pages_of (ever_live es)) v (lead_run up w.0 p w.2 ge)
 
-  run_table : (p : List ℕ) → Memᴰ p (leading_runs (suc up) es) → (f : ℕ) × (reach_in x.mem x.root p ≡ Value f) × (1 ≤ length p) × (length p ≤ up)
+  run_table : (p : List ℕ) → Memᴰ p (leading_runs (suc up) es) → (f : ℕ) × (reach_in x.mem x.root p ≡ Ok f) × (1 ≤ length p) × (length p ≤ up)
   run_table p m =
       let c = concat_member (runs_of (suc up)) p (concat pages_of (ever_live es)) m in
       let d = run_lead up c.0 p c.2 in
@@ -139,11 +139,11 @@ module _ {up : ℕ} {x : Board} {k : List VMRegion} {u : List MappedRegion} (es 
       (w.0, w.1, d.1, omega (arith, leads_length d.0, length_upper up c.0))
 
   -- no whole path is reached
-  no_page : (p : List ℕ) (f : ℕ) → length p ≡ suc up → reach_in x.mem x.root p ≡ Value f → ⊥
+  no_page : (p : List ℕ) (f : ℕ) → length p ≡ suc up → reach_in x.mem x.root p ≡ Ok f → ⊥
   no_page p f e r = mathlib.Core.List.Memᴰ.not-nil (none_live.only p f e r).1
 
   -- the root and the tables are all that is reached
-  all_reached : (p : List ℕ) (f : ℕ) → length p ≤ suc up → reach_in x.mem x.root p ≡ Value f → Memᴰ p ([] ∷ different (leading_runs (suc up) es))
+  all_reached : (p : List ℕ) (f : ℕ) → length p ≤ suc up → reach_in x.mem x.root p ≡ Ok f → Memᴰ p ([] ∷ different (leading_runs (suc up) es))
   all_reached [] f le r = mathlib.Core.List.Memᴰ.head refl
   all_reached (i ∷ p) f le r = mathlib.Core.List.Memᴰ.tail (different_all (i ∷ p) (leading_runs (suc up) es) (by (ℕ_discrete (length (i ∷ p)) (suc up))))
     where
@@ -151,7 +151,7 @@ module _ {up : ℕ} {x : Board} {k : List VMRegion} {u : List MappedRegion} (es 
       by (yes e) = absurd (no_page (i ∷ p) f e r)
       by (no d) = table_run (i ∷ p) f (omega arith) (omega arith) r
 
-  each_reached : (p : List ℕ) → Memᴰ p ([] ∷ different (leading_runs (suc up) es)) → (f : ℕ) × (length p ≤ suc up) × (reach_in x.mem x.root p ≡ Value f)
+  each_reached : (p : List ℕ) → Memᴰ p ([] ∷ different (leading_runs (suc up) es)) → (f : ℕ) × (length p ≤ suc up) × (reach_in x.mem x.root p ≡ Ok f)
   unfolding reach
   each_reached p m =
       ⊎_elim (λ e. (x.root, omega (arith, ap length e), ap (reach_in x.mem x.root) e))
@@ -180,7 +180,7 @@ module _ {up : ℕ} {x : Board} {k : List VMRegion} {u : List MappedRegion} (es 
       (inside_yes (start_frame x.mem) (total_of x.mem) (start_frame x.mem + f) (omega arith) (omega arith)) (ap (marked x.mem.frames.bits) back ∙ mark) in
       by r.path r.short r.comes
     where
-      by : (p : List ℕ) → length p ≤ up → reach_in x.mem x.root p ≡ Value (start_frame x.mem + f) → (f ≡ 0) ⊎ PageTable (suc up) x (start_frame x.mem + f)
+      by : (p : List ℕ) → length p ≤ up → reach_in x.mem x.root p ≡ Ok (start_frame x.mem + f) → (f ≡ 0) ⊎ PageTable (suc up) x (start_frame x.mem + f)
       by [] le e = let q : x.root ≡ start_frame x.mem + f = cc in inl (omega (arith, h.first))
       by (i ∷ p) le e = inr (record { path = i ∷ p; proper = omega arith; above = omega arith; reached = e })
 

@@ -10,12 +10,12 @@ use lib.IntN.{ℤ}
 use lib.Dec.{eqb, leb, ltb}
 use lib.ListN.{length}
 use borrow.Author.Tests.{eq-eqb}
+use Rattle.std.specs.Prelude.{Ok, Err, Result, Option, None, Some}
+use Rattle.answer.specs.declared.Refusal.{Refusal}
 use Rattle.bits.specs.Bit.{pick}
 use Rattle.bits.proofs.Choice.{pick_cases}
 use Rattle.allocator.specs.Round.{round_up, last_page}
 use Rattle.allocator.proofs.Round.{round_multiple, round_pos}
-use Rattle.answer.specs.declared.Outcome.{Outcome}
-use Rattle.answer.specs.declared.Outcome.TheVariants.{Value, Stop}
 use Rattle.paging.specs.Map.{Memory}
 use Rattle.paging.specs.Pages.{free_pages}
 use Rattle.tree.proofs.Paths.{path}
@@ -26,14 +26,10 @@ use Rattle.slots.specs.Slots.{Slots, listed, store}
 use Rattle.slots.proofs.Filled.{filled, listed_filled, store_filled}
 use Rattle.regions.specs.declared.VMRegion.{VMRegion}
 use Rattle.mappings.specs.declared.MappedRegion.{MappedRegion}
-use Rattle.free_range.specs.declared.InTheWay.{InTheWay}
-use Rattle.free_range.specs.declared.InTheWay.TheVariants.{Nothing, Until}
-use Rattle.mmap.specs.declared.OptAddr.TheVariants.{NoAddr, SomeAddr}
 use Rattle.mappings.specs.Regions.{mapped_region, start_key, starts, insert, holds, remove, no_mapped_region}
 use Rattle.free_range.specs.Search.{user_end, in_the_way, or_past, search_from, find_free}
 use Rattle.user_space.specs.Flags.{writable, fixed}
 use Rattle.regions.proofs.Placed.{Placed}
-use Rattle.mmap.specs.declared.OptAddr.{OptAddr}
 use Rattle.user_space.specs.User.{User, user, UserDid, user_did, on_page}
 use Rattle.mmap.specs.Calls.{chosen, full, user_pages, leftover, user_mapped, mmap, mmap_of}
 use Rattle.munmap.specs.Calls.{munmap, munmap_of}
@@ -63,7 +59,7 @@ starts_holds a (r ∷ l) h = by (eqb r.start a) h (starts_holds a l)
     by false g later = later g
 
 -- a run of pages that is had begins at a page that was not reached
-first_off : {root up v : ℕ} {m m' : Memory} (l : List ℕ) → Takes root up m l m' → (k : List ℕ) → l ≡ v ∷ k → (x : ℕ) → reach_in m root (path up v) ≡ Value x → ⊥
+first_off : {root up v : ℕ} {m m' : Memory} (l : List ℕ) → Takes root up m l m' → (k : List ℕ) → l ≡ v ∷ k → (x : ℕ) → reach_in m root (path up v) ≡ Ok x → ⊥
 first_off [] none k e x r = let z : ◌≡◌ {A = ℕ} 0 1 = cc in omega arith
 first_off {root} {up} {v} {m} (v' ∷ l) (more t s) k e x r = let q : v' ≡ v = cc in t.off x (ap (λ (y : ℕ). reach_in m root (path up y)) q ∙ r)
 
@@ -71,29 +67,29 @@ first_off {root} {up} {v} {m} (v' ∷ l) (more t s) k e x r = let q : v' ≡ v =
 search_quiet : (j : ℕ) (l : List MappedRegion) (n a : ℕ) → turned_away (search_from j l n a) ≡ false
 unfolding search_from
 search_quiet zero l n a = refl
-search_quiet (suc j) l n a = pick_cases (λ (w : Outcome). turned_away w ≡ false) (ltb (a + n) user_end) _ _ (λ _. by (in_the_way a n l) (search_quiet j l n)) (λ _. refl)
+search_quiet (suc j) l n a = pick_cases (λ (w : Result ℕ Refusal). turned_away w ≡ false) (ltb (a + n) user_end) _ _ (λ _. by (in_the_way a n l) (search_quiet j l n)) (λ _. refl)
   where
-    by : (y : InTheWay) → ((e : ℕ) → turned_away (search_from j l n e) ≡ false) → turned_away (or_past y (Value a) (search_from j l n)) ≡ false
-    by Nothing on = refl
-    by (Until e) on = on e
+    by : (y : Option ℕ) → ((e : ℕ) → turned_away (search_from j l n e) ≡ false) → turned_away (or_past y (Ok a) (search_from j l n)) ≡ false
+    by None on = refl
+    by (Some e) on = on e
 
-chosen_quiet : (s : User) (hint : OptAddr) (n : ℕ) (flags : ℤ) → turned_away (chosen s hint n flags) ≡ false
+chosen_quiet : (s : User) (hint : Option ℕ) (n : ℕ) (flags : ℤ) → turned_away (chosen s hint n flags) ≡ false
 unfolding chosen
-chosen_quiet s NoAddr n flags = search_quiet _ (listed s.regions) n s.next
-chosen_quiet s (SomeAddr a) n flags =
+chosen_quiet s None n flags = search_quiet _ (listed s.regions) n s.next
+chosen_quiet s (Some a) n flags =
     pick_cases Quiet (fixed flags) _ _
     (λ _. pick_cases Quiet (on_page a) _ _ (λ _. pick_cases Quiet (leb (a + n) last_page) _ _ (λ _. refl) (λ _. refl)) (λ _. refl))
     (λ _. pick_cases Quiet (on_page a) _ _ (λ _. pick_cases Quiet (leb (a + n) last_page) _ _ (λ _. by (in_the_way a n (listed s.regions))) (λ _. refl)) (λ _. found))
   where
-    Quiet : Outcome → Type 0
+    Quiet : Result ℕ Refusal → Type 0
     Quiet w = turned_away w ≡ false
 
     found : Quiet (find_free (listed s.regions) s.next n)
     found = search_quiet _ (listed s.regions) n s.next
 
-    by : (y : InTheWay) → Quiet (or_past y (Value a) (λ _. find_free (listed s.regions) s.next n))
-    by Nothing = refl
-    by (Until e) = found
+    by : (y : Option ℕ) → Quiet (or_past y (Ok a) (λ _. find_free (listed s.regions) s.next n))
+    by None = refl
+    by (Some e) = found
 
 module _ {up : ℕ} {b : Board} {k : List VMRegion} {u : List MappedRegion} {l : List Region} {left : Leftover} (h : Inv up left b k u l) where
   pub user_listed : listed b.user ≡ u
@@ -108,12 +104,12 @@ module _ {up : ℕ} {b : Board} {k : List VMRegion} {u : List MappedRegion} {l :
       ∙ user_stored (remove a u) (omega (arith, length_remove start_key a u, h.user_list.few))
 
   -- every outcome of an mmap: refused with nothing changed, met, turned away with 11 or 13
-  pub mmap_outcomes : (hint : OptAddr) (size : ℕ) (prot flags : ℤ) (P : UserDid → Type 0) → let n = round_up 12 size in
-      ((e : ℕ) → turned_away (Stop e) ≡ false → P (user_did (Stop e) (user_of b)))
-      → ((a x : ℕ) → Placed a n → full (user_of b) a ≡ false → (user_pages up b.mem b.root a n prot).walked ≡ Value x
-      → P (user_did (Value a) (user (user_pages up b.mem b.root a n prot).mem (store no_mapped_region (insert (mapped_region a n prot flags) u) b.user) (a + n))))
-      → ((a e : ℕ) → chosen (user_of b) hint n flags ≡ Value a → (user_pages up b.mem b.root a n prot).walked ≡ Stop e → turned_away (Stop e) ≡ true
-      → P (user_did (Stop e) (user (leftover up b.root a e (user_pages up b.mem b.root a n prot).done (user_pages up b.mem b.root a n prot).mem) b.user b.next)))
+  pub mmap_outcomes : (hint : Option ℕ) (size : ℕ) (prot flags : ℤ) (P : UserDid → Type 0) → let n = round_up 12 size in
+      ((e : Refusal) → turned_away (Err e) ≡ false → P (user_did (Err e) (user_of b)))
+      → ((a x : ℕ) → Placed a n → full (user_of b) a ≡ false → (user_pages up b.mem b.root a n prot).walked ≡ Ok x
+      → P (user_did (Ok a) (user (user_pages up b.mem b.root a n prot).mem (store no_mapped_region (insert (mapped_region a n prot flags) u) b.user) (a + n))))
+      → ((a : ℕ) (e : Refusal) → chosen (user_of b) hint n flags ≡ Ok a → (user_pages up b.mem b.root a n prot).walked ≡ Err e → turned_away (Err e) ≡ true
+      → P (user_did (Err e) (user (leftover up b.root a e (user_pages up b.mem b.root a n prot).done (user_pages up b.mem b.root a n prot).mem) b.user b.next)))
       → P (mmap_of (user_of b) b.root hint size prot flags)
   mmap_outcomes hint size prot flags P refused met stopped =
       subst (λ (n : ℕ). P (mmap n (user_of b) b.root hint size prot flags)) (sym (above_is h)) (mmap_cases up (user_of b) b.root hint size prot flags P
@@ -126,28 +122,28 @@ module _ {up : ℕ} {b : Board} {k : List VMRegion} {u : List MappedRegion} {l :
       n : ℕ
       n = round_up 12 size
 
-      by : (a : ℕ) → Placed a n → chosen (user_of b) hint n flags ≡ Value a → full (user_of b) a ≡ false → (w : Outcome) → (user_pages up b.mem b.root a n prot).walked ≡ w
+      by : (a : ℕ) → Placed a n → chosen (user_of b) hint n flags ≡ Ok a → full (user_of b) a ≡ false → (w : Result ℕ Refusal) → (user_pages up b.mem b.root a n prot).walked ≡ w
           → P (user_mapped up (user_of b) b.root a n prot flags w (user_pages up b.mem b.root a n prot).done (user_pages up b.mem b.root a n prot).mem)
-      by a p c f (Value x) e =
-          subst (λ (y : List MappedRegion). P (user_did (Value a) (user (user_pages up b.mem b.root a n prot).mem (store no_mapped_region (insert (mapped_region a n prot flags) y) b.user) (a + n))))
+      by a p c f (Ok x) e =
+          subst (λ (y : List MappedRegion). P (user_did (Ok a) (user (user_pages up b.mem b.root a n prot).mem (store no_mapped_region (insert (mapped_region a n prot flags) y) b.user) (a + n))))
           (sym user_listed) (met a x p f e)
-      by a p c f (Stop x) e = stopped a x c e (paged_stop (writable prot) true h.paged a (n / 4096) x e)
+      by a p c f (Err x) e = stopped a x c e (paged_stop (writable prot) true h.paged a (n / 4096) x e)
 
   -- every outcome of a munmap
   pub munmap_outcomes : (a size : ℕ) (P : UserDid → Type 0)
-      → ((e : ℕ) → P (user_did (Stop e) (user_of b)))
-      → ((n : ℕ) → holds a n u ≡ true → P (user_did (Value 0) (user (free_pages up b.mem b.root a (n / 4096)) (filled no_mapped_region (remove a u)) b.next)))
+      → ((e : Refusal) → P (user_did (Err e) (user_of b)))
+      → ((n : ℕ) → holds a n u ≡ true → P (user_did (Ok 0) (user (free_pages up b.mem b.root a (n / 4096)) (filled no_mapped_region (remove a u)) b.next)))
       → P (munmap_of (user_of b) b.root a size)
   munmap_outcomes a size P refused met =
       subst (λ (n : ℕ). P (munmap n (user_of b) b.root a size)) (sym (above_is h)) (munmap_cases up (user_of b) b.root a size P
       (λ e. absurd (true≢false (sym (user_sound h) ∙ e))) (λ e f. refused e)
-      (λ s pos le e. subst (λ (s : Slots MappedRegion). P (user_did (Value 0) (user (free_pages up b.mem b.root a (round_up 12 size / 4096)) s b.next))) (sym (slots_removed a))
+      (λ s pos le e. subst (λ (s : Slots MappedRegion). P (user_did (Ok 0) (user (free_pages up b.mem b.root a (round_up 12 size / 4096)) s b.next))) (sym (slots_removed a))
       (met (round_up 12 size) (subst (λ (x : List MappedRegion). holds a (round_up 12 size) x ≡ true) user_listed e))))
 
   -- ---- the invariant
 
   -- the first page of a live region is mapped
-  first_page : (a n : ℕ) → Memᴰ (user_region a n) l → Placed a n → (x : ℕ) × (reach_in b.mem b.root (path up a) ≡ Value x)
+  first_page : (a n : ℕ) → Memᴰ (user_region a n) l → Placed a n → (x : ℕ) × (reach_in b.mem b.root (path up a) ≡ Ok x)
   unfolding pages_from
   first_page a n m p =
       let q : (j : ℕ) × (n / 4096 ≡ suc j) = (n / 4096 - 1, omega (arith, p.whole, p.some)) in
@@ -157,7 +153,7 @@ module _ {up : ℕ} {b : Board} {k : List VMRegion} {u : List MappedRegion} {l :
       begin j = Memᴰ.head refl
 
   -- so a range that is had does not start where a live region does
-  new_start : (a n x : ℕ) (prot : ℤ) → Placed a n → (user_pages up b.mem b.root a n prot).walked ≡ Value x → starts a u ≡ false
+  new_start : (a n x : ℕ) (prot : ℤ) → Placed a n → (user_pages up b.mem b.root a n prot).walked ≡ Ok x → starts a u ≡ false
   new_start a n x prot p met = by (starts a u) refl
     where
       by : (y : Bool) → starts a u ≡ y → starts a u ≡ false
@@ -169,7 +165,7 @@ module _ {up : ℕ} {b : Board} {k : List VMRegion} {u : List MappedRegion} {l :
           absurd (first_off (run a (n / 4096)) (map_pages_met (writable prot) true (n / 4096) h.paged.account.order a 0 x met) (run (a + 4096) q.0) (ap (run a) q.1) r.0 r.1)
 
   -- a region that is taken
-  pub user_took : (n a x : ℕ) (prot flags : ℤ) → Placed a n → full (user_of b) a ≡ false → (user_pages up b.mem b.root a n prot).walked ≡ Value x
+  pub user_took : (n a x : ℕ) (prot flags : ℤ) → Placed a n → full (user_of b) a ≡ false → (user_pages up b.mem b.root a n prot).walked ≡ Ok x
       → Inv up left (with_user b (user (user_pages up b.mem b.root a n prot).mem (store no_mapped_region (insert (mapped_region a n prot flags) u) b.user) (a + n))) k (insert (mapped_region a n prot flags) u) (user_region a n ∷ l)
   user_took n a x prot flags p f met =
       let s = new_start a n x prot p met in
@@ -203,7 +199,7 @@ module _ {up : ℕ} {b : Board} {k : List VMRegion} {u : List MappedRegion} {l :
         once = g.once.1;
       }
 
-  pub mmap_step : (hint : OptAddr) (size : ℕ) (prot flags : ℤ) → let d = mmap_of (user_of b) b.root hint size prot flags in turned_away d.answer ≡ false
+  pub mmap_step : (hint : Option ℕ) (size : ℕ) (prot flags : ℤ) → let d = mmap_of (user_of b) b.root hint size prot flags in turned_away d.answer ≡ false
       → (u' : List MappedRegion) × Inv up left (with_user b d.user) k u' (live_step l (mmap_call hint size prot flags) d.answer)
   mmap_step hint size prot flags =
       mmap_outcomes hint size prot flags
@@ -220,7 +216,7 @@ module _ {up : ℕ} {b : Board} {k : List VMRegion} {u : List MappedRegion} {l :
   -- ---- and what holds besides while no call is turned away with 11 or 13
 
   module _ {ever : List ℕ} (t : Tidy up b k ever) where
-    pub mmap_tidy : (hint : OptAddr) (size : ℕ) (prot flags : ℤ) → let d = mmap_of (user_of b) b.root hint size prot flags in turned_away d.answer ≡ false
+    pub mmap_tidy : (hint : Option ℕ) (size : ℕ) (prot flags : ℤ) → let d = mmap_of (user_of b) b.root hint size prot flags in turned_away d.answer ≡ false
         → Tidy up (with_user b d.user) k (more_pages ever d.answer (round_up 12 size))
     mmap_tidy hint size prot flags =
         mmap_outcomes hint size prot flags (λ (d : UserDid). turned_away d.answer ≡ false → Tidy up (with_user b d.user) k (more_pages ever d.answer (round_up 12 size)))

@@ -8,11 +8,12 @@ use native.Mathlib.Omega.{arith}
 use lib.Dec.{leb, ltb, eqb}
 use lib.ListN.{length}
 use borrow.Author.Tests.{le-leb, ltb-false, not-true}
+use Rattle.answer.specs.declared.Refusal.{Refusal}
+use Rattle.std.specs.Prelude.{Ok, Err}
+use Rattle.answer.specs.declared.Refusal.TheVariants.{RegionNotFound}
 use Rattle.bits.specs.Bit.{pick, both}
 use Rattle.bits.proofs.Choice.{both_true}
 use Rattle.allocator.specs.Round.{round_up}
-use Rattle.answer.specs.Numbers.{region_not_found}
-use Rattle.answer.specs.declared.Outcome.TheVariants.{Value, Stop}
 use Rattle.slots.specs.Slots.{every}
 use Rattle.regions.specs.declared.VMRegion.{VMRegion}
 use Rattle.regions.specs.Regions.{window_start, window_end, window, first_fit, take_first, used_size, free_first, merge}
@@ -39,14 +40,14 @@ Whole k = Tiled window_start window_end k
 
 -- a vmalloc that is met answers the first region large enough
 fit_of : {up : ℕ} {b : Board} {k : List VMRegion} {u : List MappedRegion} {l : List Region} {left : Leftover} → Inv up left b k u l → (size a : ℕ)
-    → (vmalloc_of (kernel_of b) b.root size).answer ≡ Value a → first_fit (round_up 12 size) k ≡ Value a
+    → (vmalloc_of (kernel_of b) b.root size).answer ≡ Ok a → first_fit (round_up 12 size) k ≡ Ok a
 fit_of {b = b} {k = k} h size a =
-    vmalloc_outcomes h size (λ (d : KernelDid). d.answer ≡ Value a → first_fit (round_up 12 size) k ≡ Value a)
+    vmalloc_outcomes h size (λ (d : KernelDid). d.answer ≡ Ok a → first_fit (round_up 12 size) k ≡ Ok a)
     (λ e _ q. absurd (not_both q refl)) (λ c x pos f met q. f ∙ q) (λ c e pos f met t q. absurd (not_both q refl))
 
 -- one call
 module _ {up : ℕ} {b : Board} {k : List VMRegion} {u : List MappedRegion} {l : List Region} {left : Leftover} (h : Inv up left b k u l) (t : Whole k) where
-  whole_take : (n a : ℕ) → first_fit n k ≡ Value a → both (leb 256 (length k)) (exceeds a n k) ≡ false → Whole (take_part a n (ltb (length k) 256) k)
+  whole_take : (n a : ℕ) → first_fit n k ≡ Ok a → both (leb 256 (length k)) (exceeds a n k) ≡ false → Whole (take_part a n (ltb (length k) 256) k)
   whole_take n a f q = rw (take_cut n a window_start window_end (ltb (length k) 256) k h.kernel_list.rows f) (by (ltb (length k) 256) refl)
     where
       by : (room : Bool) → ltb (length k) 256 ≡ room → Whole (take_first true n room k)
@@ -90,18 +91,18 @@ whole_end (kernel_region a n ∷ m) k t = whole_end m (merge (freed_all a k)) (t
 whole_end (user_region a n ∷ m) k t = whole_end m k t
 
 -- a whole list with nothing used is the window
-used_number : (a e : ℕ) (k : List VMRegion) → used_size a k ≡ Stop e → e ≡ region_not_found
+used_number : (a : ℕ) (e : Refusal) (k : List VMRegion) → used_size a k ≡ Err e → e ≡ RegionNotFound
 unfolding used_size
 used_number a e [] h = cc
 used_number a e (r ∷ k) h = by (both (eqb r.start a) r.used) h (used_number a e k)
   where
-    by : (x : Bool) → pick x (Value r.size) (used_size a k) ≡ Stop e → (used_size a k ≡ Stop e → e ≡ region_not_found) → e ≡ region_not_found
+    by : (x : Bool) → pick x (Ok r.size) (used_size a k) ≡ Err e → (used_size a k ≡ Err e → e ≡ RegionNotFound) → e ≡ RegionNotFound
     by true g more = absurd (not_both refl g)
     by false g more = more g
 
 pub one_window : {k : List VMRegion} → KernelList k [] → Apart k → Whole k → k ≡ window ∷ []
 one_window {k} h d t = sym (apart_merged k d) ∙ one_region_lem window_start window_end k (omega arith) (all_free k none) t
   where
-    none : (a : ℕ) → used_size a k ≡ Stop region_not_found
-    none a = walked_cases (λ w. used_size a k ≡ w → used_size a k ≡ Stop region_not_found) (used_size a k)
-        (λ n _ e. absurd (Memᴰ.not-nil (h.used a n e))) (λ e _ q. q ∙ ap Stop (used_number a e k q)) refl
+    none : (a : ℕ) → used_size a k ≡ Err RegionNotFound
+    none a = walked_cases (λ w. used_size a k ≡ w → used_size a k ≡ Err RegionNotFound) (used_size a k)
+        (λ n _ e. absurd (Memᴰ.not-nil (h.used a n e))) (λ e _ q. q ∙ ap Err (used_number a e k q)) refl

@@ -1,11 +1,11 @@
 -- Lists of vmalloc, vfree, mmap and munmap calls, played on a board one after the other, as the definitions of the four calls (crates vmalloc, mmap and munmap) say.
+use Rattle.std.specs.Prelude.{Ok, Err, Result, Option}
+use Rattle.answer.specs.Numbers.{same_refusal}
+use Rattle.answer.specs.declared.Refusal.{Refusal}
+use Rattle.answer.specs.declared.Refusal.TheVariants.{NoFreeFrame, MapPageFailed}
 use Rattle.std.specs.Prelude.{ℕ, Bool, true, false, List, [], ◌∷◌, ℤ, eqb}
 use Rattle.bits.specs.Bit.{pick}
-use Rattle.answer.specs.Numbers.{no_free_frame, map_page_failed}
-use Rattle.answer.specs.declared.Outcome.{Outcome}
-use Rattle.answer.specs.declared.Outcome.TheVariants.{Value, Stop}
 use Rattle.vmalloc.specs.Calls.{Kernel, kernel, vmalloc_of, vfree_of, KernelDid}
-use Rattle.mmap.specs.declared.OptAddr.{OptAddr}
 use Rattle.user_space.specs.User.{User, user, UserDid}
 use Rattle.mmap.specs.Calls.{mmap_of}
 use Rattle.munmap.specs.Calls.{munmap_of}
@@ -15,7 +15,7 @@ use Rattle.board.specs.Board.{Board, BoardDid, board_did}
 pub data Call : Type 0 where
   vmalloc_call : ℕ → Call
   vfree_call : ℕ → Call
-  mmap_call : OptAddr → ℕ → ℤ → ℤ → Call
+  mmap_call : Option ℕ → ℕ → ℤ → ℤ → Call
   munmap_call : ℕ → ℕ → Call
 
 -- what the kernel's calls and the user's are lent of a board, and the board with what they leave
@@ -52,18 +52,18 @@ after b (c ∷ cs) = after (play b c).board cs
 -- a call with its answer
 pub record Event : Type 0 where
   pub call : Call
-  pub answer : Outcome
+  pub answer : Result ℕ Refusal
 
 -- the calls of a list with their answers
 unfoldable pub events : Board → List Call → List Event
 events b [] = []
 events b (c ∷ cs) = record { call = c; answer = (play b c).answer } ∷ events (play b c).board cs
 
-abbrev pub is_met : Outcome → Bool
-is_met (Value x) = true
-is_met (Stop n) = false
+abbrev pub is_met : Result ℕ Refusal → Bool
+is_met (Ok x) = true
+is_met (Err n) = false
 
 -- turned away with 11 or 13
-abbrev pub turned_away : Outcome → Bool
-turned_away (Value x) = false
-turned_away (Stop n) = pick (eqb n no_free_frame) true (eqb n map_page_failed)
+abbrev pub turned_away : Result ℕ Refusal → Bool
+turned_away (Ok x) = false
+turned_away (Err n) = pick (same_refusal n NoFreeFrame) true (same_refusal n MapPageFailed)

@@ -1,15 +1,15 @@
 -- Demand 3, the release paper, as one statement about lists of calls (Calls.antt) from a board's start (crate board). What 'live', 'the window book' and 'cut' mean is
 -- defined here from calls and answers, and 'page tables' from the words, as document 01 does under 'The release paper'.
+use Rattle.std.specs.Prelude.{Ok, Err, Result, None, Some}
+use Rattle.answer.specs.declared.Refusal.{Refusal}
+use Rattle.answer.specs.declared.Refusal.TheVariants.{NotMapped}
 use Rattle.std.specs.Prelude.{ℕ, zero, suc, ◌+◌, ◌-◌, ◌*◌, ◌/◌, ◌^◌, ◌≤◌, ◌<◌, ◌≡◌, Bool, true, false, not, ◌⊎◌, List, [], ◌∷◌, ◌++◌, eqb, leb, ltb, length, take, replicate}
 use Rattle.bits.specs.Bit.{pick, both}
 use Rattle.allocator.specs.Round.{rounded, round_up}
-use Rattle.answer.specs.Numbers.{not_mapped}
-use Rattle.answer.specs.declared.Outcome.TheVariants.{Value, Stop}
 use Rattle.entry.specs.Entry.{indices}
 use Rattle.bitmap.specs.Bitmap.{marked as mark_of}
 use Rattle.frame.specs.Frames.{is_levels}
 use Rattle.paging.specs.Levels.{levels_of}
-use Rattle.answer.specs.declared.Outcome.{Outcome}
 use Rattle.paging.specs.Walk.{reach}
 use Rattle.paging.specs.Map.{start_frame, total_of}
 use Rattle.paging.specs.Calls.{translate}
@@ -17,7 +17,6 @@ use Rattle.slots.specs.Slots.{listed, every}
 use Rattle.regions.specs.declared.VMRegion.{VMRegion}
 use Rattle.regions.specs.Regions.{window, no_vm_region, vm_region, joins}
 use Rattle.user_space.specs.Flags.{fixed}
-use Rattle.mmap.specs.declared.OptAddr.TheVariants.{NoAddr, SomeAddr}
 use Rattle.user_space.specs.User.{on_page}
 use Rattle.board.specs.Board.{Board, board_did, start}
 use Rattle.release.specs.Calls.{Call, vmalloc_call, vfree_call, mmap_call, munmap_call, after, Event, events, is_met, turned_away}
@@ -44,11 +43,11 @@ LowHalf =
 abbrev pub low_range : ℕ → Call → Bool
 low_range top (vmalloc_call size) = true
 low_range top (vfree_call a) = true
-low_range top (mmap_call NoAddr size prot flags) = true
-low_range top (mmap_call (SomeAddr a) size prot flags) = pick (pick (fixed flags) true (on_page a)) (leb (a + round_up 12 size) top) true
+low_range top (mmap_call None size prot flags) = true
+low_range top (mmap_call (Some a) size prot flags) = pick (pick (fixed flags) true (on_page a)) (leb (a + round_up 12 size) top) true
 low_range top (munmap_call a size) = true
 
-abbrev pub counts : Outcome → Bool
+abbrev pub counts : Result ℕ Refusal → Bool
 counts w = pick (is_met w) true (turned_away w)
 
 abbrev pub low_ranges : ℕ → List Event → Bool
@@ -81,15 +80,15 @@ drop_user a (user_region s n ∷ l) = pick (eqb s a) l (user_region s n ∷ drop
 drop_user a (kernel_region s n ∷ l) = kernel_region s n ∷ drop_user a l
 
 -- 'A region is live from the met vmalloc or mmap that answers its start to the met vfree or munmap of that start'
-abbrev pub live_step : List Region → Call → Outcome → List Region
-live_step l (vmalloc_call size) (Value a) = kernel_region a (round_up 12 size) ∷ l
-live_step l (vmalloc_call size) (Stop n) = l
-live_step l (vfree_call a) (Value x) = drop_kernel a l
-live_step l (vfree_call a) (Stop n) = l
-live_step l (mmap_call hint size prot flags) (Value a) = user_region a (round_up 12 size) ∷ l
-live_step l (mmap_call hint size prot flags) (Stop n) = l
-live_step l (munmap_call a size) (Value x) = drop_user a l
-live_step l (munmap_call a size) (Stop n) = l
+abbrev pub live_step : List Region → Call → Result ℕ Refusal → List Region
+live_step l (vmalloc_call size) (Ok a) = kernel_region a (round_up 12 size) ∷ l
+live_step l (vmalloc_call size) (Err n) = l
+live_step l (vfree_call a) (Ok x) = drop_kernel a l
+live_step l (vfree_call a) (Err n) = l
+live_step l (mmap_call hint size prot flags) (Ok a) = user_region a (round_up 12 size) ∷ l
+live_step l (mmap_call hint size prot flags) (Err n) = l
+live_step l (munmap_call a size) (Ok x) = drop_user a l
+live_step l (munmap_call a size) (Err n) = l
 
 unfoldable pub live_from : List Region → List Event → List Region
 live_from l [] = l
@@ -99,12 +98,12 @@ abbrev pub live : List Event → List Region
 live es = live_from [] es
 
 -- all regions ever live
-abbrev pub born_by : Call → Outcome → List Region
-born_by (vmalloc_call size) (Value a) = kernel_region a (round_up 12 size) ∷ []
-born_by (vmalloc_call size) (Stop n) = []
+abbrev pub born_by : Call → Result ℕ Refusal → List Region
+born_by (vmalloc_call size) (Ok a) = kernel_region a (round_up 12 size) ∷ []
+born_by (vmalloc_call size) (Err n) = []
 born_by (vfree_call a) w = []
-born_by (mmap_call hint size prot flags) (Value a) = user_region a (round_up 12 size) ∷ []
-born_by (mmap_call hint size prot flags) (Stop n) = []
+born_by (mmap_call hint size prot flags) (Ok a) = user_region a (round_up 12 size) ∷ []
+born_by (mmap_call hint size prot flags) (Err n) = []
 born_by (munmap_call a size) w = []
 
 unfoldable pub ever_live : List Event → List Region
@@ -116,7 +115,7 @@ ever_live (e ∷ es) = born_by e.call e.answer ++ ever_live es
 -- one call that releases a region: 'munmap with any size that rounds to the region's'
 pub data Releases : Region → Call → Type 0 where
   by_vfree : {a n : ℕ} → Releases (kernel_region a n) (vfree_call a)
-  by_munmap : {a n size : ℕ} → rounded size ≡ Value n → Releases (user_region a n) (munmap_call a size)
+  by_munmap : {a n size : ℕ} → rounded size ≡ Ok n → Releases (user_region a n) (munmap_call a size)
 
 -- the same regions in another order
 pub data Reordered : List Region → List Region → Type 0 where
@@ -141,7 +140,7 @@ pub record PageTable (levels : ℕ) (b : Board) (f : ℕ) : Type 0 where
   pub path : List ℕ
   pub proper : 1 ≤ length path
   pub above : length path < levels
-  pub reached : reach b.mem.words (start_frame b.mem) (total_of b.mem) b.root path ≡ Value f
+  pub reached : reach b.mem.words (start_frame b.mem) (total_of b.mem) b.root path ≡ Ok f
 
 -- the pages of a region: n of them from v on
 unfoldable pub pages_from : ℕ → ℕ → List ℕ
@@ -210,11 +209,11 @@ join_parts [] = []
 join_parts (r ∷ l) = join_onto r (join_parts l)
 
 -- 'Nothing else changes it'
-abbrev pub book_step : List VMRegion → Call → Outcome → List VMRegion
-book_step k (vmalloc_call size) (Value a) = take_part a (round_up 12 size) (ltb (length k) 256) k
-book_step k (vmalloc_call size) (Stop n) = k
-book_step k (vfree_call a) (Value x) = join_parts (free_part a k)
-book_step k (vfree_call a) (Stop n) = k
+abbrev pub book_step : List VMRegion → Call → Result ℕ Refusal → List VMRegion
+book_step k (vmalloc_call size) (Ok a) = take_part a (round_up 12 size) (ltb (length k) 256) k
+book_step k (vmalloc_call size) (Err n) = k
+book_step k (vfree_call a) (Ok x) = join_parts (free_part a k)
+book_step k (vfree_call a) (Err n) = k
 book_step k (mmap_call hint size prot flags) w = k
 book_step k (munmap_call a size) w = k
 
@@ -232,9 +231,9 @@ exceeds a n [] = false
 exceeds a n (r ∷ l) = pick (both (not r.used) (eqb r.start a)) (ltb n r.size) (exceeds a n l)
 
 -- a vmalloc that 'cut a larger region while the vmalloc list held 256'
-abbrev pub cuts : List VMRegion → Call → Outcome → Bool
-cuts k (vmalloc_call size) (Value a) = both (leb 256 (length k)) (exceeds a (round_up 12 size) k)
-cuts k (vmalloc_call size) (Stop n) = false
+abbrev pub cuts : List VMRegion → Call → Result ℕ Refusal → Bool
+cuts k (vmalloc_call size) (Ok a) = both (leb 256 (length k)) (exceeds a (round_up 12 size) k)
+cuts k (vmalloc_call size) (Err n) = false
 cuts k (vfree_call a) w = false
 cuts k (mmap_call hint size prot flags) w = false
 cuts k (munmap_call a size) w = false
@@ -253,7 +252,7 @@ pub record Ended (levels : ℕ) (es : List Event) (e : Board) : Type 0 where
   -- it has them still
   pub as_started : levels_of e.mem ≡ levels
   -- 'There no address translates'
-  pub no_address : (v : ℕ) → translate levels e.mem.words (start_frame e.mem) (total_of e.mem) e.root v ≡ Stop not_mapped
+  pub no_address : (v : ℕ) → translate levels e.mem.words (start_frame e.mem) (total_of e.mem) e.root v ≡ Err NotMapped
   -- 'exactly the root and the page tables are still marked': the root is the first of the lent frames
   pub root_first : e.root ≡ start_frame e.mem
   pub root_marked : mark_of e.mem.frames.bits 0 ≡ 1
@@ -263,7 +262,7 @@ pub record Ended (levels : ℕ) (es : List Event) (e : Board) : Type 0 where
   -- 'counter = 1 + page tables', where there is 'one for each different run of leading indices .. of pages of all regions ever live': each of these runs comes to a page
   -- table, each page table lies at such a run, and at one alone, so that there are as many page tables as different runs; and the root is none of them
   pub counter : e.mem.frames.fa.allocated ≡ 1 + length (different (leading_runs levels es))
-  pub run_has_table : (p : List ℕ) → among p (leading_runs levels es) ≡ true → (f : ℕ) × (reach e.mem.words (start_frame e.mem) (total_of e.mem) e.root p ≡ Value f)
+  pub run_has_table : (p : List ℕ) → among p (leading_runs levels es) ≡ true → (f : ℕ) × (reach e.mem.words (start_frame e.mem) (total_of e.mem) e.root p ≡ Ok f)
   pub table_has_run : (f : ℕ) (t : PageTable levels e f) → among t.path (leading_runs levels es) ≡ true
   pub one_run_each : (f : ℕ) (t t' : PageTable levels e f) → t.path ≡ t'.path
   pub root_no_table : PageTable levels e e.root → ⊥
@@ -282,7 +281,7 @@ pub record Released (levels : ℕ) (b : Board) (es : List Event) (rs rs' : List 
 -- boards of so many levels
 abbrev pub Demand3At : ℕ → Type 0
 Demand3At levels =
-    (old fresh : Board) (from to : ℕ) → start old from to levels ≡ board_did (Value 0) fresh
+    (old fresh : Board) (from to : ℕ) → start old from to levels ≡ board_did (Ok 0) fresh
     → (cs : List Call) → none_turned_away (events fresh cs) ≡ true → low_ranges (top_of levels) (events fresh cs) ≡ true
     → (rs rs' : List Call) → Order (live (events fresh cs)) rs → Order (live (events fresh cs)) rs'
     → Released levels (after fresh cs) (events fresh cs) rs rs'
@@ -294,7 +293,7 @@ Demand3 = (levels : ℕ) → Demand3At levels
 -- 'While no call was turned away with 11 or 13, the vmalloc list holds exactly the book's parts, free and used alike' (in the order of their addresses)
 abbrev pub BookHolds : Type 0
 BookHolds =
-    (old fresh : Board) (from to levels : ℕ) → start old from to levels ≡ board_did (Value 0) fresh
+    (old fresh : Board) (from to levels : ℕ) → start old from to levels ≡ board_did (Ok 0) fresh
     → (cs : List Call) → none_turned_away (events fresh cs) ≡ true
     → listed (after fresh cs).kernel ≡ book (events fresh cs)
 
@@ -306,6 +305,6 @@ parts_rise from (r ∷ l) = both (leb from r.start) (parts_rise (r.start + r.siz
 -- the order in which the book's parts are written is that of their addresses
 abbrev pub BookRises : Type 0
 BookRises =
-    (old fresh : Board) (from to levels : ℕ) → start old from to levels ≡ board_did (Value 0) fresh
+    (old fresh : Board) (from to levels : ℕ) → start old from to levels ≡ board_did (Ok 0) fresh
     → (cs : List Call) → none_turned_away (events fresh cs) ≡ true
     → parts_rise 0 (book (events fresh cs)) ≡ true

@@ -1,7 +1,7 @@
 -- What releases find (document 02, slip 5), beside demand 3: in every order the same, each frame freed.
+use Rattle.std.specs.Prelude.{Ok}
 use Rattle.std.specs.Prelude.{ℕ, ◌/◌, ◌≡◌}
 use mathlib.Core.List.{List, [], ◌∷◌, map, Memᴰ}
-use Rattle.answer.specs.declared.Outcome.TheVariants.{Value}
 use Rattle.frame.specs.declared.Tally.{Tally}
 use Rattle.frame.specs.Found.{tally, none_found}
 use Rattle.vmalloc.specs.Calls.{vfree_found_of}
@@ -29,7 +29,7 @@ whole_freed r = tally (size_is r / 4096) 0 0
 -- what holds of a board with the live regions l
 pub record FreesWhole (b : Board) (l : List Region) : Type 0 where
   -- a release of a live region is met, and frees each of its frames
-  pub one : (r : Region) (c : Call) → Memᴰ r l → Releases r c → ((play b c).answer ≡ Value 0) × (found_by b c ≡ whole_freed r)
+  pub one : (r : Region) (c : Call) → Memᴰ r l → Releases r c → ((play b c).answer ≡ Ok 0) × (found_by b c ≡ whole_freed r)
   -- 'orders of releasing all live regions, one call each': so does each release, wherever it stands
   pub order : (rs : List Call) (o : Order l rs) → each_found b rs ≡ map whole_freed o.0
   -- a call that releases no live region finds no frame
@@ -39,5 +39,5 @@ pub record FreesWhole (b : Board) (l : List Region) : Type 0 where
 -- with 11 or 13 leave behind lies in no live region.
 abbrev pub ReleasesFreeWhole : Type 0
 ReleasesFreeWhole =
-    (old fresh : Board) (from to levels : ℕ) → start old from to levels ≡ board_did (Value 0) fresh
+    (old fresh : Board) (from to levels : ℕ) → start old from to levels ≡ board_did (Ok 0) fresh
     → (cs : List Call) → FreesWhole (after fresh cs) (live (events fresh cs))

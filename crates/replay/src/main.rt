@@ -5,12 +5,5 @@
 use std::process::ExitCode;
 
 fn main(rt: HostRuntime) -> ExitCode {
-    let mut tape = rt.stdin();
-    let mut key = rt.stdout();
-    let mut messages = rt.stderr();
-    if runner::run_tape(&mut tape, &mut key, &mut messages) {
-        ExitCode::SUCCESS
-    } else {
-        ExitCode::FAILURE
-    }
+    runner::run(rt)
 }

@@ -1,5 +1,6 @@
 -- From where the loop ends to the key of the whole tape.
 use Rattle.std.proofs.Common.{◌≡◌, List, ◌++◌, ℕ, Option, None, Some, sym, ap, ◌∙◌, append_assoc, replicate}
+use Rattle.std.specs.Prelude.{Result, Ok, Err, OnOk}
 use Rattle.std.specs.Io.KnownBytes.{Appends}
 use Rattle.std.proofs.KnownBytes.{Appends-trans}
 use Rattle.frame.specs.declared.FrameAllocator.{FrameAllocator}
@@ -8,10 +9,14 @@ use Rattle.board.specs.Board.{Board, start}
 use Rattle.board.specs.Packed.{board_of}
 use Rattle.tape.specs.Text.{count_text}
 use Rattle.streams.specs.Streams.{frames_word}
-use Rattle.turn.specs.declared.Stage.TheVariants.{Ended, Unread, Unwritten}
-use Rattle.turn.specs.Run.{Run}
+use Rattle.turn.specs.Run.{Ended, Unread, Unwritten, Run}
 use Rattle.runner.specs.Key.{IsKey, WritesKey, first_board}
 use Rattle.runner.specs.Loop.{told, StandsAt, LoopEndBy}
+
+-- what follows from two facts of a value follows where there is one
+pub on_both : {T E : Type 0} {P Q K : Type 0} (r : Result T E) → OnOk r P → OnOk r Q → (P → Q → K) → OnOk r K
+on_both (Ok x) p q f = f p q
+on_both (Err x) p q f = tt
 
 -- a run that ended stands at the end of the whole tape's run, and with its last line all is written
 pub key_written : (b : Board) (tape rest held got has : Option (List ℕ)) (after : Run) → LoopEndBy b tape rest held got after → after.stage ≡ Ended

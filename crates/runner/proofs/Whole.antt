@@ -3,7 +3,7 @@ use Prim.Native.Nat.{ℕ, suc, ◌+◌, ◌≤◌, ◌<◌}
 use mathlib.Core.Path.{◌≡◌, refl, sym, ◌∙◌, ap, subst}
 use mathlib.Core.Bool.{Bool, true, false}
 use mathlib.Core.List.{List, [], ◌++◌, append_assoc, append-nil}
-use Rattle.std.specs.Prelude.{Option, None, Some}
+use Rattle.std.specs.Prelude.{Option, None, Some, Ok, Err}
 use Rattle.std.proofs.lemmas.List.{append_cancel_right}
 use Rattle.std.proofs.KnownBytes.{Appends-nil, Appends-trans}
 use Rattle.std.specs.Io.KnownBytes.{Consumes, Keeps, Appends, IsAtEnd, append_known}
@@ -13,17 +13,13 @@ use lib.ListN.{length, drop}
 use lib.Seq.{drop-append-le}
 use Rattle.bits.specs.Bit.{pick, unless}
 use Rattle.board.specs.Board.{Board}
-use Rattle.tape.specs.declared.Next.{Next}
-use Rattle.tape.specs.declared.Next.TheVariants.{Read, Finished, Malformed}
-use Rattle.tape.specs.Tape.{next, call_size}
+use Rattle.tape.specs.Tape.{Next, next, call_size}
 use Rattle.tape.specs.Text.{line_text, count_text}
 use Rattle.tape.proofs.Sizes.{size_of_call, call_there, next_more}
 use Rattle.player.specs.Play.{Turn, play}
 use Rattle.streams.specs.declared.Source.{Source}
 use Rattle.streams.specs.declared.Source.TheVariants.{Open, Closed, Failed}
-use Rattle.turn.specs.declared.Stage.{Stage}
-use Rattle.turn.specs.declared.Stage.TheVariants.{Going, Ended, Unread, Unwritten, TooLong}
-use Rattle.turn.specs.Run.{Run, run, tape_word, played, step_by, step, goes, turn, begun, turns}
+use Rattle.turn.specs.Run.{Stage, Going, Ended, Unread, Unwritten, TooLong, Run, run, tape_word, played, step_by, step, goes, turn, begun, turns}
 use Rattle.streams.specs.Streams.{kept, readable}
 use Rattle.runner.specs.Loop.{stage_of, Turned, told, Ran, TurnedBy, StandsAt, LoopEndBy}
 use Rattle.streams.proofs.Buffers.{shut, broken}
@@ -46,9 +42,9 @@ step_behind r m e = ap (step_by (behind r m)) e ∙ by (next r.left) refl
         ap (λ (l : List ℕ). run l (r.offset + size) t.board (r.text ++ line_text t.kind t.line) Going) (drop-append-le size r.left m h)
 
     by : (x : Next) → next r.left ≡ x → step_by (behind r m) x ≡ behind (step_by r x) m
-    by Finished p = refl
-    by Malformed p = refl
-    by (Read c) p = bytes (play r.board c) (call_size c) (call_there r.left c p)
+    by (Ok None) p = refl
+    by (Err e) p = refl
+    by (Ok (Some c)) p = bytes (play r.board c) (call_size c) (call_there r.left c p)
 
 step_front : (w : List ℕ) (r : Run) → step (in_front w r) ≡ in_front w (step r)
 unfolding step
@@ -59,18 +55,18 @@ step_front w r = by (next r.left)
         ap (λ (x : List ℕ). run (drop size r.left) (r.offset + size) t.board x Going) (append_assoc w r.text (line_text t.kind t.line))
 
     by : (x : Next) → step_by (in_front w r) x ≡ in_front w (step_by r x)
-    by Finished = refl
-    by Malformed = ap (λ (x : List ℕ). run r.left r.offset r.board x Ended) (append_assoc w r.text (count_text tape_word r.offset))
-    by (Read c) = lines (play r.board c) (call_size c)
+    by (Ok None) = refl
+    by (Err e) = ap (λ (x : List ℕ). run r.left r.offset r.board x Ended) (append_assoc w r.text (count_text tape_word r.offset))
+    by (Ok (Some c)) = lines (play r.board c) (call_size c)
 
 told_step : (r : Run) → told (step r).stage ≡ (step r).stage
 unfolding step
 told_step r = by (next r.left)
   where
     by : (x : Next) → told (step_by r x).stage ≡ (step_by r x).stage
-    by Finished = refl
-    by Malformed = refl
-    by (Read c) = refl
+    by (Ok None) = refl
+    by (Err e) = refl
+    by (Ok (Some c)) = refl
 
 -- ---- the offset rises with each call
 
@@ -84,9 +80,9 @@ unfolding step
 step_further r = by (next r.left)
   where
     by : (x : Next) → Further r.offset (step_by r x)
-    by Finished = record { least = omega arith; most = omega arith; more = λ e. absurd (no e) }
-    by Malformed = record { least = omega arith; most = omega arith; more = λ e. absurd (no e) }
-    by (Read c) = record { least = omega arith; most = omega (arith, size_of_call c); more = λ _. omega arith }
+    by (Ok None) = record { least = omega arith; most = omega arith; more = λ e. absurd (no e) }
+    by (Err m) = record { least = omega arith; most = omega arith; more = λ e. absurd (no e) }
+    by (Ok (Some c)) = record { least = omega arith; most = omega (arith, size_of_call c); more = λ _. omega arith }
 
 -- ---- a stage that is met before a step
 

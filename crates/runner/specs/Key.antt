@@ -6,8 +6,7 @@ use Rattle.board.specs.Board.{Board, start}
 use Rattle.board.specs.Packed.{board_of}
 use Rattle.tape.specs.Text.{count_text}
 use Rattle.streams.specs.Streams.{frames_word}
-use Rattle.turn.specs.declared.Stage.TheVariants.{Ended}
-use Rattle.turn.specs.Run.{begun, turns}
+use Rattle.turn.specs.Run.{Ended, begun, turns}
 
 -- The lines of the run that the tape comes to, and the last line: 'Last line: `frames` and the counter'.
 pub record IsKey (b : Board) (tape key : List ℕ) : Type 0 where

@@ -6,9 +6,7 @@ use Rattle.board.specs.Board.{Board}
 use Rattle.streams.specs.declared.Source.{Source}
 use Rattle.streams.specs.declared.Source.TheVariants.{Open, Closed}
 use Rattle.streams.specs.Streams.{readable, kept}
-use Rattle.turn.specs.declared.Stage.{Stage}
-use Rattle.turn.specs.declared.Stage.TheVariants.{Going, Ended, Unread, Unwritten, TooLong}
-use Rattle.turn.specs.Run.{Run, run, turn, begun, turns}
+use Rattle.turn.specs.Run.{Stage, Going, Ended, Unread, Unwritten, TooLong, Run, run, turn, begun, turns}
 
 -- whether there is a turn to play: not where a read or a write failed, nor behind 2^63 bytes
 abbrev pub stage_of : Bool → Bool → ℕ → Stage

@@ -1,4 +1,6 @@
+pub mod Copied
 pub mod Filled
+pub mod Search
 pub mod Slices
 pub mod Sorted
 pub mod Stored

@@ -1,5 +1,5 @@
 -- Lists sorted by a key, each key once: the regions of mmap by their start, the marked pages by themselves.
-use Rattle.std.specs.Prelude.{ℕ, suc, Bool, true, false, List, [], ◌∷◌, eqb, leb, ltb}
+use Rattle.std.specs.Prelude.{Ok, Err, Result, ℕ, suc, Bool, true, false, List, [], ◌∷◌, eqb, leb, ltb}
 use Rattle.bits.specs.Bit.{pick, both}
 
 -- whether keys rise strictly, the first being `from` or above
@@ -26,3 +26,7 @@ remove key k (a ∷ l) = pick (eqb (key a) k) l (a ∷ remove key k l)
 unfoldable pub place_of : {A : Type 0} → (A → ℕ) → ℕ → List A → ℕ
 place_of key k [] = 0
 place_of key k (a ∷ l) = pick (ltb (key a) k) (suc (place_of key k l)) 0
+
+-- where the one with key k stands, or the place where one with it is put in
+abbrev pub found : {A : Type 0} → (A → ℕ) → ℕ → List A → Result ℕ ℕ
+found key k l = pick (has_key key k l) (Ok (place_of key k l)) (Err (place_of key k l))

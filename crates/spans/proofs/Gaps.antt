@@ -9,13 +9,14 @@ use lib.Bits.{bit_and}
 use lib.ListN.{length, get_or, set, take, drop, take-append-drop}
 use lib.Seq.{take-suc, drop-cons, get_or-set_same, get_or-set_other}
 use borrow.Author.Count.{below_more}
+use Rattle.answer.specs.declared.Refusal.{Refusal}
+use Rattle.std.specs.Prelude.{Ok, Err}
+use Rattle.answer.specs.declared.Refusal.TheVariants.{TableOutside}
 use Rattle.bits.proofs.Masks.{one_shifted}
 use Rattle.bits.proofs.Single.{and_below}
-use Rattle.answer.specs.Numbers.{outside}
 use Rattle.entry.specs.Entry.{index, indices, frame_of}
 use Rattle.entry.proofs.Entry.{index_behind}
 use Rattle.frame.specs.Frames.{inside}
-use Rattle.answer.specs.declared.Outcome.TheVariants.{Value, Stop}
 use Rattle.paging.specs.Walk.{entry_at, reach}
 use Rattle.paging.proofs.Walk.{entry_out, reach_end}
 use Rattle.tree.proofs.Paths.{path, length_path}
@@ -39,13 +40,13 @@ module _ (ws : List ℕ) (start total up root v : ℕ) where
 
   module _ (l : ℕ) {i : ℕ} (g : i ≡ index (up - l) v) where
     -- one table further down
-    pub further : (t e : ℕ) → l < up → reach ws start total root (take l (path up v)) ≡ Value t → entry_at ws start total t i ≡ Value e
-        → reach ws start total root (take (l + 1) (path up v)) ≡ Value (frame_of e)
+    pub further : (t e : ℕ) → l < up → reach ws start total root (take l (path up v)) ≡ Ok t → entry_at ws start total t i ≡ Ok e
+        → reach ws start total root (take (l + 1) (path up v)) ≡ Ok (frame_of e)
     further t e low h x = rw (add-one l, down_to l (omega arith), ← g) (reach_step ws start total (take l (path up v)) root t i e h x)
 
     -- below an absent entry, or an entry of a table outside
-    pub gap_absent : (t a : ℕ) → l ≤ up → {k : ℕ} → k ≡ to_end (up - l) v → reach ws start total root (take l (path up v)) ≡ Value t
-        → entry_at ws start total t i ≡ Stop a → IsGap ws start total up root v k
+    pub gap_absent : (t : ℕ) (a : Refusal) → l ≤ up → {k : ℕ} → k ≡ to_end (up - l) v → reach ws start total root (take l (path up v)) ≡ Ok t
+        → entry_at ws start total t i ≡ Err a → IsGap ws start total up root v k
     gap_absent t a low w h e = record {
       some = rw w (to_end_some (up - l) v);
       off = λ j lt.
@@ -60,17 +61,17 @@ module _ (ws : List ℕ) (start total up root v : ℕ) where
     }
 
   -- below an entry that leads outside
-  pub gap_outside : (l f : ℕ) → l < up → {k : ℕ} → k ≡ to_end (up - l) v → reach ws start total root (take (l + 1) (path up v)) ≡ Value f
+  pub gap_outside : (l f : ℕ) → l < up → {k : ℕ} → k ≡ to_end (up - l) v → reach ws start total root (take (l + 1) (path up v)) ≡ Ok f
       → inside start total f ≡ false → IsGap ws start total up root v k
   gap_outside l f low w h o = record {
     some = rw w (to_end_some (up - l) v);
     off = λ j lt.
         let q = path up (v + j * 4096) in (
-          outside,
+          TableOutside,
           ap (reach ws start total root)
               (shared (suc up) l (up - l) v j (omega arith) (omega arith)
               ∙ ap (λ (r : List ℕ). take (suc l) (path up v) ++ r) (drop-cons q (suc l) 0 (omega (arith, length_path up (v + j * 4096)))))
-              ∙ reach_stuck ws start total (take (suc l) (path up v)) root f (get_or q (suc l) 0) (drop (suc (suc l)) q) outside
+              ∙ reach_stuck ws start total (take (suc l) (path up v)) root f (get_or q (suc l) 0) (drop (suc (suc l)) q) TableOutside
               (rw (add-one l) at h) (entry_out ws start total f (get_or q (suc l) 0) o),
         );
   }
@@ -79,22 +80,22 @@ module _ (ws : List ℕ) (start total up root v : ℕ) where
   pub gap_root : {k : ℕ} → k ≡ to_end up v → inside start total root ≡ false → IsGap ws start total up root v k
   gap_root w o =
       let e : up - 0 ≡ up = omega arith in
-      gap_absent 0 refl root outside (omega arith) (rw e w) (reach_end ws start total root refl) (entry_out ws start total root _ o)
+      gap_absent 0 refl root TableOutside (omega arith) (rw e w) (reach_end ws start total root refl) (entry_out ws start total root _ o)
 
   -- a last table
-  pub leaves_found : (above : List ℕ) (t k : ℕ) → reach ws start total root (take up (path up v)) ≡ Value t → inside start total t ≡ true
-      → ((l : ℕ) → l < up → reach ws start total root (take l (path up v)) ≡ Value (get_or above l 0)) → 0 < k → index 0 v + k ≤ 512
+  pub leaves_found : (above : List ℕ) (t k : ℕ) → reach ws start total root (take up (path up v)) ≡ Ok t → inside start total t ≡ true
+      → ((l : ℕ) → l < up → reach ws start total root (take l (path up v)) ≡ Ok (get_or above l 0)) → 0 < k → index 0 v + k ≤ 512
       → ((l : ℕ) → l < up → get_or above l 0 ≡ t → Off (index (up - l) v) (index 0 v) k) → IsLeaves ws start total up root v t k
   leaves_found above t k way ins ways some fit apart =
       record { some = some; fit = fit; lent = ins; way = way; apart = λ l lt h. apart l lt (let e = ways l lt in cc) }
 
   -- the tables on the way, one more of them written down
   pub above_more : (above : List ℕ) (l t : ℕ) → l < length above
-      → ((k : ℕ) → k < l → reach ws start total root (take k (path up v)) ≡ Value (get_or above k 0)) → reach ws start total root (take l (path up v)) ≡ Value t
-      → (k : ℕ) → k < l + 1 → reach ws start total root (take k (path up v)) ≡ Value (get_or (set above l t) k 0)
+      → ((k : ℕ) → k < l → reach ws start total root (take k (path up v)) ≡ Ok (get_or above k 0)) → reach ws start total root (take l (path up v)) ≡ Ok t
+      → (k : ℕ) → k < l + 1 → reach ws start total root (take k (path up v)) ≡ Ok (get_or (set above l t) k 0)
   above_more above l t lt ways way =
-      below_more (λ k. reach ws start total root (take k (path up v)) ≡ Value (get_or (set above l t) k 0)) l
-      (λ k b. ways k b ∙ ap Value (sym (get_or-set_other above l k t 0 (λ e. omega arith)))) (way ∙ ap Value (sym (get_or-set_same above l t 0 lt)))
+      below_more (λ k. reach ws start total root (take k (path up v)) ≡ Ok (get_or (set above l t) k 0)) l
+      (λ k b. ways k b ∙ ap Ok (sym (get_or-set_other above l k t 0 (λ e. omega arith)))) (way ∙ ap Ok (sym (get_or-set_same above l t 0 lt)))
 
 -- ---- the code's `1 << 9 * d`, and what is left of the span
 

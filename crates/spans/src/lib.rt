@@ -8,7 +8,6 @@ ghost use Rattle.paging.specs.Levels.{most_above};
 ghost use Rattle.spans.specs.Spans.{to_end, Off, IsSpan};
 
 use address::{Frame, VirtAddr};
-use answer::Outcome;
 use entry::paging::PageTableEntry;
 
 // What there is at a page: so many leaves of its last table, or so many pages that are not mapped.
@@ -91,8 +90,8 @@ fn span_below(words: &[u64], start: u64, total: u64, up: u64, root: Frame, virt:
     for passed in 0..up {
         above[passed as usize] = t;
         match walk::entry_at(words, start, total, t, entry::page_index(virt, up - passed)) {
-            Outcome::Stop(_) => return Span::Gap(to_end(virt, up - passed)),
-            Outcome::Value(e) => {
+            Err(_) => return Span::Gap(to_end(virt, up - passed)),
+            Ok(e) => {
                 t = PageTableEntry(e).addr().0 >> 12;
             }
         }

@@ -1,16 +1,13 @@
 -- What reads and writes do to the bytes that a reader has left and a writer holds, where those are known.
-use Rattle.std.proofs.Common.{◌≡◌, ℕ, ◌+◌, ◌≤◌, Bool, true, false, List, [], ◌++◌, eqb, Result, Ok, Err, None, Some, length, take, refl, sym, ap, ◌∙◌, subst, append_assoc, arith}
+use Rattle.std.proofs.Common.{◌≡◌, ℕ, ◌+◌, ◌≤◌, List, [], ◌++◌, Result, Ok, Err, None, Some, length, take, sym, ap, ◌∙◌, subst, append_assoc, arith}
 use Rattle.std.specs.declared.option.Option.{Option}
 use Rattle.std.proofs.lemmas.List.{length-take-le, take-append-le}
 use Rattle.std.proofs.Math.Seq.{take-append-add}
+use Rattle.std.specs.Prelude.{OnOk}
 use Rattle.std.specs.Io.{ReadsAtMost}
 use Rattle.std.specs.Io.KnownBytes.{ReadConsumes, Consumes, Keeps, Appends, prepend_known, append_known}
 use borrow.Rule.Slice.PartMut.{put_mid, post_of}
-use borrow.Author.Tests.{eqb-true}
-use Rattle.bits.specs.Bit.{pick}
-use Rattle.streams.specs.declared.Got.{Got}
-use Rattle.streams.specs.declared.Got.TheVariants.{Bytes, Nothing}
-use Rattle.streams.specs.Streams.{got_of, answer_of, bytes_of, size_of}
+use Rattle.streams.specs.Streams.{bytes_of}
 
 -- ---- a read behind the first n bytes of a buffer
 
@@ -31,14 +28,6 @@ consumed : {E : Type 0} (old new : Option (List ℕ)) (answer : Result ℕ E) (l
 consumed old new (Ok k) lent p = p.0
 consumed old new (Err e) lent p = none_consumed old new p
 
-size_of_got : {E : Type 0} (answer : Result ℕ E) → size_of (got_of (answer_of answer) (bytes_of answer)) ≡ bytes_of answer
-size_of_got (Ok k) = by (eqb k 0) refl
-  where
-    by : (b : Bool) → eqb k 0 ≡ b → size_of (pick b Nothing (Bytes k)) ≡ k
-    by true e = sym (eqb-true k 0 e)
-    by false e = refl
-size_of_got (Err e) = refl
-
 within : {E : Type 0} (answer : Result ℕ E) (lent : List ℕ) → ReadsAtMost answer lent → bytes_of answer ≤ length lent
 within (Ok k) lent p = p.0
 within (Err e) lent p = omega arith
@@ -49,24 +38,24 @@ prepend_consumed (Some x) None front bs p = absurd p
 prepend_consumed (Some x) (Some y) front bs p = append_assoc front bs y ∙ ap (λ (l : List ℕ). front ++ l) (sym p)
 
 -- a read takes from the reader what it brings
-pub read_kept : {E : Type 0} (old new : Option (List ℕ)) (answer : Result ℕ E) (got : Got) (n rest : ℕ) (buf lent : List ℕ) → n ≤ length buf → ReadsAtMost answer lent
-    → ReadConsumes old new answer lent → got ≡ got_of (answer_of answer) (bytes_of answer)
-    → Keeps (prepend_known (take n buf) old) (prepend_known (take (n + size_of got) (put_mid n rest buf lent)) new)
-read_kept old new answer got n rest buf lent h most read e =
+pub read_kept : {E : Type 0} (old new : Option (List ℕ)) (answer : Result ℕ E) (n rest : ℕ) (buf lent : List ℕ) → n ≤ length buf → ReadsAtMost answer lent → ReadConsumes old new answer lent
+    → Keeps (prepend_known (take n buf) old) (prepend_known (take (n + bytes_of answer) (put_mid n rest buf lent)) new)
+read_kept old new answer n rest buf lent h most read =
     let k = bytes_of answer in
-    let size : size_of got ≡ k = ap size_of e ∙ size_of_got answer in
-    let there : take (n + size_of got) (put_mid n rest buf lent) ≡ take n buf ++ take k lent =
-    ap (λ (m : ℕ). take (n + m) (put_mid n rest buf lent)) size ∙ take_behind n k rest buf lent h (within answer lent most) in
-    subst (λ (l : List ℕ). Keeps (prepend_known (take n buf) old) (prepend_known l new)) (sym there)
+    subst (λ (l : List ℕ). Keeps (prepend_known (take n buf) old) (prepend_known l new)) (sym (take_behind n k rest buf lent h (within answer lent most)))
     (prepend_consumed old new (take n buf) (take k lent) (consumed old new answer lent read))
 
 -- ---- the last write
 
--- a text is written that stands for what is still to be written, with a line behind it: then all is
-pub all_written : (a b c : Option (List ℕ)) (all rest line text : List ℕ) → Keeps (append_known a all) (append_known b rest) → text ≡ rest ++ line → Appends b c text
-    → Appends a c (all ++ line)
-all_written None b c all rest line text p e q = tt
-all_written (Some x) None c all rest line text p e q = absurd p
-all_written (Some x) (Some y) None all rest line text p e q = absurd q
-all_written (Some x) (Some y) (Some z) all rest line text p e q =
+all_appended : (a b c : Option (List ℕ)) (all rest line text : List ℕ) → Keeps (append_known a all) (append_known b rest) → text ≡ rest ++ line → Appends b c text → Appends a c (all ++ line)
+all_appended None b c all rest line text p e q = tt
+all_appended (Some x) None c all rest line text p e q = absurd p
+all_appended (Some x) (Some y) None all rest line text p e q = absurd q
+all_appended (Some x) (Some y) (Some z) all rest line text p e q =
     q ∙ ap (λ (l : List ℕ). y ++ l) e ∙ sym (append_assoc y rest line) ∙ ap (λ (l : List ℕ). l ++ line) p ∙ append_assoc x all line
+
+-- a text is written that stands for what is still to be written, with a line behind it: then all is
+pub all_written : {T E : Type 0} (r : Result T E) (a b c : Option (List ℕ)) (all rest line text : List ℕ) → Keeps (append_known a all) (append_known b rest) → text ≡ rest ++ line
+    → OnOk r (Appends b c text) → OnOk r (Appends a c (all ++ line))
+all_written (Ok x) a b c all rest line text p e q = all_appended a b c all rest line text p e q
+all_written (Err x) a b c all rest line text p e q = tt

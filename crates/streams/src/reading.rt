@@ -1,148 +1,140 @@
 // The tape's bytes: those that are read and not taken yet stand in a buffer.
-ghost use Rattle.std.specs.Prelude.{◌≡◌, ◌+◌, ◌-◌, ◌≤◌, ◌<◌, length, take, drop};
-ghost use Rattle.tape.specs.Tape.{next};
-ghost use Rattle.streams.specs.Streams.{Refilled, Brought, got_of, answer_of, bytes_of, size_of, left_of, readable};
+ghost use Rattle.std.specs.Prelude.{◌≡◌, ◌+◌, ◌-◌, ◌*◌, ◌^◌, ◌≤◌, ◌<◌, ◌↔◌, [], true, IsOk, IfOk, length, take, drop};
 ghost use Rattle.std.specs.Io.KnownBytes.{Keeps, IsAtEnd, prepend_known};
+ghost use Rattle.tape.specs.Tape.{next};
+ghost use Rattle.streams.specs.Streams.{Refilled, bytes_of, readable, taken};
 
-use crate::{Got, Input, Source};
+use crate::Source;
 use std::io;
 use std::io::Read;
-use tape::Next;
+use std::marker::Model;
+use tape::{Call, Malformed};
+
+// So many bytes are held at most.
+const SIZE: usize = 65536;
 
 // A call of the tape has at most so many bytes.
 const LONGEST: usize = 26;
 
-// What a read that gave this answer brought.
-fn got_of(answer: io::Result<usize>) -> Got
-    ensures { result ≡ got_of (answer_of answer) (bytes_of answer) }
-{
-    match answer {
-        Err(_) => Got::Failure,
-        Ok(0) => Got::Nothing,
-        Ok(n) => Got::Bytes(n),
-    }
+// A read failed.
+#[derive(Clone, Copy, Debug, PartialEq, Eq)]
+pub struct Unread;
+
+// Bytes `at` up to `filled` are read and not taken yet; `offset` is the place of byte `at` on the tape.
+#[derive(Drop)]
+pub struct Input {
+    bytes: [u8; SIZE],
+    at: usize,
+    filled: usize,
+    offset: u64,
+    source: Source,
+}
+
+impl Model for Input {
+    ghost use Rattle.std.specs.Prelude.{◌≤◌, ◌-◌, take, drop};
+    ghost use Rattle.streams.specs.Streams.{Left};
+
+    ghost Value = { Left };
+
+    ghost view = { λ i. record { bytes = take (i.filled - i.at) (drop i.at i.bytes); offset = i.offset; source = i.source } };
+
+    ghost invariant = { λ i. (i.at ≤ i.filled) × (i.filled ≤ 65536) };
 }
 
 // One read, behind the first n bytes. What it brought, the reader has no longer; and where it brought nothing the reader is at its end.
-fn read_behind<R: Read>(reader: &mut R, buf: &mut [u8], n: usize) -> Got
+fn read_behind<R: Read>(reader: &mut R, buf: &mut [u8], n: usize) -> io::Result<usize>
     requires { n ≤ length buf.old }
     ensures buf_unchanged { take n buf.new ≡ take n buf.old }
-    ensures brought { Brought (length buf.old - n) result }
+    ensures brought { IfOk result (λ k. n + k ≤ length buf.old) }
     ensures kept { Keeps (prepend_known (take n buf.old) (R.remaining reader.old))
-        (prepend_known (take (n + size_of result) buf.new) (R.remaining reader.new)) }
-    ensures end { result ≡ Got.Nothing → n < length buf.old → IsAtEnd (R.remaining reader.new) }
+        (prepend_known (take (n + bytes_of result) buf.new) (R.remaining reader.new)) }
+    ensures end { result ≡ Ok 0 → n < length buf.old → IsAtEnd (R.remaining reader.new) }
 {
-    got_of(reader.read(&mut buf[n..]))
+    reader.read(&mut buf[n..])
 }
 
-// Reads behind the first n bytes until a whole call is there in any case, the tape ends or a read fails.
-fn fill<R: Read>(reader: &mut R, buf: &mut [u8], n: usize, offset: u64) -> Input
+// Reads behind the first n bytes until a whole call is there in any case, the tape ends or a read fails: where the bytes end then, and what is known of the tape.
+fn fill<R: Read>(reader: &mut R, buf: &mut [u8], n: usize) -> (usize, Source)
     requires n_bound { n ≤ 26 }
     requires in_bounds { 26 ≤ length buf.old }
     ensures buf_unchanged { take n buf.new ≡ take n buf.old }
-    ensures at_value { result.at ≡ 0 }
-    ensures n_le_filled { n ≤ result.filled }
-    ensures filled_in_bounds { result.filled ≤ length buf.old }
-    ensures offset_value { result.offset ≡ offset }
-    ensures le_filled { result.source ≡ Source.Open → 26 ≤ result.filled }
+    ensures n_le_filled { n ≤ result.0 }
+    ensures filled_in_bounds { result.0 ≤ length buf.old }
+    ensures le_filled { result.1 ≡ Source.Open → 26 ≤ result.0 }
     ensures kept { Keeps (prepend_known (take n buf.old) (R.remaining reader.old))
-        (prepend_known (take result.filled buf.new) (R.remaining reader.new)) }
-    ensures end { result.source ≡ Source.Closed → IsAtEnd (R.remaining reader.new) }
+        (prepend_known (take result.0 buf.new) (R.remaining reader.new)) }
+    ensures end { result.1 ≡ Source.Closed → IsAtEnd (R.remaining reader.new) }
 {
     let mut filled = n;
+    // Each turn goes on by what a read brought.
     while filled < LONGEST {
         match read_behind(reader, buf, filled) {
-            Got::Bytes(k) => filled += k,
-            Got::Nothing => return Input {
-                at: 0,
-                filled,
-                offset,
-                source: Source::Closed,
-            },
-            Got::Failure => return Input {
-                at: 0,
-                filled,
-                offset,
-                source: Source::Failed,
-            },
+            Ok(0) => return (filled, Source::Closed),
+            Ok(k) => filled += k,
+            Err(_) => return (filled, Source::Failed),
         }
     }
-    Input {
-        at: 0,
-        filled,
-        offset,
-        source: Source::Open,
-    }
+    (filled, Source::Open)
 }
 
-// The bytes that are not taken yet, moved to the front.
-fn move_down(buf: &mut [u8], at: usize, n: usize)
-    requires { at + n ≤ length buf.old }
-    ensures { take n buf.new ≡ take n (drop at buf.old) }
-{
-    for i in 0..n {
-        buf[i] = buf[at + i];
-    }
-}
-
-// A whole call, or all that is left of the tape, stands in the buffer. No byte is lost or told twice: what is left in the buffer, and what the reader has behind it,
-// are as they were together.
-pub fn refill<R: Read>(reader: &mut R, buf: &mut [u8], input: Input) -> Input
-    requires at_le_filled { input.at ≤ input.filled }
-    requires filled_in_bounds { input.filled ≤ length buf.old }
-    requires in_bounds { 26 ≤ length buf.old }
-    ensures refilled { Refilled buf.old buf.new input result }
-    ensures kept { Keeps (prepend_known (left_of buf.old input) (R.remaining reader.old))
-        (prepend_known (left_of buf.new result) (R.remaining reader.new)) }
-    ensures end { (input.source ≡ Source.Closed → IsAtEnd (R.remaining reader.old))
-        → result.source ≡ Source.Closed → IsAtEnd (R.remaining reader.new) }
-{
-    let at = input.at;
-    let n = input.filled - at;
-    let source = input.source;
-    if n >= LONGEST {
-        return input;
-    }
-    match source {
-        Source::Open => {
-            move_down(buf, at, n);
-            fill(reader, buf, n, input.offset)
+impl Input {
+    // A tape of which nothing is read yet.
+    pub fn new() -> Self
+        ensures { result ≡ record { bytes = []; offset = 0; source = Source.Open } }
+    {
+        Input {
+            bytes: [0; SIZE],
+            at: 0,
+            filled: 0,
+            offset: 0,
+            source: Source::Open,
         }
-        Source::Closed => input,
-        Source::Failed => input,
     }
-}
 
-// What stands next in the buffer.
-pub fn next_of(buf: &[u8], at: usize, end: usize) -> Next
-    requires at_le_end { at ≤ end }
-    requires end_in_bounds { end ≤ length buf.now }
-    ensures { result ≡ next (take (end - at) (drop at buf.now)) }
-{
-    tape::read::read_call(&buf[at..end])
-}
-
-// A call's bytes are taken.
-pub fn past(input: Input, size: usize) -> Input
-    requires size_bound { input.at + size ≤ input.filled }
-    requires size_bound_2 { input.offset + size < 18446744073709551616 }
-    ensures { result ≡ record { at = input.at + size; filled = input.filled; offset = input.offset + size; source = input.source } }
-{
-    let source = input.source;
-    Input {
-        at: input.at + size,
-        filled: input.filled,
-        offset: input.offset + size as u64,
-        source,
+    pub fn offset(&self) -> u64
+        ensures { result ≡ self.now.offset }
+    {
+        self.offset
     }
-}
 
-pub fn is_readable(source: Source) -> bool
-    ensures { result ≡ readable source }
-{
-    match source {
-        Source::Open => true,
-        Source::Closed => true,
-        Source::Failed => false,
+    // A whole call, or all that is left of the tape, stands in the buffer. No byte is lost or told twice: what is left in the buffer, and what the reader has behind it,
+    // are as they were together.
+    pub fn refill<R: Read>(&mut self, reader: &mut R) -> Result<(), Unread>
+        ensures refilled { Refilled self.old self.new }
+        ensures kept { Keeps (prepend_known self.old.bytes (R.remaining reader.old))
+            (prepend_known self.new.bytes (R.remaining reader.new)) }
+        ensures end { (self.old.source ≡ Source.Closed → IsAtEnd (R.remaining reader.old))
+            → self.new.source ≡ Source.Closed → IsAtEnd (R.remaining reader.new) }
+        ensures variant { IsOk result ↔ (readable self.new.source ≡ true) }
+    {
+        let n = self.filled - self.at;
+        if n < LONGEST && self.source == Source::Open {
+            self.bytes.copy_within(self.at..self.filled, 0);
+            let (filled, source) = fill(reader, &mut self.bytes, n);
+            self.at = 0;
+            self.filled = filled;
+            self.source = source;
+        }
+        if self.source == Source::Failed {
+            return Err(Unread);
+        }
+        Ok(())
+    }
+
+    // What stands next in the buffer.
+    pub fn next(&self) -> Result<Option<Call>, Malformed>
+        ensures { result ≡ next self.now.bytes }
+    {
+        tape::read::read_call(&self.bytes[self.at..self.filled])
+    }
+
+    // A call's bytes are taken.
+    pub fn take(&mut self, size: usize)
+        requires size_bound { size ≤ length self.old.bytes }
+        requires offset_bound { self.old.offset + size < 2 ^ 64 }
+        ensures { self.new ≡ taken size self.old }
+    {
+        self.at += size;
+        self.offset += size as u64;
     }
 }

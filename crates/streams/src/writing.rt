@@ -1,67 +1,63 @@
 // The key's text: what is put stands in a buffer until it is written.
-ghost use Rattle.std.specs.Prelude.{◌≡◌, ◌++◌, ◌+◌, ◌≤◌, length, take, true};
+ghost use Rattle.std.specs.Prelude.{◌≡◌, ◌++◌, ◌+◌, ◌≤◌, OnOk, length};
 ghost use Rattle.std.specs.Io.KnownBytes.{Keeps, Appends, append_known};
 ghost use Rattle.tape.specs.Text.{count_text};
-ghost use Rattle.streams.specs.Streams.{kept, frames_word, last_text, Begins};
+ghost use Rattle.streams.specs.Streams.{kept, frames_word, last_text};
 
+use std::fmt::Display;
 use std::io::Write;
+use tape::text::Text;
 
-// The end of what is put and not written yet, and whether all that had to be written was.
-#[derive(Clone, Copy)]
-pub struct Flushed {
-    pub put: usize,
-    pub written: bool,
-}
+// The text that is put and not written yet.
+pub type Output = Text<65536>;
 
-// The first n bytes of what is put, written; whether that could be done.
-pub fn write_first<W: Write>(writer: &mut W, out: &[u8], n: usize) -> bool
-    requires { n ≤ length out.now }
-    ensures { result ≡ true → Appends (W.contents writer.old) (W.contents writer.new) (take n out.now) }
+// A line has at most so many bytes.
+const LINE: usize = 64;
+
+const SIZE: usize = 65536;
+
+// A write failed.
+#[derive(Clone, Copy, Debug, PartialEq, Eq)]
+pub struct Unwritten;
+
+// All that is put, written.
+pub fn write<W: Write>(writer: &mut W, out: &Output) -> Result<(), Unwritten>
+    ensures { OnOk result (Appends (W.contents writer.old) (W.contents writer.new) out.now) }
 {
-    writer.write_all(&out[..n]).is_ok()
+    writer.write_all(out.as_slice()).map_err(|_| Unwritten)
 }
 
 // What is put is written once there is no room for a line behind it. What the writer holds, and what is put behind it, are as they were together.
-pub fn flush<W: Write>(writer: &mut W, out: &[u8], put: usize) -> Flushed
-    requires { put ≤ length out.now }
-    ensures out_value { take result.put out.now ≡ kept (take put out.now) }
-    ensures put_bound { result.put + 64 ≤ 65536 }
-    ensures kept { result.written ≡ true
-        → Keeps (append_known (W.contents writer.old) (take put out.now))
-        (append_known (W.contents writer.new) (take result.put out.now)) }
+pub fn flush<W: Write>(writer: &mut W, out: &mut Output) -> Result<(), Unwritten>
+    ensures text { out.new ≡ kept out.old }
+    ensures room { length out.new + 64 ≤ 65536 }
+    ensures kept { OnOk result (Keeps (append_known (W.contents writer.old) out.old)
+        (append_known (W.contents writer.new) out.new)) }
 {
-    if put <= 65472 {
-        return Flushed { put, written: true };
+    if out.as_slice().len() <= SIZE - LINE {
+        return Ok(());
     }
-    Flushed {
-        put: 0,
-        written: write_first(writer, out, put),
-    }
+    let written = write(writer, out);
+    out.clear();
+    written
 }
 
-// The last line behind all that is put, and all of it written; whether that could be done. What is handed to the last write then is the text that was still to be
-// written, and the line.
+// The last line behind all that is put, and all of it written. What is handed to the last write then is the text that was still to be written, and the line.
 pub fn write_last<W: Write>(
     writer: &mut W,
-    out: &mut [u8; 65536],
-    put: usize,
+    out: &mut Output,
     allocated: u64,
-) -> bool
-    requires { put ≤ 65536 }
-    ensures begins { result ≡ true → Begins (last_text (take put out.old) allocated) out.new }
-    ensures whole { result ≡ true
-        → Appends (W.contents writer.old) (W.contents writer.new)
-        (take put out.old ++ count_text frames_word allocated) }
+) -> Result<(), Unwritten>
+    ensures handed { OnOk result (out.new ≡ last_text out.old allocated) }
+    ensures whole { OnOk result (Appends (W.contents writer.old) (W.contents writer.new)
+        (out.old ++ count_text frames_word allocated)) }
 {
-    let flushed = flush(writer, out, put);
-    if !flushed.written {
-        return false;
-    }
-    let end = tape::text::put_count(out, flushed.put, b"frames", allocated);
-    write_first(writer, out, end)
+    flush(writer, out)?;
+    out.put_count(b"frames", allocated);
+    write(writer, out)
 }
 
 // What stands in the way of a key. Where this cannot be written either, nothing is left to be told.
-pub fn complain<W: Write>(writer: &mut W, text: &[u8]) {
-    let _ = writer.write_all(text);
+pub fn complain<W: Write, E: Display>(writer: &mut W, error: &E) {
+    let _ = writeln!(writer, "key: {error}");
 }

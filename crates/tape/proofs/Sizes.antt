@@ -14,8 +14,8 @@ use Rattle.bits.specs.Bit.{pick, both}
 use Rattle.packed.specs.Words.{number}
 use Rattle.tape.specs.declared.Call.{Call}
 use Rattle.tape.specs.declared.Call.TheVariants.{Vmalloc, Vfree, Mmap, Munmap, Fault, Translate}
-use Rattle.tape.specs.declared.Next.TheVariants.{Read, Malformed}
-use Rattle.tape.specs.Tape.{body_size, body, next, kind_of, call_size}
+use Rattle.std.specs.Prelude.{None, Some}
+use Rattle.tape.specs.Tape.{body_size, read, malformed, body, next, kind_of, call_size}
 use Rattle.tape.proofs.Reading.{size_most}
 
 pub size_of_call : (c : Call) → call_size c ≤ 26
@@ -30,18 +30,18 @@ pub size_least_call : (c : Call) → 1 ≤ call_size c
 size_least_call c = omega arith
 
 -- the call of a body has the body's kind
-same_body : (k : ℕ) (b : List ℕ) (c : Call) → 0 < body_size k → body k b ≡ Read c → body_size (kind_of c) ≡ body_size k
+same_body : (k : ℕ) (b : List ℕ) (c : Call) → 0 < body_size k → body k b ≡ read c → body_size (kind_of c) ≡ body_size k
 same_body k b c = by (eqb k 1) (eqb k 2) (eqb k 3) (eqb k 4) (eqb k 5) (eqb k 6) (ltb (get_or b 0 0) 2)
   where
-    kinds : (x y : Call) → Read x ≡ Read y → kind_of x ≡ kind_of y
+    kinds : (x y : Call) → read x ≡ read y → kind_of x ≡ kind_of y
     kinds x y e = let f : x ≡ y = cc in ap kind_of f
 
     by : (p q r s t u f : Bool) → 0 < pick p 8 (pick q 8 (pick r 25 (pick s 16 (pick t 16 (pick u 8 0)))))
-        → pick p (Read (Vmalloc (number 8 b))) (pick q (Read (Vfree (number 8 b)))
-        (pick r (pick f (Read (Mmap (record { given = eqb (get_or b 0 0) 1; addr = number 8 (drop 1 b); size = number 8 (drop 9 b); prot = to_z w32 (number 4 (drop 17 b)); flags = to_z w32 (number 4 (drop 21 b)) }))) Malformed)
-        (pick s (Read (Munmap (record { addr = number 8 b; size = number 8 (drop 8 b) })))
-        (pick t (Read (Fault (record { addr = number 8 b; code = number 8 (drop 8 b) })))
-        (Read (Translate (number 8 b))))))) ≡ Read c
+        → pick p (read (Vmalloc (number 8 b))) (pick q (read (Vfree (number 8 b)))
+        (pick r (pick f (read (Mmap (record { addr = pick (eqb (get_or b 0 0) 1) (Some (number 8 (drop 1 b))) None; size = number 8 (drop 9 b); prot = to_z w32 (number 4 (drop 17 b)); flags = to_z w32 (number 4 (drop 21 b)) }))) malformed)
+        (pick s (read (Munmap (record { addr = number 8 b; size = number 8 (drop 8 b) })))
+        (pick t (read (Fault (record { addr = number 8 b; code = number 8 (drop 8 b) })))
+        (read (Translate (number 8 b))))))) ≡ read c
         → body_size (kind_of c) ≡ pick p 8 (pick q 8 (pick r 25 (pick s 16 (pick t 16 (pick u 8 0)))))
     by true q r s t u f h e = sym (ap body_size (kinds _ _ e))
     by false true r s t u f h e = sym (ap body_size (kinds _ _ e))
@@ -53,12 +53,12 @@ same_body k b c = by (eqb k 1) (eqb k 2) (eqb k 3) (eqb k 4) (eqb k 5) (eqb k 6)
     by false false false false false false f h e = absurd (omega arith)
 
 -- a call that is read is there whole
-pub call_there : (bs : List ℕ) (c : Call) → next bs ≡ Read c → call_size c ≤ length bs
+pub call_there : (bs : List ℕ) (c : Call) → next bs ≡ read c → call_size c ≤ length bs
 unfolding next
 call_there [] c e = absurd (let z : ◌≡◌ {A = ℕ} 0 1 = cc in omega arith)
 call_there (k ∷ b) c e = by (ltb 0 (body_size k)) (leb (body_size k) (length b)) refl refl e
   where
-    by : (x y : Bool) → ltb 0 (body_size k) ≡ x → leb (body_size k) (length b) ≡ y → pick (both x y) (body k b) Malformed ≡ Read c → call_size c ≤ suc (length b)
+    by : (x y : Bool) → ltb 0 (body_size k) ≡ x → leb (body_size k) (length b) ≡ y → pick (both x y) (body k b) malformed ≡ read c → call_size c ≤ suc (length b)
     by true true p q f = omega (arith, same_body k b c (ltb-true 0 (body_size k) p) f, leb-true (body_size k) (length b) q)
     by true false p q f = absurd (let z : ◌≡◌ {A = ℕ} 0 1 = cc in omega arith)
     by false y p q f = absurd (let z : ◌≡◌ {A = ℕ} 0 1 = cc in omega arith)

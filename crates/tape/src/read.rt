@@ -1,94 +1,61 @@
 // A tape's bytes, taken as calls.
-ghost use Rattle.std.specs.Prelude.{◌≡◌, ◌+◌, ◌≤◌, ◌<◌, length, drop};
-ghost use Rattle.tape.specs.Tape.{body_size, next, body, mmap_body, call_size};
+ghost use Rattle.std.specs.Prelude.{◌≡◌, ◌≤◌, length};
+ghost use Rattle.tape.specs.Tape.{body_size, next, body as body_call, mmap_body};
+ghost use Rattle.tape.specs.Kinds.{number_of};
 
-use crate::{Call, FaultCall, MmapCall, MunmapCall, Next};
-
-// The bytes of a call's body; 0 for an unknown kind.
-pub fn body_size(kind: u8) -> usize
-    ensures { result ≡ body_size kind }
-{
-    match kind {
-        1 => 8,
-        2 => 8,
-        3 => 25,
-        4 => 16,
-        5 => 16,
-        6 => 8,
-        _ => 0,
-    }
-}
+use crate::{Call, FaultCall, Kind, Malformed, MmapCall, MunmapCall};
 
 // The address is given if the first byte is 1 and not if it is 0; no other byte may stand there.
-fn mmap_body(bytes: &[u8]) -> Next
-    requires { 26 ≤ length bytes.now }
-    ensures { result ≡ mmap_body (drop 1 bytes.now) }
+fn read_mmap(body: &[u8]) -> Result<Option<Call>, Malformed>
+    requires { 25 ≤ length body.now }
+    ensures { result ≡ mmap_body body.now }
 {
-    if bytes[1] >= 2 {
-        return Next::Malformed;
-    }
-    Next::Read(Call::Mmap(MmapCall {
-        given: bytes[1] == 1,
-        addr: packed::word_at(bytes, 2),
-        size: packed::word_at(bytes, 10),
-        prot: packed::signed(packed::half_at(bytes, 18)),
-        flags: packed::signed(packed::half_at(bytes, 22)),
-    }))
+    let addr = match body[0] {
+        0 => None,
+        1 => Some(packed::word_at(body, 1)),
+        _ => return Err(Malformed),
+    };
+    Ok(Some(Call::Mmap(MmapCall {
+        addr,
+        size: packed::word_at(body, 9),
+        prot: packed::signed(packed::half_at(body, 17)),
+        flags: packed::signed(packed::half_at(body, 21)),
+    })))
 }
 
-// The call of a known kind whose body is there whole.
-fn read_body(kind: u8, bytes: &[u8]) -> Next
-    requires kind_nonzero { 0 < body_size kind }
-    requires kind_in_bounds { body_size kind + 1 ≤ length bytes.now }
-    ensures { result ≡ body kind (drop 1 bytes.now) }
+// The call of a kind whose body is there whole.
+fn read_body(kind: Kind, body: &[u8]) -> Result<Option<Call>, Malformed>
+    requires { body_size (number_of kind) ≤ length body.now }
+    ensures { result ≡ body_call (number_of kind) body.now }
 {
-    if kind == 3 {
-        return mmap_body(bytes);
-    }
-    let first = packed::word_at(bytes, 1);
-    match kind {
-        1 => Next::Read(Call::Vmalloc(first)),
-        2 => Next::Read(Call::Vfree(first)),
-        4 => Next::Read(Call::Munmap(MunmapCall {
+    let first = packed::word_at(body, 0);
+    let call = match kind {
+        Kind::Vmalloc => Call::Vmalloc(first),
+        Kind::Vfree => Call::Vfree(first),
+        Kind::Mmap => return read_mmap(body),
+        Kind::Munmap => Call::Munmap(MunmapCall {
             addr: first,
-            size: packed::word_at(bytes, 9),
-        })),
-        5 => Next::Read(Call::Fault(FaultCall {
+            size: packed::word_at(body, 8),
+        }),
+        Kind::Fault => Call::Fault(FaultCall {
             addr: first,
-            code: packed::word_at(bytes, 9),
-        })),
-        _ => Next::Read(Call::Translate(first)),
-    }
+            code: packed::word_at(body, 8),
+        }),
+        Kind::Translate => Call::Translate(first),
+    };
+    Ok(Some(call))
 }
 
-// What stands at the start of the bytes that are left.
-pub fn read_call(bytes: &[u8]) -> Next
+// What stands at the start of the bytes that are left: a call, or nothing at the tape's end.
+pub fn read_call(bytes: &[u8]) -> Result<Option<Call>, Malformed>
     ensures { result ≡ next bytes.now }
 {
-    if bytes.len() == 0 {
-        return Next::Finished;
+    let Some((first, body)) = bytes.split_first() else {
+        return Ok(None);
+    };
+    let kind = Kind::try_from(*first)?;
+    if body.len() < kind.body_size() {
+        return Err(Malformed);
     }
-    let kind = bytes[0];
-    let size = body_size(kind);
-    if size == 0 {
-        return Next::Malformed;
-    }
-    if bytes.len() < size + 1 {
-        return Next::Malformed;
-    }
-    read_body(kind, bytes)
-}
-
-// The bytes of a call, its kind byte among them.
-pub fn call_size(call: Call) -> usize
-    ensures { result ≡ call_size call }
-{
-    match call {
-        Call::Vmalloc(_) => 9,
-        Call::Vfree(_) => 9,
-        Call::Mmap(_) => 26,
-        Call::Munmap(_) => 17,
-        Call::Fault(_) => 17,
-        Call::Translate(_) => 9,
-    }
+    read_body(kind, body)
 }

@@ -1,74 +1,116 @@
-// The key's lines, put into a buffer from a place on; each function answers the place behind what it put.
-ghost use Rattle.std.specs.Prelude.{◌≡◌, [], ◌∷◌, ◌++◌, ◌+◌, ◌≤◌, length, take};
+// The key's lines, put behind one another into a text of fixed room.
+ghost use Rattle.std.specs.Prelude.{◌≡◌, ℕ, [], ◌∷◌, ◌++◌, ◌+◌, ◌≤◌, length};
 ghost use Rattle.io.specs.Digits.{last_digits};
-ghost use Rattle.tape.specs.Text.{decimal as decimal_text, line_text, count_text};
+ghost use Rattle.tape.specs.Kinds.{number_of};
+ghost use Rattle.tape.specs.Text.{decimal, line_text, count_text};
 
+use crate::Kind;
 use answer::Line;
+use std::marker::Model;
 
-// A text.
-fn put(out: &mut [u8], at: usize, text: &[u8]) -> usize
-    requires { at + length text.now ≤ length out.old }
-    ensures out_after { take result out.new ≡ take at out.old ++ text.now }
-    ensures value { result ≡ at + length text.now }
-{
-    for i in 0..text.len() {
-        out[at + i] = text[i];
+// A text of at most N bytes; contracts see what is put.
+#[derive(Drop)]
+pub struct Text<const N: usize> {
+    bytes: [u8; N],
+    len: usize,
+}
+
+impl<const N: usize> Model for Text<N> {
+    ghost use Rattle.std.specs.Prelude.{◌≤◌, ℕ, List, take};
+
+    ghost Value = { List ℕ };
+
+    ghost view = { λ t. take t.len t.bytes };
+
+    ghost invariant = { λ t. t.len ≤ N };
+}
+
+impl<const N: usize> Text<N> {
+    pub fn new() -> Self
+        ensures { result ≡ [] }
+    {
+        Text {
+            bytes: [0; N],
+            len: 0,
+        }
     }
-    at + text.len()
-}
 
-fn put_byte(out: &mut [u8], at: usize, b: u8) -> usize
-    requires { at + 1 ≤ length out.old }
-    ensures out_after { take result out.new ≡ take at out.old ++ (b ∷ []) }
-    ensures value { result ≡ at + 1 }
-{
-    out[at] = b;
-    at + 1
-}
+    pub fn as_slice(&self) -> &[u8]
+        ensures value { result.now ≡ self.now }
+        ensures fits { length result.now ≤ N }
+    {
+        &self.bytes[..self.len]
+    }
 
-fn put_decimal(out: &mut [u8], at: usize, n: u64) -> usize
-    requires { at + 20 ≤ length out.old }
-    ensures out_after { take result out.new ≡ take at out.old ++ decimal_text n }
-    ensures upper_bound { result ≤ at + 20 }
-{
-    let mut text = [0u8; 20];
-    let k = io::decimal(n, &mut text);
-    put(out, at, &text[..k])
-}
+    pub fn clear(&mut self)
+        ensures { self.new ≡ [] }
+    {
+        self.len = 0;
+    }
 
-fn put_hex(out: &mut [u8], at: usize, n: u64) -> usize
-    requires { at + 16 ≤ length out.old }
-    ensures out_after { take result out.new ≡ take at out.old ++ last_digits 16 16 n }
-    ensures value { result ≡ at + 16 }
-{
-    let mut text = [0u8; 16];
-    let k = io::hex(n, 16, &mut text);
-    put(out, at, &text[..k])
-}
+    fn put(&mut self, text: &[u8])
+        requires { length self.old + length text.now ≤ N }
+        ensures { self.new ≡ self.old ++ text.now }
+    {
+        let start = self.len;
+        let end = start + text.len();
+        let bytes = &mut self.bytes[..];
+        bytes[start..end].copy_from_slice(text);
+        self.len = end;
+    }
 
-// The line of a call.
-pub fn put_line(out: &mut [u8], at: usize, kind: u64, line: Line) -> usize
-    requires { at + 64 ≤ length out.old }
-    ensures out_after { take result out.new ≡ take at out.old ++ line_text kind line }
-    ensures upper_bound { result ≤ at + 64 }
-{
-    let a = put_decimal(out, at, kind);
-    let b = put_byte(out, a, b' ');
-    let c = put_decimal(out, b, line.number);
-    let d = put_byte(out, c, b' ');
-    let e = put_hex(out, d, line.value);
-    put_byte(out, e, b'\n')
-}
+    fn put_byte(&mut self, b: u8)
+        requires { length self.old + 1 ≤ N }
+        ensures { self.new ≡ self.old ++ (b ∷ []) }
+    {
+        self.bytes[self.len] = b;
+        self.len += 1;
+    }
 
-// A word of at most 20 letters and a number.
-pub fn put_count(out: &mut [u8], at: usize, word: &[u8], n: u64) -> usize
-    requires at_in_bounds { at + 64 ≤ length out.old }
-    requires word_len_bound { length word.now ≤ 20 }
-    ensures out_after { take result out.new ≡ take at out.old ++ count_text word.now n }
-    ensures upper_bound { result ≤ at + 64 }
-{
-    let a = put(out, at, word);
-    let b = put_byte(out, a, b' ');
-    let c = put_decimal(out, b, n);
-    put_byte(out, c, b'\n')
+    fn put_decimal(&mut self, n: u64)
+        requires { length self.old + 20 ≤ N }
+        ensures text { self.new ≡ self.old ++ decimal n }
+        ensures upper_bound { length self.new ≤ length self.old + 20 }
+    {
+        let mut text = [0; 20];
+        let k = io::decimal(n, &mut text);
+        self.put(&text[..k]);
+    }
+
+    fn put_hex(&mut self, n: u64)
+        requires { length self.old + 16 ≤ N }
+        ensures text { self.new ≡ self.old ++ last_digits 16 16 n }
+        ensures upper_bound { length self.new ≤ length self.old + 16 }
+    {
+        let mut text = [0; 16];
+        let k = io::hex(n, 16, &mut text);
+        self.put(&text[..k]);
+    }
+
+    // The line of a call.
+    pub fn put_line(&mut self, kind: Kind, line: Line)
+        requires { length self.old + 64 ≤ N }
+        ensures text { self.new ≡ self.old ++ line_text (number_of kind) line }
+        ensures upper_bound { length self.new ≤ length self.old + 64 }
+    {
+        self.put_decimal(u64::from(kind.number()));
+        self.put_byte(b' ');
+        self.put_decimal(line.number);
+        self.put_byte(b' ');
+        self.put_hex(line.value);
+        self.put_byte(b'\n');
+    }
+
+    // A word of at most 20 letters and a number.
+    pub fn put_count(&mut self, word: &[u8], n: u64)
+        requires room { length self.old + 64 ≤ N }
+        requires word_len_bound { length word.now ≤ 20 }
+        ensures text { self.new ≡ self.old ++ count_text word.now n }
+        ensures upper_bound { length self.new ≤ length self.old + 64 }
+    {
+        self.put(word);
+        self.put_byte(b' ');
+        self.put_decimal(n);
+        self.put_byte(b'\n');
+    }
 }

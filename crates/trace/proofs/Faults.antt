@@ -5,17 +5,17 @@ use mathlib.Core.Bool.{Bool, true, false}
 use mathlib.Core.List.{List}
 use native.Mathlib.Omega.{arith}
 use lib.ListN.{get_or, set, take}
+use Rattle.std.specs.Prelude.{Ok, Err, Result}
+use Rattle.answer.specs.declared.Refusal.{Refusal}
+use Rattle.address.specs.declared.Frame.{Frame}
 use Rattle.bits.specs.Bit.{both}
 use Rattle.bits.proofs.Choice.{pick_cases}
-use Rattle.address.specs.declared.FrameAnswer.{FrameAnswer}
 use Rattle.entry.specs.Entry.{indices}
 use Rattle.entry.proofs.Entry.{indices_lt}
 use Rattle.frame.specs.Frames.{inside}
 use Rattle.frame.specs.Frames.{FramesDid}
 use Rattle.frame.proofs.Laws.{inside_under, take_cases}
 use Rattle.frame.proofs.Steps.{span_with}
-use Rattle.answer.specs.declared.Outcome.{Outcome}
-use Rattle.answer.specs.declared.Outcome.TheVariants.{Value, Stop}
 use Rattle.paging.specs.Walk.{place}
 use Rattle.paging.specs.Map.{Memory, start_frame, total_of, Out, make, Left, with_words}
 use Rattle.paging.specs.Calls.{whole}
@@ -39,7 +39,7 @@ stays_inside s f h = rw (s.start, s.total) h
 stays_raw : (m : Memory) → Stays m (raw_frame m).mem
 unfolding raw_frame
 stays_raw m =
-    take_cases m.frames (λ (d : FramesDid FrameAnswer). Stays m (as_taken m d.answer d.frames).mem)
+    take_cases m.frames (λ (d : FramesDid (Result Frame Refusal)). Stays m (as_taken m d.answer d.frames).mem)
     (λ j _ _ _. record { start = (span_with m.frames j).start; total = (span_with m.frames j).total; levels = (span_with m.frames j).levels; words = past_same _ m.words })
     (λ _. stays_same m)
 
@@ -62,16 +62,16 @@ stays_demand up m root v code =
     (λ _. stays_on m (raw_frame m) _ (stays_raw m) (λ f _. stays_map_frame up (raw_frame m).mem root v f (is_write code) (is_user code))))
     (λ _. stays_same m)
 
-stays_cleared_if : (w : Outcome) (up : ℕ) (m : Memory) (root v : ℕ) → Stays m (cleared_if w up m root v)
-stays_cleared_if (Value a) up m root v = stays_clear_page up m root v
-stays_cleared_if (Stop n) up m root v = stays_same m
+stays_cleared_if : (w : Result ℕ Refusal) (up : ℕ) (m : Memory) (root v : ℕ) → Stays m (cleared_if w up m root v)
+stays_cleared_if (Ok a) up m root v = stays_clear_page up m root v
+stays_cleared_if (Err n) up m root v = stays_same m
 
 module _ (f : ℕ) where
-  stays_copied : (m : Memory) (w : Outcome) → inside (start_frame m) (total_of m) f ≡ true → Stays m (copied m w f).mem
-  stays_copied m (Value a) h =
+  stays_copied : (m : Memory) (w : Result ℕ Refusal) → inside (start_frame m) (total_of m) f ≡ true → Stays m (copied m w f).mem
+  stays_copied m (Ok a) h =
       pick_cases (λ (o : Out). Stays m o.mem) (inside (start_frame m) (total_of m) (a / 4096)) _ _
       (λ _. stays_words m _ (past_copy (total_of m * 512) 512 m.words _ (place (start_frame m) f 0) (omega (arith, inside_under (start_frame m) (total_of m) f h)))) (λ _. stays_same m)
-  stays_copied m (Stop n) h = stays_same m
+  stays_copied m (Err n) h = stays_same m
 
   stays_copy_page : (up : ℕ) (m : Memory) (root v : ℕ) → inside (start_frame m) (total_of m) f ≡ true → Stays m (copy_page up m root v f).mem
   unfolding copy_page

@@ -4,15 +4,15 @@ use mathlib.Core.Path.{◌≡◌, refl, sym, ◌∙◌, ap, subst}
 use mathlib.Core.Bool.{Bool, true, false, true≢false, false≢true}
 use native.Mathlib.Omega.{arith}
 use lib.Dec.{eqb, leb}
+use Rattle.std.specs.Prelude.{Ok, Err, Result}
+use Rattle.answer.specs.declared.Refusal.{Refusal}
+use Rattle.answer.specs.declared.Refusal.TheVariants.{SizeZero, Unaligned, TooLarge, ReservedBit, BrokenRecord, RegionNotFound, WriteToReadOnly}
 use Rattle.bits.specs.Bit.{pick, unless}
 use Rattle.allocator.specs.Round.{rounded, round_up, last_page}
-use Rattle.answer.specs.Numbers.{broken_record, size_zero, unaligned, too_large, region_not_found, reserved_bit, write_to_read_only, answer_line}
+use Rattle.answer.specs.Numbers.{answer_line}
 use Rattle.answer.specs.Outcomes.{and_then, as_answer}
 use Rattle.answer.specs.declared.Line.{Line}
-use Rattle.answer.specs.declared.Outcome.{Outcome}
-use Rattle.answer.specs.declared.Outcome.TheVariants.{Value, Stop}
 use Rattle.frame.specs.declared.Found.{Found}
-use Rattle.frame.specs.declared.FoundAnswer.{FoundAnswer}
 use Rattle.frame.specs.declared.Tally.{Tally}
 use Rattle.frame.specs.Frames.{FramesDid, sound, frame_marked, give_frame}
 use Rattle.frame.specs.Found.{found_value, found_line, none_found, all_found}
@@ -79,11 +79,11 @@ module _ (b : Board) (n : ℕ) where
         same = λ no. absurd (no refl);
       })
 
-  abbrev printed : FramesDid FoundAnswer → Played
+  abbrev printed : FramesDid (Result Found Refusal) → Played
   printed d = played (found_line d.answer) (with_frames b d.frames)
 
   one_of_three : sound b.mem.frames ≡ true → OneOfThree b n (play b (deallocate_call n))
-  one_of_three s = subst (λ (d : FramesDid FoundAnswer). OneOfThree b n (printed d)) (sym (deallocate_whole b.mem.frames n s)) given_told
+  one_of_three s = subst (λ (d : FramesDid (Result Found Refusal)). OneOfThree b n (printed d)) (sym (deallocate_whole b.mem.frames n s)) given_told
 
   none_of_three : sound b.mem.frames ≡ false → play b (deallocate_call n) ≡ played ten_line b
   none_of_three s = ap printed (deallocate_broken b.mem.frames n s)
@@ -104,58 +104,58 @@ pages_told b left a n {t} found freed =
 
 -- a vfree by its tests: whether the record is sound, whether the address is null, and the size of the used region there
 module _ (up : ℕ) (k : Kernel) (root a : ℕ) where
-  abbrev vfree_by : Bool → Bool → Outcome → KernelDid
-  vfree_by s z w = unless s (kernel_did (Stop broken_record) k) (pick z (kernel_did (Stop region_not_found) k) (released up k root a w))
+  abbrev vfree_by : Bool → Bool → Result ℕ Refusal → KernelDid
+  vfree_by s z w = unless s (kernel_did (Err BrokenRecord) k) (pick z (kernel_did (Err RegionNotFound) k) (released up k root a w))
 
-  abbrev vfree_found_by : Bool → Bool → Outcome → Tally
+  abbrev vfree_found_by : Bool → Bool → Result ℕ Refusal → Tally
   vfree_found_by s z w = unless s none_found (pick z none_found (released_found up k root a w))
 
   -- met
-  record VfreeFinds (d : KernelDid) (t : Tally) (w : Outcome) : Type 0 where
+  record VfreeFinds (d : KernelDid) (t : Tally) (w : Result ℕ Refusal) : Type 0 where
     size : ℕ
-    used : w ≡ Value size
+    used : w ≡ Ok size
     found : t ≡ pages_found up k.mem root a (size / 4096)
     freed : d.kernel.mem ≡ free_pages up k.mem root a (size / 4096)
 
-  vfree_finds_lem : (x : ℕ) → (vfree up k root a).answer ≡ Value x → VfreeFinds (vfree up k root a) (vfree_found up k root a) (used_size a (listed k.regions))
+  vfree_finds_lem : (x : ℕ) → (vfree up k root a).answer ≡ Ok x → VfreeFinds (vfree up k root a) (vfree_found up k root a) (used_size a (listed k.regions))
   unfolding vfree vfree_found
   vfree_finds_lem x = by (sound_kernel k root) (eqb a 0) (used_size a (listed k.regions))
     where
-      by : (s z : Bool) (w : Outcome) → (vfree_by s z w).answer ≡ Value x → VfreeFinds (vfree_by s z w) (vfree_found_by s z w) w
-      by true false (Value n) h = record { size = n; used = refl; found = refl; freed = refl }
-      by true false (Stop e) h = absurd (no_value (sym h))
+      by : (s z : Bool) (w : Result ℕ Refusal) → (vfree_by s z w).answer ≡ Ok x → VfreeFinds (vfree_by s z w) (vfree_found_by s z w) w
+      by true false (Ok n) h = record { size = n; used = refl; found = refl; freed = refl }
+      by true false (Err e) h = absurd (no_value (sym h))
       by true true w h = absurd (no_value (sym h))
       by false z w h = absurd (no_value (sym h))
 
-  vfree_none : (e : ℕ) → (vfree up k root a).answer ≡ Stop e → vfree_found up k root a ≡ none_found
+  vfree_none : (e : Refusal) → (vfree up k root a).answer ≡ Err e → vfree_found up k root a ≡ none_found
   unfolding vfree vfree_found
   vfree_none e = by (sound_kernel k root) (eqb a 0) (used_size a (listed k.regions))
     where
-      by : (s z : Bool) (w : Outcome) → (vfree_by s z w).answer ≡ Stop e → vfree_found_by s z w ≡ none_found
-      by true false (Value n) h = absurd (no_value h)
-      by true false (Stop e) h = refl
+      by : (s z : Bool) (w : Result ℕ Refusal) → (vfree_by s z w).answer ≡ Err e → vfree_found_by s z w ≡ none_found
+      by true false (Ok n) h = absurd (no_value h)
+      by true false (Err e) h = refl
       by true true w h = refl
       by false z w h = refl
 
 -- a munmap by its tests: whether the record is sound, the size 0, the address aligned, the rounded size, and whether a region has both
 module _ (up : ℕ) (s : User) (root a size : ℕ) where
-  abbrev munmap_by : Bool → Bool → Bool → Outcome → UserDid
+  abbrev munmap_by : Bool → Bool → Bool → Result ℕ Refusal → UserDid
   munmap_by t z o w =
-      unless t (user_did (Stop broken_record) s) (pick z (user_did (Stop size_zero) s) (unless o (user_did (Stop unaligned) s) (unmapped up s root a w)))
+      unless t (user_did (Err BrokenRecord) s) (pick z (user_did (Err SizeZero) s) (unless o (user_did (Err Unaligned) s) (unmapped up s root a w)))
 
-  abbrev munmap_found_by : Bool → Bool → Bool → Outcome → Tally
+  abbrev munmap_found_by : Bool → Bool → Bool → Result ℕ Refusal → Tally
   munmap_found_by t z o w = unless t none_found (pick z none_found (unless o none_found (unmapped_found up s root a w)))
 
   record MunmapFinds (d : UserDid) (t : Tally) : Type 0 where
     found : t ≡ pages_found up s.mem root a (page_count size)
     freed : d.user.mem ≡ free_pages up s.mem root a (page_count size)
 
-  munmap_finds_lem : (x : ℕ) → (munmap up s root a size).answer ≡ Value x → MunmapFinds (munmap up s root a size) (munmap_found up s root a size)
+  munmap_finds_lem : (x : ℕ) → (munmap up s root a size).answer ≡ Ok x → MunmapFinds (munmap up s root a size) (munmap_found up s root a size)
   unfolding munmap munmap_found rounded
   munmap_finds_lem x = by (sound_user s root) (eqb size 0) (on_page a) (leb size last_page) (holds a (round_up 12 size) (listed s.regions)) refl
     where
-      by : (t z o l h : Bool) → holds a (round_up 12 size) (listed s.regions) ≡ h → let w = pick l (Value (round_up 12 size)) (Stop too_large) in
-          (munmap_by t z o w).answer ≡ Value x → MunmapFinds (munmap_by t z o w) (munmap_found_by t z o w)
+      by : (t z o l h : Bool) → holds a (round_up 12 size) (listed s.regions) ≡ h → let w = pick l (Ok (round_up 12 size)) (Err TooLarge) in
+          (munmap_by t z o w).answer ≡ Ok x → MunmapFinds (munmap_by t z o w) (munmap_found_by t z o w)
       by true false true true true e g = rw e (record { found = refl; freed = refl })
       by true false true true false e g = absurd (no_value (sym (rw e at g)))
       by true false true false h e g = absurd (no_value (sym g))
@@ -163,17 +163,17 @@ module _ (up : ℕ) (s : User) (root a size : ℕ) where
       by true true o l h e g = absurd (no_value (sym g))
       by false z o l h e g = absurd (no_value (sym g))
 
-  munmap_none : (e : ℕ) → (munmap up s root a size).answer ≡ Stop e → munmap_found up s root a size ≡ none_found
+  munmap_none : (e : Refusal) → (munmap up s root a size).answer ≡ Err e → munmap_found up s root a size ≡ none_found
   unfolding munmap munmap_found
   munmap_none e = by (sound_user s root) (eqb size 0) (on_page a) (rounded size)
     where
-      held : (n : ℕ) (h : Bool) → holds a n (listed s.regions) ≡ h → (unmap_region up s root a n).answer ≡ Stop e → region_found up s root a n ≡ none_found
+      held : (n : ℕ) (h : Bool) → holds a n (listed s.regions) ≡ h → (unmap_region up s root a n).answer ≡ Err e → region_found up s root a n ≡ none_found
       held n true f = rw f (λ h. absurd (no_value h))
       held n false f = rw f (λ _. refl)
 
-      by : (t z o : Bool) (w : Outcome) → (munmap_by t z o w).answer ≡ Stop e → munmap_found_by t z o w ≡ none_found
-      by true false true (Value n) h = held n (holds a n (listed s.regions)) refl h
-      by true false true (Stop f) h = refl
+      by : (t z o : Bool) (w : Result ℕ Refusal) → (munmap_by t z o w).answer ≡ Err e → munmap_found_by t z o w ≡ none_found
+      by true false true (Ok n) h = held n (holds a n (listed s.regions)) refl h
+      by true false true (Err f) h = refl
       by true false false w h = refl
       by true true o w h = refl
       by false z o w h = refl
@@ -190,17 +190,17 @@ module _ (up : ℕ) (m : Memory) (root v : ℕ) where
   unfolding unmapped_of
   page_most = by (unmap_leaf up m root v).walked
     where
-      by : (w : Outcome) → and_then w (λ _. 0) (λ _. 1) + 0 ≤ 1
-      by (Value f) = omega arith
-      by (Stop n) = omega arith
+      by : (w : Result ℕ Refusal) → and_then w (λ _. 0) (λ _. 1) + 0 ≤ 1
+      by (Ok f) = omega arith
+      by (Err n) = omega arith
 
 module _ (up root v : ℕ) (user : Bool) where
-  module _ (m : Memory) (f : ℕ) (m₁ : Memory) (takes : raw_frame m ≡ out (Value f) m₁) (x : ℕ) where
+  module _ (m : Memory) (f : ℕ) (m₁ : Memory) (takes : raw_frame m ≡ out (Ok f) m₁) (x : ℕ) where
     -- remapped, with the page copied
-    told-remap : (y : ℕ) (m₂ : Memory) → copy_page up m₁ root v f ≡ out (Value y) m₂ → (remapped up m₂ root v f user).walked ≡ Value x
+    told-remap : (y : ℕ) (m₂ : Memory) → copy_page up m₁ root v f ≡ out (Ok y) m₂ → (remapped up m₂ root v f user).walked ≡ Ok x
         → CopyTold up root v user m (remapped up m₂ root v f user).mem (remap_found up m₂ root v f user)
     told-remap y m₂ copies met =
-        let one : remap_found up m₂ root v f user ≡ page_found up m₂ root v = ap (λ (w : Outcome). and_then w (λ _. none_found) (λ _. page_found up m₂ root v)) met in
+        let one : remap_found up m₂ root v f user ≡ page_found up m₂ root v = ap (λ (w : Result ℕ Refusal). and_then w (λ _. none_found) (λ _. page_found up m₂ root v)) met in
         let sum = ap all_found one ∙ page_sum up m₂ root v in
         record {
           frame = f;
@@ -216,47 +216,47 @@ module _ (up root v : ℕ) (user : Bool) where
         }
 
     -- copied, with the frame in hand
-    told-copy : (copy_to up m₁ root v f user).walked ≡ Value x → CopyTold up root v user m (copy_to up m₁ root v f user).mem (copy_to_found up m₁ root v f user)
+    told-copy : (copy_to up m₁ root v f user).walked ≡ Ok x → CopyTold up root v user m (copy_to up m₁ root v f user).mem (copy_to_found up m₁ root v f user)
     told-copy = by (copy_page up m₁ root v f).walked refl
       where
         m₂ : Memory
         m₂ = (copy_page up m₁ root v f).mem
 
-        by : (w : Outcome) → (copy_page up m₁ root v f).walked ≡ w → let o = go_on (out w m₂) (λ _ m'. remapped up m' root v f user) in
-            o.walked ≡ Value x → CopyTold up root v user m o.mem (and_then w (λ _. none_found) (λ _. remap_found up m₂ root v f user))
-        by (Value y) e h = told-remap y m₂ (λ i. out (e i) m₂) h
-        by (Stop n) e h = absurd (no_value (sym h))
+        by : (w : Result ℕ Refusal) → (copy_page up m₁ root v f).walked ≡ w → let o = go_on (out w m₂) (λ _ m'. remapped up m' root v f user) in
+            o.walked ≡ Ok x → CopyTold up root v user m o.mem (and_then w (λ _. none_found) (λ _. remap_found up m₂ root v f user))
+        by (Ok y) e h = told-remap y m₂ (λ i. out (e i) m₂) h
+        by (Err n) e h = absurd (no_value (sym h))
 
   copy_told : (m : Memory) (x : ℕ) → let o = copy_on_write up m root v user in
-      o.walked ≡ Value x → CopyTold up root v user m o.mem (copy_found up m root v user)
+      o.walked ≡ Ok x → CopyTold up root v user m o.mem (copy_found up m root v user)
   unfolding copy_on_write copy_found
   copy_told m x = by (raw_frame m).walked refl
     where
       m₁ : Memory
       m₁ = (raw_frame m).mem
 
-      by : (w : Outcome) → (raw_frame m).walked ≡ w → let o = go_on (out w m₁) (λ f m'. copy_to up m' root v f user) in
-          o.walked ≡ Value x → CopyTold up root v user m o.mem (and_then w (λ _. none_found) (λ f. copy_to_found up m₁ root v f user))
-      by (Value f) e h = told-copy m f m₁ (λ i. out (e i) m₁) x h
-      by (Stop n) e h = absurd (no_value (sym h))
+      by : (w : Result ℕ Refusal) → (raw_frame m).walked ≡ w → let o = go_on (out w m₁) (λ f m'. copy_to up m' root v f user) in
+          o.walked ≡ Ok x → CopyTold up root v user m o.mem (and_then w (λ _. none_found) (λ f. copy_to_found up m₁ root v f user))
+      by (Ok f) e h = told-copy m f m₁ (λ i. out (e i) m₁) x h
+      by (Err n) e h = absurd (no_value (sym h))
 
   -- refused at any step
-  copy_refused : (m : Memory) (e : ℕ) → (copy_on_write up m root v user).walked ≡ Stop e → copy_found up m root v user ≡ none_found
+  copy_refused : (m : Memory) (e : Refusal) → (copy_on_write up m root v user).walked ≡ Err e → copy_found up m root v user ≡ none_found
   unfolding copy_on_write copy_found
   copy_refused m e = by (raw_frame m).walked (raw_frame m).mem
     where
-      last : (w : Outcome) (t : Tally) → w ≡ Stop e → and_then w (λ _. none_found) (λ _. t) ≡ none_found
+      last : (w : Result ℕ Refusal) (t : Tally) → w ≡ Err e → and_then w (λ _. none_found) (λ _. t) ≡ none_found
       last w t h = rw h
 
-      next : (f : ℕ) (w : Outcome) (m₂ : Memory) → (go_on (out w m₂) (λ _ m'. remapped up m' root v f user)).walked ≡ Stop e
+      next : (f : ℕ) (w : Result ℕ Refusal) (m₂ : Memory) → (go_on (out w m₂) (λ _ m'. remapped up m' root v f user)).walked ≡ Err e
           → and_then w (λ _. none_found) (λ _. remap_found up m₂ root v f user) ≡ none_found
-      next f (Value y) m₂ h = last (remapped up m₂ root v f user).walked (page_found up m₂ root v) h
-      next f (Stop n) m₂ h = refl
+      next f (Ok y) m₂ h = last (remapped up m₂ root v f user).walked (page_found up m₂ root v) h
+      next f (Err n) m₂ h = refl
 
-      by : (w : Outcome) (m₁ : Memory) → (go_on (out w m₁) (λ f m'. copy_to up m' root v f user)).walked ≡ Stop e
+      by : (w : Result ℕ Refusal) (m₁ : Memory) → (go_on (out w m₁) (λ f m'. copy_to up m' root v f user)).walked ≡ Err e
           → and_then w (λ _. none_found) (λ f. copy_to_found up m₁ root v f user) ≡ none_found
-      by (Value f) m₁ h = next f (copy_page up m₁ root v f).walked (copy_page up m₁ root v f).mem h
-      by (Stop n) m₁ h = refl
+      by (Ok f) m₁ h = next f (copy_page up m₁ root v f).walked (copy_page up m₁ root v f).mem h
+      by (Err n) m₁ h = refl
 
 -- ---- the first fault path
 
@@ -270,21 +270,21 @@ module _ (up : ℕ) (s : Faulting) (root a code : ℕ) where
 
   abbrev fault_by : Bool → Bool → Bool → Bool → Bool → FaultDid
   fault_by t r p w k =
-      unless t (fault_did (Stop broken_record) s)
-      (pick r (fault_did (Stop reserved_bit) s)
-      (pick p (pick w (unless k (fault_did (Stop write_to_read_only) s) (unmarking v s.marked copies)) (fault_did (Stop (denied code)) s))
+      unless t (fault_did (Err BrokenRecord) s)
+      (pick r (fault_did (Err ReservedBit) s)
+      (pick p (pick w (unless k (fault_did (Err WriteToReadOnly) s) (unmarking v s.marked copies)) (fault_did (Err (denied code)) s))
       (of_step s.marked (demand_page up s.mem root v code))))
 
   abbrev fault_found_by : Bool → Bool → Bool → Bool → Bool → Tally
   fault_found_by t r p w k =
       unless t none_found (pick r none_found (pick p (pick w (unless k none_found (copy_found up s.mem root v (is_user code))) none_found) none_found))
 
-  fault_copy : (x : ℕ) → is_present code ≡ true → (handle_fault up s root a code).answer ≡ Value x
+  fault_copy : (x : ℕ) → is_present code ≡ true → (handle_fault up s root a code).answer ≡ Ok x
       → CopyTold up root v (is_user code) s.mem (handle_fault up s root a code).state.mem (fault_found up s root a code)
   unfolding handle_fault fault_found
   fault_copy x = by (sound_faulting s root) (is_reserved code) (is_present code) (is_write code) (has_key page_key v (listed s.marked))
     where
-      by : (t r p w k : Bool) → p ≡ true → (fault_by t r p w k).answer ≡ Value x
+      by : (t r p w k : Bool) → p ≡ true → (fault_by t r p w k).answer ≡ Ok x
           → CopyTold up root v (is_user code) s.mem (fault_by t r p w k).state.mem (fault_found_by t r p w k)
       by true false true true true _ h = copy_told up root v (is_user code) s.mem x h
       by true false true true false _ h = absurd (no_value (sym h))
@@ -303,11 +303,11 @@ module _ (up : ℕ) (s : Faulting) (root a code : ℕ) where
       by true true p w k e = refl
       by false r p w k e = refl
 
-  fault_none : (e : ℕ) → (handle_fault up s root a code).answer ≡ Stop e → fault_found up s root a code ≡ none_found
+  fault_none : (e : Refusal) → (handle_fault up s root a code).answer ≡ Err e → fault_found up s root a code ≡ none_found
   unfolding handle_fault fault_found
   fault_none e = by (sound_faulting s root) (is_reserved code) (is_present code) (is_write code) (has_key page_key v (listed s.marked))
     where
-      by : (t r p w k : Bool) → (fault_by t r p w k).answer ≡ Stop e → fault_found_by t r p w k ≡ none_found
+      by : (t r p w k : Bool) → (fault_by t r p w k).answer ≡ Err e → fault_found_by t r p w k ≡ none_found
       by true false true true true h = copy_refused up root v (is_user code) s.mem e h
       by true false true true false h = refl
       by true false true false k h = refl
@@ -318,9 +318,9 @@ module _ (up : ℕ) (s : Faulting) (root a code : ℕ) where
 -- ---- the theorem
 
 -- a call that answers no value prints 0
-no_value_printed : (w : Outcome) → (answer_line (as_answer w)).value ≡ 0
-no_value_printed (Value x) = refl
-no_value_printed (Stop n) = refl
+no_value_printed : (w : Result ℕ Refusal) → (answer_line (as_answer w)).value ≡ 0
+no_value_printed (Ok x) = refl
+no_value_printed (Err n) = refl
 
 pub found_tells : FoundTells
 unfolding play_regions

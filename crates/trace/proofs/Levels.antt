@@ -4,11 +4,13 @@ use mathlib.Core.Path.{◌≡◌, refl, sym, ◌∙◌, ap}
 use mathlib.Core.Bool.{Bool, true, false, true≢false}
 use native.Mathlib.Omega.{arith}
 use lib.ListN.{length}
-use Rattle.answer.specs.Numbers.{broken_record, answer_line}
+use Rattle.std.specs.Prelude.{Result, ⊤}
+use Rattle.answer.specs.declared.Refusal.{Refusal}
+use Rattle.answer.specs.declared.Refusal.TheVariants.{BrokenRecord}
+use Rattle.address.specs.declared.Frame.{Frame}
+use Rattle.frame.specs.declared.Found.{Found}
+use Rattle.answer.specs.Numbers.{answer_line}
 use Rattle.answer.specs.Outcomes.{as_answer}
-use Rattle.answer.specs.declared.Answer.{Answer}
-use Rattle.address.specs.declared.FrameAnswer.{FrameAnswer}
-use Rattle.frame.specs.declared.FoundAnswer.{FoundAnswer}
 use Rattle.frame.specs.Frames.{Frames, FramesDid, is_levels, sound, allocate, deallocate, mark_allocated, is_allocated, counted}
 use Rattle.frame.proofs.Laws.{sound_levels, init_cases}
 use Rattle.frame.proofs.Steps.{span_take, span_give, span_mark, span_with}
@@ -95,15 +97,15 @@ other_levels b (start_call from to levels) r o = absurd (naming r)
 module _ (fr : Frames) where
   kept_allocate : (allocate fr).frames.fa.levels ≡ fr.fa.levels
   unfolding allocate
-  kept_allocate = pick_cases (λ (d : FramesDid FrameAnswer). d.frames.fa.levels ≡ fr.fa.levels) (sound fr) _ _ (λ _. (span_take fr).levels) (λ _. refl)
+  kept_allocate = pick_cases (λ (d : FramesDid (Result Frame Refusal)). d.frames.fa.levels ≡ fr.fa.levels) (sound fr) _ _ (λ _. (span_take fr).levels) (λ _. refl)
 
   kept_deallocate : (n : ℕ) → (deallocate fr n).frames.fa.levels ≡ fr.fa.levels
   unfolding deallocate
-  kept_deallocate n = pick_cases (λ (d : FramesDid FoundAnswer). d.frames.fa.levels ≡ fr.fa.levels) (sound fr) _ _ (λ _. (span_give fr n).levels) (λ _. refl)
+  kept_deallocate n = pick_cases (λ (d : FramesDid (Result Found Refusal)). d.frames.fa.levels ≡ fr.fa.levels) (sound fr) _ _ (λ _. (span_give fr n).levels) (λ _. refl)
 
   kept_mark : (n : ℕ) → (mark_allocated fr n).frames.fa.levels ≡ fr.fa.levels
   unfolding mark_allocated
-  kept_mark n = pick_cases (λ (d : FramesDid Answer). d.frames.fa.levels ≡ fr.fa.levels) (sound fr) _ _ (λ _. (span_mark fr n).levels) (λ _. refl)
+  kept_mark n = pick_cases (λ (d : FramesDid (Result ⊤ Refusal)). d.frames.fa.levels ≡ fr.fa.levels) (sound fr) _ _ (λ _. (span_mark fr n).levels) (λ _. refl)
 
 pub levels_kept : LevelsKept
 levels_kept b (region_call c) n = (stays_regions b c).levels
@@ -127,7 +129,7 @@ levels_kept b free_frames_call n = refl
 levels_kept b allocated_frames_call n = refl
 levels_kept b total_frames_call n = refl
 levels_kept b (init_call from to) n =
-    init_cases b.mem.frames from to (λ (d : FramesDid Answer). ((answer_line d.answer).number ≡ 0 → ⊥) → d.frames.fa.levels ≡ levels_of b.mem)
+    init_cases b.mem.frames from to (λ (d : FramesDid (Result ⊤ Refusal)). ((answer_line d.answer).number ≡ 0 → ⊥) → d.frames.fa.levels ≡ levels_of b.mem)
     (λ _ _ m. absurd (m refl)) (λ _. refl) (n refl)
 levels_kept b (start_call from to levels) n =
     start_cases b from to levels (λ (d : BoardDid). ((answer_line (as_answer d.answer)).number ≡ 0 → ⊥) → levels_of d.board.mem ≡ levels_of b.mem)
@@ -141,12 +143,12 @@ not_met l e = omega arith
 pub levels_named : LevelsNamed
 levels_named = record {
   by_init = λ b from to.
-      init_cases b.mem.frames from to (λ (d : FramesDid Answer). (answer_line d.answer).number ≡ 0 → d.frames.fa.levels ≡ 4) (λ _ _ _. refl)
+      init_cases b.mem.frames from to (λ (d : FramesDid (Result ⊤ Refusal)). (answer_line d.answer).number ≡ 0 → d.frames.fa.levels ≡ 4) (λ _ _ _. refl)
       (λ e. absurd (not_met (omega arith) e));
   by_start = λ b from to levels.
       start_cases b from to levels (λ (d : BoardDid). (answer_line (as_answer d.answer)).number ≡ 0 → (is_levels levels ≡ true) × (levels_of d.board.mem ≡ levels))
       (λ may _ _ _ _ _. (may, (span_with (unmarked from to levels) 0).levels)) (λ e. absurd (not_met (omega arith) e)) (λ e. absurd (not_met (omega arith) e));
-  other_start = λ b from to levels o. ap by_board (start_refused b from to levels broken_record (may_other (length b.mem.words) from to levels o));
+  other_start = λ b from to levels o. ap by_board (start_refused b from to levels BrokenRecord (may_other (length b.mem.words) from to levels o));
   some_start = λ b from to levels o h k l some.
       ap (λ (d : BoardDid). (by_board d).line.number) (start_met b from to levels (may_met (length b.mem.words) from to levels o h k l (λ e. absurd (not_met some e))));
 }

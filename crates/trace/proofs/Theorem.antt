@@ -7,16 +7,17 @@ use native.Mathlib.Omega.{arith}
 use lib.IntN.{ℤ}
 use lib.Dec.{eqb}
 use lib.ListN.{length}
+use Rattle.std.specs.Prelude.{Ok, Err, Result, Option}
+use Rattle.answer.specs.Numbers.{same_refusal}
+use Rattle.answer.specs.declared.Refusal.{Refusal}
+use Rattle.answer.specs.declared.Refusal.TheVariants.{MapPageFailed}
 use Rattle.bits.specs.Bit.{both}
 use Rattle.bits.proofs.Choice.{pick_cases}
-use Rattle.answer.specs.Numbers.{map_page_failed}
 use Rattle.address.specs.Address.{aligned}
 use Rattle.allocator.specs.Round.{round_up}
 use Rattle.entry.specs.Entry.{entry_of, huge_entry_of}
 use Rattle.entry.proofs.Entry.{indices_lt}
 use Rattle.frame.specs.Frames.{with_mark}
-use Rattle.answer.specs.declared.Outcome.{Outcome}
-use Rattle.answer.specs.declared.Outcome.TheVariants.{Value, Stop}
 use Rattle.paging.specs.declared.HugePageSize.{HugePageSize}
 use Rattle.paging.specs.Map.{Memory, total_of, start_frame, Out, Left}
 use Rattle.paging.specs.Calls.{whole, lent_walk, size_of, tables_above, map_page, map_huge, unmap_page}
@@ -24,7 +25,6 @@ use Rattle.paging.specs.Levels.{levels_of, above_last}
 use Rattle.paging.proofs.Past.{Past, past_same, past_clear, past_unmap, past_protect_pages, Stays, stays_same, stays_then, stays_words, stays_map_at, stays_map_pages, stays_clear_pages, stays_free_pages}
 use Rattle.vmalloc.specs.Calls.{Kernel, kernel_pages, vmalloc, vfree, KernelDid, kernel_mapped}
 use Rattle.vmalloc.proofs.Calls.{vmalloc_cases, vfree_cases}
-use Rattle.mmap.specs.declared.OptAddr.{OptAddr}
 use Rattle.user_space.specs.Flags.{writable}
 use Rattle.user_space.specs.User.{User, UserDid}
 use Rattle.mmap.specs.Calls.{user_pages, mmap, user_mapped}
@@ -68,16 +68,16 @@ stays_vmalloc up k root size =
     (λ _. stays_same k.mem) (stays_same k.mem) (stays_same k.mem) (λ _ _. stays_same k.mem)
     (λ _ _ _ a _. by a (kernel_pages up k.mem root a (round_up 12 size)).walked)
   where
-    by : (a : ℕ) (w : Outcome) → Stays k.mem (kernel_mapped a (round_up 12 size) k.regions w (kernel_pages up k.mem root a (round_up 12 size)).mem).kernel.mem
-    by a (Value x) = stays_map_pages up true false root (round_up 12 size / 4096) k.mem a 0
-    by a (Stop e) = stays_map_pages up true false root (round_up 12 size / 4096) k.mem a 0
+    by : (a : ℕ) (w : Result ℕ Refusal) → Stays k.mem (kernel_mapped a (round_up 12 size) k.regions w (kernel_pages up k.mem root a (round_up 12 size)).mem).kernel.mem
+    by a (Ok x) = stays_map_pages up true false root (round_up 12 size / 4096) k.mem a 0
+    by a (Err e) = stays_map_pages up true false root (round_up 12 size / 4096) k.mem a 0
 
 stays_vfree : (up : ℕ) (k : Kernel) (root a : ℕ) → Stays k.mem (vfree up k root a).kernel.mem
 stays_vfree up k root a =
     vfree_cases up k root a (λ (d : KernelDid). Stays k.mem d.kernel.mem)
     (λ _. stays_same k.mem) (λ _ _. stays_same k.mem) (λ _ _ n _. stays_free_pages up root (n / 4096) k.mem a)
 
-stays_mmap : (up : ℕ) (s : User) (root : ℕ) (hint : OptAddr) (size : ℕ) (prot flags : ℤ) → Stays s.mem (mmap up s root hint size prot flags).user.mem
+stays_mmap : (up : ℕ) (s : User) (root : ℕ) (hint : Option ℕ) (size : ℕ) (prot flags : ℤ) → Stays s.mem (mmap up s root hint size prot flags).user.mem
 stays_mmap up s root hint size prot flags =
     mmap_cases up s root hint size prot flags (λ (d : UserDid). Stays s.mem d.user.mem)
     (λ _. stays_same s.mem) (stays_same s.mem) (stays_same s.mem) (λ _ _. stays_same s.mem) (stays_same s.mem)
@@ -89,11 +89,11 @@ stays_mmap up s root hint size prot flags =
     run : (a : ℕ) → Stays s.mem (user_pages up s.mem root a (round_up 12 size) prot).mem
     run a = stays_map_pages up (writable prot) true root (round_up 12 size / 4096) s.mem a 0
 
-    by : (a : ℕ) (w : Outcome)
+    by : (a : ℕ) (w : Result ℕ Refusal)
         → Stays s.mem (user_mapped up s root a (round_up 12 size) prot flags w (done a) (user_pages up s.mem root a (round_up 12 size) prot).mem).user.mem
-    by a (Value x) = run a
-    by a (Stop e) =
-        pick_cases (λ (m : Memory). Stays s.mem m) (eqb e map_page_failed) _ _
+    by a (Ok x) = run a
+    by a (Err e) =
+        pick_cases (λ (m : Memory). Stays s.mem m) (same_refusal e MapPageFailed) _ _
         (λ _. stays_then (run a) (stays_clear_pages up root (done a) (user_pages up s.mem root a (round_up 12 size) prot).mem a)) (λ _. run a)
 
 stays_munmap : (up : ℕ) (s : User) (root a size : ℕ) → Stays s.mem (munmap up s root a size).user.mem

@@ -1,8 +1,8 @@
 -- Document 02, slip 5, 'Freeing says what it found', on every board, whatever its words hold: tables that are shared or lead back to themselves too.
+use Rattle.std.specs.Prelude.{Ok, Err, Result}
+use Rattle.answer.specs.declared.Refusal.{Refusal}
 use Rattle.std.specs.Prelude.{ℕ, ◌-◌, ◌/◌, ◌≤◌, ◌≡◌, Bool, true, false, ◌↔◌}
 use Rattle.answer.specs.declared.Line.{Line}
-use Rattle.answer.specs.declared.Outcome.{Outcome}
-use Rattle.answer.specs.declared.Outcome.TheVariants.{Value, Stop}
 use Rattle.frame.specs.declared.Tally.{Tally}
 use Rattle.frame.specs.Frames.{inside, sound, without_mark, frame_marked}
 use Rattle.frame.specs.Found.{none_found, all_found}
@@ -62,13 +62,13 @@ abbrev pub fault_finds : Board → ℕ → ℕ → Tally
 fault_finds b a code = fault_found_of (faulting b.mem b.marked) b.root a code
 
 -- what the three calls answer: a value where they are met
-abbrev pub vfree_answer : Board → ℕ → Outcome
+abbrev pub vfree_answer : Board → ℕ → Result ℕ Refusal
 vfree_answer b a = (play_regions b (vfree_call a)).answer
 
-abbrev pub munmap_answer : Board → ℕ → ℕ → Outcome
+abbrev pub munmap_answer : Board → ℕ → ℕ → Result ℕ Refusal
 munmap_answer b a size = (play_regions b (munmap_call a size)).answer
 
-abbrev pub fault_answer : Board → ℕ → ℕ → Outcome
+abbrev pub fault_answer : Board → ℕ → ℕ → Result ℕ Refusal
 fault_answer b a code = (handle_fault_of (faulting b.mem b.marked) b.root a code).answer
 
 -- n pages from a on, released by a met vfree or munmap with tally t: a board, and the one that is left
@@ -83,9 +83,9 @@ pub record CopyTold (up root v : ℕ) (user : Bool) (m left : Memory) (t : Tally
   -- the new frame, and then the copy through the temporary page, whose unmappings stand here: 'the temporary page aside'
   pub frame : ℕ
   pub taken : Memory
-  pub takes : raw_frame m ≡ out (Value frame) taken
+  pub takes : raw_frame m ≡ out (Ok frame) taken
   pub copied : Memory
-  pub copies : (x : ℕ) × (copy_page up taken root v frame ≡ out (Value x) copied)
+  pub copies : (x : ℕ) × (copy_page up taken root v frame ≡ out (Ok x) copied)
   -- 'its one, or none where the remapping unmapped no page'
   pub one : t ≡ page_found up copied root v
   pub most : all_found t ≤ 1
@@ -100,20 +100,20 @@ pub record FoundTells : Type 0 where
   pub deallocated : (b : Board) (n : ℕ) → sound b.mem.frames ≡ true → OneOfThree b n (play b (deallocate_call n))
   pub broken : (b : Board) (n : ℕ) → sound b.mem.frames ≡ false → play b (deallocate_call n) ≡ played ten_line b
   -- 'In a met call the three numbers add up to the pages that were unmapped': of a vfree, among the pages of its used region of n bytes
-  pub vfree : (b : Board) (a x : ℕ) → vfree_answer b a ≡ Value x
-      → (n : ℕ) × ((used_size a (listed b.kernel) ≡ Value n) × PagesTold b (play b (region_call (vfree_call a))).board a (n / 4096) (vfree_finds b a))
+  pub vfree : (b : Board) (a x : ℕ) → vfree_answer b a ≡ Ok x
+      → (n : ℕ) × ((used_size a (listed b.kernel) ≡ Ok n) × PagesTold b (play b (region_call (vfree_call a))).board a (n / 4096) (vfree_finds b a))
   -- .. of a munmap, among those of the rounded size
-  pub munmap : (b : Board) (a size x : ℕ) → munmap_answer b a size ≡ Value x
+  pub munmap : (b : Board) (a size x : ℕ) → munmap_answer b a size ≡ Ok x
       → PagesTold b (play b (region_call (munmap_call a size))).board a (page_count size) (munmap_finds b a size)
   -- .. and of a met fault at a page that is present, which is a copy
-  pub copy : (b : Board) (a code x : ℕ) → is_present code ≡ true → fault_answer b a code ≡ Value x
+  pub copy : (b : Board) (a code x : ℕ) → is_present code ≡ true → fault_answer b a code ≡ Ok x
       → CopyTold (above_last b.mem) b.root (page_of a) (is_user code) b.mem (play b (fault_call a code)).board.mem (fault_finds b a code)
   -- a page on demand frees nothing
   pub demand : (b : Board) (a code : ℕ) → is_present code ≡ false → fault_finds b a code ≡ none_found
   -- a refused call returns none, a copy too whose remapping is refused with 18 after the old frame was freed
-  pub vfree_refused : (b : Board) (a e : ℕ) → vfree_answer b a ≡ Stop e → vfree_finds b a ≡ none_found
-  pub munmap_refused : (b : Board) (a size e : ℕ) → munmap_answer b a size ≡ Stop e → munmap_finds b a size ≡ none_found
-  pub fault_refused : (b : Board) (a code e : ℕ) → fault_answer b a code ≡ Stop e → fault_finds b a code ≡ none_found
+  pub vfree_refused : (b : Board) (a : ℕ) (e : Refusal) → vfree_answer b a ≡ Err e → vfree_finds b a ≡ none_found
+  pub munmap_refused : (b : Board) (a size : ℕ) (e : Refusal) → munmap_answer b a size ≡ Err e → munmap_finds b a size ≡ none_found
+  pub fault_refused : (b : Board) (a code : ℕ) (e : Refusal) → fault_answer b a code ≡ Err e → fault_finds b a code ≡ none_found
   -- two memories decide a tally
   pub decided : (m left : Memory) (s t : Tally) → Tells m left s → Tells m left t → s ≡ t
   -- 'The key program still prints value 0', of met calls and of refused ones

@@ -1,8 +1,9 @@
 -- 'A board is started with 4 or 5 levels, 4 if none is named, as after a lone `init` .. Another number, at the start or in a lent record, is refused with 10': by every
 -- call that is lent it, on every board, whatever it holds.
+use Rattle.answer.specs.Numbers.{number_of}
+use Rattle.answer.specs.declared.Refusal.TheVariants.{BrokenRecord}
 use Rattle.std.specs.Prelude.{ℕ, ◌*◌, ◌^◌, ◌≤◌, ◌<◌, ◌≡◌, true, false, length}
 use Rattle.answer.specs.declared.Line.{Line}
-use Rattle.answer.specs.Numbers.{broken_record}
 use Rattle.frame.specs.Frames.{is_levels}
 use Rattle.paging.specs.Levels.{levels_of}
 use Rattle.board.specs.Board.{Board, frame_count}
@@ -40,7 +41,7 @@ use_of (start_call from to levels) = names
 
 -- refused with 10
 abbrev pub ten_line : Line
-ten_line = record { number = broken_record; value = 0 }
+ten_line = record { number = number_of BrokenRecord; value = 0 }
 
 -- on a board whose record names another number every call that goes by it is refused with 10, and changes nothing
 abbrev pub OtherLevels : Type 0

@@ -1,15 +1,15 @@
 -- Every public call on a board: document 01's number and value of its answer, and the board that it leaves. For vmalloc, vfree, mmap and munmap this is the play of
 -- the release paper (crate release).
+use Rattle.std.specs.Prelude.{Result, ⊤}
+use Rattle.answer.specs.declared.Refusal.{Refusal}
 use Rattle.std.specs.Prelude.{ℕ, Bool, ℤ}
 use Rattle.answer.specs.declared.Line.{Line}
-use Rattle.answer.specs.declared.Answer.{Answer}
 use Rattle.answer.specs.Numbers.{answer_line, count_line, flag_line}
 use Rattle.answer.specs.Outcomes.{as_answer}
 use Rattle.address.specs.Address.{virt_line, phys_line, frame_line, as_frame, as_phys, as_virt}
 use Rattle.frame.specs.Frames.{Frames, init, allocate, deallocate, mark_allocated, is_allocated, free_frames, allocated_frames, total_frames}
 use Rattle.frame.specs.Frames.{FramesDid}
 use Rattle.frame.specs.Found.{found_line}
-use Rattle.answer.specs.declared.Outcome.{Outcome}
 use Rattle.paging.specs.declared.HugePageSize.{HugePageSize}
 use Rattle.paging.specs.Map.{Memory, memory, start_frame, total_of, Out, Left}
 use Rattle.paging.specs.Calls.{translate, map_page_of, map_huge_of, unmap_page}
@@ -74,7 +74,7 @@ abbrev pub with_faulting : Board → Faulting → Board
 with_faulting b f = record { mem = f.mem; root = b.root; kernel = b.kernel; user = b.user; next = b.next; marked = f.marked }
 
 -- vmalloc and mmap answer an address, vfree and munmap none
-abbrev pub regions_line : Call → Outcome → Line
+abbrev pub regions_line : Call → Result ℕ Refusal → Line
 regions_line (vmalloc_call size) w = virt_line (as_virt w)
 regions_line (vfree_call a) w = answer_line (as_answer w)
 regions_line (mmap_call hint size prot flags) w = virt_line (as_virt w)
@@ -96,7 +96,7 @@ by_unmap b l = played (frame_line (as_frame l.walked)) (with_memory b (memory l.
 abbrev pub by_mark : Board → MarkedDid → Played
 by_mark b d = played (answer_line d.answer) (with_marked b d.marked)
 
-abbrev pub by_frames : Board → FramesDid Answer → Played
+abbrev pub by_frames : Board → FramesDid (Result ⊤ Refusal) → Played
 by_frames b d = played (answer_line d.answer) (with_frames b d.frames)
 
 -- mprotect and the start, which answer no value

@@ -9,8 +9,8 @@ use mathlib.Core.Logic.{◌⊎◌, inl, inr, ⊎_elim, ∥∥₁_elim}
 use native.Mathlib.Omega.{arith}
 use native.Mathlib.Decide.{ℕ_discrete}
 use lib.ListN.{length}
+use Rattle.std.specs.Prelude.{Ok}
 use Rattle.bitmap.proofs.Marks.{marked_cases}
-use Rattle.answer.specs.declared.Outcome.TheVariants.{Value}
 use Rattle.paging.specs.Map.{Memory, start_frame}
 use Rattle.tree.proofs.Paths.{leads_length, same_path, length_path, length_upper}
 use Rattle.tree.proofs.Walks.{nowhere}
@@ -23,7 +23,7 @@ use Rattle.tree.proofs.Taken.{Took, Lost}
 pub record Reached (m : Memory) (root n f : ℕ) : Type 0 where
   pub path : List ℕ
   pub short : length path ≤ n
-  pub comes : reach_in m root path ≡ Value f
+  pub comes : reach_in m root path ≡ Ok f
 
 -- every marked frame is reached, is lost, or is one of Held; the lost are marked, reached by nothing, and listed once
 pub record Account (m : Memory) (root n : ℕ) (lost : List ℕ) (Held : ℕ → Type 0) : Type 0 where
@@ -31,7 +31,7 @@ pub record Account (m : Memory) (root n : ℕ) (lost : List ℕ) (Held : ℕ →
   pub found : (f : ℕ) → inside_in m f ≡ true → mark_in m f ≡ 1 → Reached m root n f ⊎ Memᴰ f lost ⊎ Held f
   pub lent : (f : ℕ) → Memᴰ f lost → inside_in m f ≡ true
   pub mine : (f : ℕ) → Memᴰ f lost → mark_in m f ≡ 1
-  pub away : (f : ℕ) → Memᴰ f lost → (p : List ℕ) → length p ≤ n → reach_in m root p ≡ Value f → ⊥
+  pub away : (f : ℕ) → Memᴰ f lost → (p : List ℕ) → length p ≤ n → reach_in m root p ≡ Ok f → ⊥
   pub once : Nodup lost
 
 -- the account between steps: no frame is in hand
@@ -54,14 +54,14 @@ module _ {m : Memory} {root n : ℕ} {lost : List ℕ} {f : ℕ} (c : Account m 
   }
 
   -- it is lost
-  pub hand_lost : inside_in m f ≡ true → mark_in m f ≡ 1 → ((p : List ℕ) → length p ≤ n → reach_in m root p ≡ Value f → ⊥) → (Memᴰ f lost → ⊥)
+  pub hand_lost : inside_in m f ≡ true → mark_in m f ≡ 1 → ((p : List ℕ) → length p ≤ n → reach_in m root p ≡ Ok f → ⊥) → (Memᴰ f lost → ⊥)
       → Accounted m root n (f ∷ lost)
   hand_lost ins mark off new = record {
     order = c.order;
     found = λ g a b. ⊎_elim (λ x. inl x) (⊎_elim (λ x. inr (inl (Memᴰ.tail x))) (λ e. inr (inl (Memᴰ.head e)))) (c.found g a b);
     lent = λ g x. ⊎_elim (λ e. rw e ins) (c.lent g) (Memᴰ.cases_cons x);
     mine = λ g x. ⊎_elim (λ e. rw e mark) (c.mine g) (Memᴰ.cases_cons x);
-    away = λ g x p lp h. ⊎_elim (λ e. off p lp (h ∙ ap Value e)) (λ y. c.away g y p lp h) (Memᴰ.cases_cons x);
+    away = λ g x p lp h. ⊎_elim (λ e. off p lp (h ∙ ap Ok e)) (λ y. c.away g y p lp h) (Memᴰ.cases_cons x);
     once = Nodup-cons.1 (λ x. ∥∥₁_elim x ⊥_prop new, c.once);
   }
 
@@ -104,13 +104,13 @@ module _ {m : Memory} {root n : ℕ} {lost : List ℕ} (c : Accounted m root n l
     once = c.once;
   }
     where
-      off : (g : ℕ) → Memᴰ g lost → (p : List ℕ) → length p ≤ n → reach_in m' root p ≡ Value g → Dec (p ≡ w) → ⊥
+      off : (g : ℕ) → Memᴰ g lost → (p : List ℕ) → length p ≤ n → reach_in m' root p ≡ Ok g → Dec (p ≡ w) → ⊥
       off g x p lp h (yes e) = nowhere (sym d.gone ∙ ap (reach_in m' root) (sym e) ∙ h)
       off g x p lp h (no e) = c.away g x p lp (sym (d.rest p lp e) ∙ h)
 
       other : (g : ℕ) → (g ≡ f → ⊥) → (b : Reached m root n g) → b.path ≡ w → ⊥
       other g e b k =
-          let z : reach_in m root w ≡ Value g = subst (λ (p : List ℕ). reach_in m root p ≡ Value g) k b.comes in
+          let z : reach_in m root w ≡ Ok g = subst (λ (p : List ℕ). reach_in m root p ≡ Ok g) k b.comes in
           let y = d.was in
           e (cc)
 

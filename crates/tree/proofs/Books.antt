@@ -15,8 +15,8 @@ use mathlib.Core.Logic.{⊎_elim, ∥∥₁_elim}
 use native.Mathlib.Omega.{arith}
 use native.Mathlib.Decide.{ℕ_discrete}
 use lib.ListN.{length}
-use Rattle.answer.specs.Numbers.{not_mapped}
-use Rattle.answer.specs.declared.Outcome.TheVariants.{Value, Stop}
+use Rattle.std.specs.Prelude.{Ok, Err}
+use Rattle.answer.specs.declared.Refusal.TheVariants.{NotMapped}
 use Rattle.paging.specs.Map.{Memory}
 use Rattle.tree.proofs.Paths.{Leads, leads_trans, leads_length, take_leads, path, upper, length_path, length_upper}
 use Rattle.tree.proofs.Walks.{nowhere}
@@ -58,8 +58,8 @@ perm_member (Permᴰ.trans d d') i = perm_member d' (perm_member d i)
 
 -- the pages that are reached are those at the addresses of l, each once
 pub record Live (m : Memory) (root up : ℕ) (l : List ℕ) : Type 0 where
-  pub here : (v : ℕ) → Memᴰ v l → (f : ℕ) × (reach_in m root (path up v) ≡ Value f)
-  pub only : (p : List ℕ) (f : ℕ) → length p ≡ suc up → reach_in m root p ≡ Value f → (v : ℕ) × Memᴰ v l × (p ≡ path up v)
+  pub here : (v : ℕ) → Memᴰ v l → (f : ℕ) × (reach_in m root (path up v) ≡ Ok f)
+  pub only : (p : List ℕ) (f : ℕ) → length p ≡ suc up → reach_in m root p ≡ Ok f → (v : ℕ) × Memᴰ v l × (p ≡ path up v)
   pub apart : Pairwise (λ (v v' : ℕ). path up v ≡ path up v' → ⊥) l
 
 -- the list in another order
@@ -102,8 +102,8 @@ cut_live {m} {m'} {root} {up} {v} {f} {l} c a = record {
 
 -- the tables below the root are those on the ways to the pages at the addresses of l
 pub record Tabled (m : Memory) (root up : ℕ) (l : List ℕ) : Type 0 where
-  pub runs : (v : ℕ) → Memᴰ v l → (p : List ℕ) → Leads p (upper up v) → (t : ℕ) × (reach_in m root p ≡ Value t)
-  pub tables : (p : List ℕ) (t : ℕ) → 1 ≤ length p → length p ≤ up → reach_in m root p ≡ Value t → (v : ℕ) × Memᴰ v l × Leads p (upper up v)
+  pub runs : (v : ℕ) → Memᴰ v l → (p : List ℕ) → Leads p (upper up v) → (t : ℕ) × (reach_in m root p ≡ Ok t)
+  pub tables : (p : List ℕ) (t : ℕ) → 1 ≤ length p → length p ≤ up → reach_in m root p ≡ Ok t → (v : ℕ) × Memᴰ v l × Leads p (upper up v)
 
 pub tabled_perm : {m : Memory} {root up : ℕ} {l k : List ℕ} → Permᴰ l k → Tabled m root up l → Tabled m root up k
 tabled_perm r a = record {
@@ -138,7 +138,7 @@ cut_tabled {m} {m'} {root} {up} lw c a = record {
 -- ---- at the start, and once every page is cut
 
 -- where only the root is reached there are no pages and no tables
-module _ {m : Memory} {root up : ℕ} (only : (p : List ℕ) (f : ℕ) → reach_in m root p ≡ Value f → p ≡ []) where
+module _ {m : Memory} {root up : ℕ} (only : (p : List ℕ) (f : ℕ) → reach_in m root p ≡ Ok f → p ≡ []) where
   pub bare_live : Live m root up []
   bare_live = record {
     here = λ v i. absurd (Memᴰ.not-nil i);
@@ -153,11 +153,11 @@ module _ {m : Memory} {root up : ℕ} (only : (p : List ℕ) (f : ℕ) → reach
   }
 
 module _ {m : Memory} {root up : ℕ} (a : Live m root up []) where
-  no_page : (p : List ℕ) (f : ℕ) → length p ≡ suc up → reach_in m root p ≡ Value f → ⊥
+  no_page : (p : List ℕ) (f : ℕ) → length p ≡ suc up → reach_in m root p ≡ Ok f → ⊥
   no_page p f lp h = Memᴰ.not-nil (a.only p f lp h).1
 
   -- no address translates
-  pub silent : Ordered m root (suc up) → PlainIn m root (suc up) → (v : ℕ) → translate_in (suc up) m root v ≡ Stop not_mapped
+  pub silent : Ordered m root (suc up) → PlainIn m root (suc up) → (v : ℕ) → translate_in (suc up) m root v ≡ Err NotMapped
   silent o w v = no_page_translates o w v (λ f. no_page (path up v) f (length_path up v))
 
   -- and, if none is lost, each marked frame is the root or a table

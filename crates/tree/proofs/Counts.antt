@@ -6,10 +6,10 @@ use mathlib.Core.List.{List, [], ◌∷◌, Memᴰ, Nodup, Nodup-cons}
 use mathlib.Core.Logic.{⊎_elim}
 use native.Mathlib.Omega.{arith}
 use lib.ListN.{length}
+use Rattle.std.specs.Prelude.{Ok}
 use Rattle.bitmap.specs.Bitmap.{marked, unmark, count}
 use Rattle.bitmap.proofs.Marks.{not_marked, unmark_own, unmark_other, count_none, count_unmark}
 use Rattle.frame.proofs.Laws.{inside_yes, inside_from, inside_under}
-use Rattle.answer.specs.declared.Outcome.TheVariants.{Value}
 use Rattle.paging.specs.Map.{Memory, start_frame, total_of}
 use Rattle.tree.proofs.Ordered.{reach_in}
 use Rattle.tree.proofs.Accounts.{Accounted}
@@ -35,17 +35,17 @@ module _ {A : Type 0} (Has : A → ℕ → Type 0) (one : (x : A) (j k : ℕ) �
 
 -- a list of paths, each once, that are just those reached
 pub counter_paths : {m : Memory} {root n : ℕ} → Accounted m root n [] → (l : List (List ℕ)) → Nodup l
-    → ((p : List ℕ) → Memᴰ p l → (f : ℕ) × (length p ≤ n) × (reach_in m root p ≡ Value f))
-    → ((p : List ℕ) (f : ℕ) → length p ≤ n → reach_in m root p ≡ Value f → Memᴰ p l) → m.frames.fa.allocated ≡ length l
+    → ((p : List ℕ) → Memᴰ p l → (f : ℕ) × (length p ≤ n) × (reach_in m root p ≡ Ok f))
+    → ((p : List ℕ) (f : ℕ) → length p ≤ n → reach_in m root p ≡ Ok f → Memᴰ p l) → m.frames.fa.allocated ≡ length l
 counter_paths {m} {root} {n} c l d each all =
     c.order.counted
     ∙ count_each Has (λ p j k a b. let x = a.1 in let y = b.1 in at_one p j k x y) (λ p q j a b. c.order.tree.once p q (start_frame m + j) a.0 b.0 a.1 b.1)
     (total_of m) l m.frames.bits d there found
   where
     Has : List ℕ → ℕ → Type 0
-    Has p j = (length p ≤ n) × (reach_in m root p ≡ Value (start_frame m + j))
+    Has p j = (length p ≤ n) × (reach_in m root p ≡ Ok (start_frame m + j))
 
-    at_one : (p : List ℕ) (j k : ℕ) → reach_in m root p ≡ Value (start_frame m + j) → reach_in m root p ≡ Value (start_frame m + k) → j ≡ k
+    at_one : (p : List ℕ) (j k : ℕ) → reach_in m root p ≡ Ok (start_frame m + j) → reach_in m root p ≡ Ok (start_frame m + k) → j ≡ k
     at_one p j k x y = let e : start_frame m + j ≡ start_frame m + k = cc in omega arith
 
     there : (p : List ℕ) → Memᴰ p l → (j : ℕ) × Has p j × (j < total_of m) × (marked m.frames.bits j ≡ 1)
@@ -54,7 +54,7 @@ counter_paths {m} {root} {n} c l d each all =
         let f = b.0 in
         let ins = c.order.tree.into p f b.1 b.2 in
         let e : f ≡ start_frame m + (f - start_frame m) = omega (arith, inside_from (start_frame m) (total_of m) f ins) in
-        (f - start_frame m, (b.1, b.2 ∙ ap Value e), inside_under (start_frame m) (total_of m) f ins, c.order.tree.kept p f b.1 b.2)
+        (f - start_frame m, (b.1, b.2 ∙ ap Ok e), inside_under (start_frame m) (total_of m) f ins, c.order.tree.kept p f b.1 b.2)
 
     found : (j : ℕ) → j < total_of m → marked m.frames.bits j ≡ 1 → (p : List ℕ) × Memᴰ p l × Has p j
     found j lt mark =

@@ -6,15 +6,15 @@ use mathlib.Core.List.{List, [], ◌∷◌, ◌++◌, foldl, Permᴰ}
 use native.Mathlib.Omega.{arith}
 use lib.ListN.{length, get_or, take}
 use lib.Seq.{set_comm}
-use Rattle.answer.specs.Numbers.{not_mapped}
+use Rattle.std.specs.Prelude.{Ok, Err, Result}
+use Rattle.answer.specs.declared.Refusal.{Refusal}
+use Rattle.answer.specs.declared.Refusal.TheVariants.{NotMapped}
 use Rattle.bitmap.proofs.Marks.{is_marked_lem, unmark_comm}
 use Rattle.frame.specs.declared.Found.{Found}
 use Rattle.frame.specs.declared.Found.TheVariants.{Freed}
 use Rattle.frame.specs.Frames.{FramesDid, without_mark, give_frame, with_counter}
 use Rattle.frame.specs.Found.{one_found}
 use Rattle.frame.proofs.Laws.{inside_from, give_marked}
-use Rattle.answer.specs.declared.Outcome.{Outcome}
-use Rattle.answer.specs.declared.Outcome.TheVariants.{Value, Stop}
 use Rattle.paging.specs.Walk.{place}
 use Rattle.paging.specs.Map.{Memory, memory, start_frame, total_of, Left, left, unmap_entry}
 use Rattle.paging.specs.Pages.{unmap_leaf, clear_page, free_page}
@@ -32,8 +32,8 @@ use Rattle.tree.proofs.Books.{Live, Tabled, cut_live, cut_tabled}
 
 -- ---- a page that is not reached
 
-module _ (up : ℕ) (m : Memory) (root v a : ℕ) (h : reach_in m root (path up v) ≡ Stop a) where
-  no_leaf : (b : ℕ) × (unmap_leaf up m root v ≡ left (Stop b) m.words)
+module _ (up : ℕ) (m : Memory) (root v : ℕ) (a : Refusal) (h : reach_in m root (path up v) ≡ Err a) where
+  no_leaf : (b : Refusal) × (unmap_leaf up m root v ≡ left (Err b) m.words)
   no_leaf =
       unmap_none m.words (start_frame m) (total_of m) root (upper up v) (last up v) a (last_small up v)
       (ap (reach_in m root) (path_split up v) ∙ h)
@@ -50,14 +50,14 @@ module _ (up : ℕ) (m : Memory) (root v a : ℕ) (h : reach_in m root (path up 
 -- ---- a page that is reached
 
 -- the last table on the way to it
-pub way_to : (up : ℕ) (m : Memory) (root v f : ℕ) → reach_in m root (path up v) ≡ Value f → (t : ℕ) × (reach_in m root (upper up v) ≡ Value t)
+pub way_to : (up : ℕ) (m : Memory) (root v f : ℕ) → reach_in m root (path up v) ≡ Ok f → (t : ℕ) × (reach_in m root (upper up v) ≡ Ok t)
 way_to up m root v f h = reach_lead m.words (start_frame m) (total_of m) root f (take_leads up (path up v)) h
 
-module _ {m : Memory} {root up : ℕ} (o : Ordered m root (suc up)) (v t f : ℕ) (ht : reach_in m root (upper up v) ≡ Value t) (hf : reach_in m root (path up v) ≡ Value f) where
-  split : reach_in m root (upper up v ++ (last up v ∷ [])) ≡ Value f
+module _ {m : Memory} {root up : ℕ} (o : Ordered m root (suc up)) (v t f : ℕ) (ht : reach_in m root (upper up v) ≡ Ok t) (hf : reach_in m root (path up v) ≡ Ok f) where
+  split : reach_in m root (upper up v ++ (last up v ∷ [])) ≡ Ok f
   split = ap (reach_in m root) (path_split up v) ∙ hf
 
-  its_leaf : unmap_leaf up m root v ≡ left (Value f) (stored m.words (start_frame m) t (last up v) 0)
+  its_leaf : unmap_leaf up m root v ≡ left (Ok f) (stored m.words (start_frame m) t (last up v) 0)
   its_leaf = unmap_met m.words (start_frame m) (total_of m) root (upper up v) (last up v) t f ht split
 
   gives : give_frame m.frames f ≡ record { answer = Freed; frames = without_mark m.frames (f - start_frame m) }
@@ -105,13 +105,13 @@ module _ {m : Memory} {root up : ℕ} (o : Ordered m root (suc up)) (v t f : ℕ
 -- ---- any page
 
 module _ {m : Memory} {root up : ℕ} (o : Ordered m root (suc up)) (v : ℕ) where
-  pub free_cases : (P : Memory → Type 0) → ((t f : ℕ) → reach_in m root (upper up v) ≡ Value t → reach_in m root (path up v) ≡ Value f → P (free_page up m root v))
-      → ((a : ℕ) → reach_in m root (path up v) ≡ Stop a → P m) → P (free_page up m root v)
+  pub free_cases : (P : Memory → Type 0) → ((t f : ℕ) → reach_in m root (upper up v) ≡ Ok t → reach_in m root (path up v) ≡ Ok f → P (free_page up m root v))
+      → ((a : Refusal) → reach_in m root (path up v) ≡ Err a → P m) → P (free_page up m root v)
   free_cases P yes-it no-it = go (reach_in m root (path up v)) refl
     where
-      go : (x : Outcome) → reach_in m root (path up v) ≡ x → P (free_page up m root v)
-      go (Value f) h = let t = way_to up m root v f h in yes-it t.0 f t.1 h
-      go (Stop a) h = rw (free_none up m root v a h) (no-it a h)
+      go : (x : Result ℕ Refusal) → reach_in m root (path up v) ≡ x → P (free_page up m root v)
+      go (Ok f) h = let t = way_to up m root v f h in yes-it t.0 f t.1 h
+      go (Err a) h = rw (free_none up m root v a h) (no-it a h)
 
   -- the memory stays in order
   pub free_ordered : Ordered (free_page up m root v) root (suc up)
@@ -121,13 +121,13 @@ module _ {m : Memory} {root up : ℕ} (o : Ordered m root (suc up)) (v : ℕ) wh
   free_plain w = free_cases (λ (x : Memory). PlainIn x root (suc up)) (λ t f ht hf. (free_cut o v t f ht hf).plain w) (λ _ _. w)
 
   -- and what is not reached is so still
-  pub free_off : (p : List ℕ) (a : ℕ) → length p ≤ suc up → reach_in m root p ≡ Stop a → (b : ℕ) × (reach_in (free_page up m root v) root p ≡ Stop b)
+  pub free_off : (p : List ℕ) (a : Refusal) → length p ≤ suc up → reach_in m root p ≡ Err a → (b : Refusal) × (reach_in (free_page up m root v) root p ≡ Err b)
   free_off p a lp h =
-      free_cases (λ (x : Memory). (b : ℕ) × (reach_in x root p ≡ Stop b))
+      free_cases (λ (x : Memory). (b : Refusal) × (reach_in x root p ≡ Err b))
       (λ t f ht hf. by (free_cut o v t f ht hf) (same_path p (path up v))) (λ _ _. (a, h))
     where
-      by : {f : ℕ} {x : Memory} → Cut m x root (suc up) (path up v) f → Dec (p ≡ path up v) → (b : ℕ) × (reach_in x root p ≡ Stop b)
-      by {x = x} c (yes e) = (not_mapped, ap (reach_in x root) e ∙ c.gone)
+      by : {f : ℕ} {x : Memory} → Cut m x root (suc up) (path up v) f → Dec (p ≡ path up v) → (b : Refusal) × (reach_in x root p ≡ Err b)
+      by {x = x} c (yes e) = (NotMapped, ap (reach_in x root) e ∙ c.gone)
       by c (no d) = (a, c.rest p lp d ∙ h)
 
 -- no frame is lost
@@ -137,8 +137,8 @@ free_accounted {root = root} {up = up} {lost = lost} c v =
     (λ t f ht hf. freed_accounted c (omega (arith, length_path up v)) (free_cut c.order v t f ht hf) (free_free c.order v t f ht hf)) (λ a h. c)
 
 -- a page that is cleared and not freed: its frame is lost
-pub clear_accounted : {m : Memory} {root up : ℕ} {lost : List ℕ} → Accounted m root (suc up) lost → (v t f : ℕ) → reach_in m root (upper up v) ≡ Value t
-    → reach_in m root (path up v) ≡ Value f → Accounted (clear_page up m root v) root (suc up) (f ∷ lost)
+pub clear_accounted : {m : Memory} {root up : ℕ} {lost : List ℕ} → Accounted m root (suc up) lost → (v t f : ℕ) → reach_in m root (upper up v) ≡ Ok t
+    → reach_in m root (path up v) ≡ Ok f → Accounted (clear_page up m root v) root (suc up) (f ∷ lost)
 clear_accounted {up = up} c v t f ht hf = cleared_accounted c (omega (arith, length_path up v)) (clear_cut c.order v t f ht hf) (clear_kept c.order v t f ht hf)
 
 -- the other pages and the tables stay
@@ -162,8 +162,8 @@ free_same up m root v v' e =
 -- ---- two pages
 
 module _ {m : Memory} {root up : ℕ} (o : Ordered m root (suc up)) (v v' t t' f f' : ℕ)
-    (ht : reach_in m root (upper up v) ≡ Value t) (hf : reach_in m root (path up v) ≡ Value f)
-    (ht' : reach_in m root (upper up v') ≡ Value t') (hf' : reach_in m root (path up v') ≡ Value f') (d : path up v ≡ path up v' → ⊥) where
+    (ht : reach_in m root (upper up v) ≡ Ok t) (hf : reach_in m root (path up v) ≡ Ok f)
+    (ht' : reach_in m root (upper up v') ≡ Ok t') (hf' : reach_in m root (path up v') ≡ Ok f') (d : path up v ≡ path up v' → ⊥) where
   -- their leaves lie apart
   leaves_apart : place (start_frame m) t (last up v) ≡ place (start_frame m) t' (last up v') → ⊥
   leaves_apart e =
@@ -172,7 +172,7 @@ module _ {m : Memory} {root up : ℕ} (o : Ordered m root (suc up)) (v v' t t' f
       let tt' : t ≡ t' = place_table (start_frame m) t' (last up v') t (last up v) a' a (last_small up v') (last_small up v) e in
       let jj' : last up v ≡ last up v' = place_index (start_frame m) t' (last up v') t (last up v) a' a (last_small up v') (last_small up v) e in
       let qq' : upper up v ≡ upper up v' =
-      o.tree.once (upper up v) (upper up v') t' (omega (arith, length_upper up v)) (omega (arith, length_upper up v')) (ht ∙ ap Value tt') ht' in
+      o.tree.once (upper up v) (upper up v') t' (omega (arith, length_upper up v)) (omega (arith, length_upper up v')) (ht ∙ ap Ok tt') ht' in
       d (sym (path_split up v) ∙ ap₂ (λ (p : List ℕ) (i : ℕ). p ++ (i ∷ [])) qq' jj' ∙ path_split up v')
 
   -- the second page once the first is freed
@@ -195,10 +195,10 @@ module _ {m : Memory} {root up : ℕ} (o : Ordered m root (suc up)) (v v' : ℕ)
   pub free_comm : free_page up (free_page up m root v) root v' ≡ free_page up (free_page up m root v') root v
   free_comm = go (reach_in m root (path up v)) refl (reach_in m root (path up v')) refl
     where
-      still : (w z a : ℕ) → reach_in m root (path up z) ≡ Stop a → free_page up (free_page up m root w) root z ≡ free_page up m root w
+      still : (w z : ℕ) (a : Refusal) → reach_in m root (path up z) ≡ Err a → free_page up (free_page up m root w) root z ≡ free_page up m root w
       still w z a h = let b = free_off o w (path up z) a (omega (arith, length_path up z)) h in free_none up (free_page up m root w) root z b.0 b.1
 
-      both : (f f' : ℕ) → reach_in m root (path up v) ≡ Value f → reach_in m root (path up v') ≡ Value f' → Dec (path up v ≡ path up v')
+      both : (f f' : ℕ) → reach_in m root (path up v) ≡ Ok f → reach_in m root (path up v') ≡ Ok f' → Dec (path up v ≡ path up v')
           → free_page up (free_page up m root v) root v' ≡ free_page up (free_page up m root v') root v
       both f f' h h' (yes e) =
           free_same up (free_page up m root v) root v' v (sym e) ∙ ap (λ (x : Memory). free_page up x root v) (free_same up m root v v' e)
@@ -208,11 +208,11 @@ module _ {m : Memory} {root up : ℕ} (o : Ordered m root (suc up)) (v v' : ℕ)
           free_two o v v' t.0 t'.0 f f' t.1 h t'.1 h' d ∙ freed_comm o v v' t.0 t'.0 f f' t.1 h t'.1 h' d
           ∙ sym (free_two o v' v t'.0 t.0 f' f t'.1 h' t.1 h (λ e. d (sym e)))
 
-      go : (x : Outcome) → reach_in m root (path up v) ≡ x → (y : Outcome) → reach_in m root (path up v') ≡ y
+      go : (x : Result ℕ Refusal) → reach_in m root (path up v) ≡ x → (y : Result ℕ Refusal) → reach_in m root (path up v') ≡ y
           → free_page up (free_page up m root v) root v' ≡ free_page up (free_page up m root v') root v
-      go (Stop a) h y h' = ap (λ (x : Memory). free_page up x root v') (free_none up m root v a h) ∙ sym (still v' v a h)
-      go (Value f) h (Stop a) h' = still v v' a h' ∙ ap (λ (x : Memory). free_page up x root v) (sym (free_none up m root v' a h'))
-      go (Value f) h (Value f') h' = both f f' h h' (same_path (path up v) (path up v'))
+      go (Err a) h y h' = ap (λ (x : Memory). free_page up x root v') (free_none up m root v a h) ∙ sym (still v' v a h)
+      go (Ok f) h (Err a) h' = still v v' a h' ∙ ap (λ (x : Memory). free_page up x root v) (sym (free_none up m root v' a h'))
+      go (Ok f) h (Ok f') h' = both f f' h h' (same_path (path up v) (path up v'))
 
 -- ---- any number of pages
 

@@ -6,8 +6,8 @@ use mathlib.Core.List.{List}
 use mathlib.Core.Logic.{◌⊎◌, inl, inr, ⊎_elim}
 use native.Mathlib.Omega.{arith}
 use lib.ListN.{length}
+use Rattle.std.specs.Prelude.{Ok}
 use Rattle.bitmap.proofs.Marks.{marked_cases, not_marked}
-use Rattle.answer.specs.declared.Outcome.TheVariants.{Value}
 use Rattle.paging.specs.Map.{Memory, start_frame, total_of}
 use Rattle.tree.proofs.Paths.{Leads, leads_length, leads_trans}
 use Rattle.tree.proofs.Ordered.{reach_in, inside_in, mark_in, PlainIn, Ordered}
@@ -16,7 +16,7 @@ use Rattle.tree.proofs.Ordered.{reach_in, inside_in, mark_in, PlainIn, Ordered}
 pub record Along (m : Memory) (root : ℕ) (w : List ℕ) (f : ℕ) : Type 0 where
   pub path : List ℕ
   pub lead : Leads path w
-  pub comes : reach_in m root path ≡ Value f
+  pub comes : reach_in m root path ≡ Ok f
 
 -- m' grew from m along w: what is newly reached is so along leading runs of w, by frames of New; what is newly marked is so reached, or is one of Held
 pub record Grew (m m' : Memory) (root n : ℕ) (w : List ℕ) (New Held : ℕ → Type 0) : Type 0 where
@@ -24,8 +24,8 @@ pub record Grew (m m' : Memory) (root n : ℕ) (w : List ℕ) (New Held : ℕ �
   pub plain : PlainIn m root n → PlainIn m' root n
   pub start : start_frame m' ≡ start_frame m
   pub total : total_of m' ≡ total_of m
-  pub stay : (p : List ℕ) (x : ℕ) → length p ≤ n → reach_in m root p ≡ Value x → reach_in m' root p ≡ Value x
-  pub grew : (p : List ℕ) (x : ℕ) → length p ≤ n → reach_in m' root p ≡ Value x → (reach_in m root p ≡ Value x) ⊎ (Leads p w × New x)
+  pub stay : (p : List ℕ) (x : ℕ) → length p ≤ n → reach_in m root p ≡ Ok x → reach_in m' root p ≡ Ok x
+  pub grew : (p : List ℕ) (x : ℕ) → length p ≤ n → reach_in m' root p ≡ Ok x → (reach_in m root p ≡ Ok x) ⊎ (Leads p w × New x)
   pub more : (f : ℕ) → mark_in m f ≡ 1 → mark_in m' f ≡ 1
   pub used : (f : ℕ) → inside_in m f ≡ true → mark_in m f ≡ 0 → mark_in m' f ≡ 1 → Along m' root w f ⊎ Held f
 

@@ -6,13 +6,14 @@ use mathlib.Core.List.{List, [], ◌∷◌, ◌++◌, append_assoc, append-nil}
 use mathlib.Core.Logic.{inl}
 use native.Mathlib.Omega.{arith}
 use lib.ListN.{length, get_or, length-append}
+use Rattle.answer.specs.declared.Refusal.{Refusal}
+use Rattle.std.specs.Prelude.{Ok, Err}
+use Rattle.answer.specs.declared.Refusal.TheVariants.{NoFreeFrame}
 use Rattle.bits.specs.Bit.{flag}
-use Rattle.answer.specs.Numbers.{no_free_frame}
 use Rattle.bitmap.specs.Bitmap.{marked}
 use Rattle.entry.specs.Entry.{entry_of}
 use Rattle.entry.proofs.Entry.{maps_entry, frame_entry}
 use Rattle.frame.specs.Frames.{inside, with_mark}
-use Rattle.answer.specs.declared.Outcome.TheVariants.{Value, Stop}
 use Rattle.paging.specs.Walk.{place}
 use Rattle.paging.specs.Map.{Memory, memory, start_frame, total_of, Out, out, enter, make}
 use Rattle.paging.proofs.Map.{go_on_cases, linked, enter_cases}
@@ -27,15 +28,15 @@ use Rattle.tree.proofs.Steps.{freshened, fresh_inside, fresh_free, fresh_marked,
 pub record Made (m : Memory) (root n : ℕ) (w q : List ℕ) (o : Out) : Type 0 where
   pub grew : Grew m o.mem root n w (Free m) None
   pub leaves : (p : List ℕ) → length p ≡ n → leaf_in o.mem root p ≡ leaf_in m root p
-  pub there : (t : ℕ) → o.walked ≡ Value t → reach_in o.mem root q ≡ Value t
-  pub refused : (a : ℕ) → o.walked ≡ Stop a → a ≡ no_free_frame
+  pub there : (t : ℕ) → o.walked ≡ Ok t → reach_in o.mem root q ≡ Ok t
+  pub refused : (a : Refusal) → o.walked ≡ Err a → a ≡ NoFreeFrame
 
 -- one table
 module _ {m : Memory} {root n : ℕ} (o : Ordered m root n) {w : List ℕ} (lw : length w ≤ n) (u : Bool) (q : List ℕ) (t i : ℕ)
-    (hq : reach_in m root q ≡ Value t) (lq : suc (length q) < n) (small : i < 512) (lead : Leads (q ++ (i ∷ [])) w) where
+    (hq : reach_in m root q ≡ Ok t) (lq : suc (length q) < n) (small : i < 512) (lead : Leads (q ++ (i ∷ [])) w) where
   -- in the free frame start + j
   new_made : flag 0 (get_or m.words (place (start_frame m) t i) 0) ≡ false → (j : ℕ) → j < total_of m → marked m.frames.bits j ≡ 0
-      → Made m root n w (q ++ (i ∷ [])) (out (Value (start_frame m + j)) (memory (linked u m.words (start_frame m) (place (start_frame m) t i) (start_frame m + j)) (with_mark m.frames j)))
+      → Made m root n w (q ++ (i ∷ [])) (out (Ok (start_frame m + j)) (memory (linked u m.words (start_frame m) (place (start_frame m) t i) (start_frame m + j)) (with_mark m.frames j)))
   unfolding with_mark
   new_made absent j lt free =
       let f : ℕ = start_frame m + j in
@@ -43,9 +44,9 @@ module _ {m : Memory} {root n : ℕ} (o : Ordered m root n) {w : List ℕ} (lw :
       let new = free_unreached o f (fresh_free o j lt free) in
       let g = fresh_grew o j lt free w in
       let ins = o.tree.into q t (omega arith) hq in
-      let hq' : reach_in (freshened m j) root q ≡ Value t = fresh_reach o j lt free q (omega arith) ∙ hq in
+      let hq' : reach_in (freshened m j) root q ≡ Ok t = fresh_reach o j lt free q (omega arith) ∙ hq in
       let absent' : flag 0 (get_or (freshened m j).words (place (start_frame m) t i) 0) ≡ false =
-      ap (flag 0) (zero_other m.words (start_frame m) (total_of m) f (fresh_inside o j lt free) t i ins small (λ d. new q (omega arith) (hq ∙ ap Value d))) ∙ absent in
+      ap (flag 0) (zero_other m.words (start_frame m) (total_of m) f (fresh_inside o j lt free) t i ins small (λ d. new q (omega arith) (hq ∙ ap Ok d))) ∙ absent in
       let c : Names (freshened m j) root n q e f = record {
         bit = (maps_entry (f * 2 ^ 12) true u).present;
         names = frame_entry f true u (in_entry o f (fresh_inside o j lt free));
@@ -61,7 +62,7 @@ module _ {m : Memory} {root n : ℕ} (o : Ordered m root n) {w : List ℕ} (lw :
             (λ x d. inl (record {
               path = q ++ (i ∷ []);
               lead = lead;
-              comes = write_at g.order q t i (omega arith) hq' small absent' c ∙ ap Value (sym d);
+              comes = write_at g.order q t i (omega arith) hq' small absent' c ∙ ap Ok (sym d);
             }))
             (λ x z. z);
         leaves = λ p lp. write_leaf g.order q t i (omega arith) hq' small absent' c lq p lp ∙ fresh_leaf o j lt free p (omega arith);
@@ -99,7 +100,7 @@ made_trans lw a b = record {
 
 -- all the tables along a path
 pub make_made : {root n : ℕ} {w : List ℕ} → length w ≤ n → (u : Bool) (is : List ℕ) {m : Memory} → Ordered m root n → (q : List ℕ) (t : ℕ)
-    → reach_in m root q ≡ Value t → length q + length is < n → Small is → Leads (q ++ is) w → Made m root n w (q ++ is) (make u m t is)
+    → reach_in m root q ≡ Ok t → length q + length is < n → Small is → Leads (q ++ is) w → Made m root n w (q ++ is) (make u m t is)
 unfolding make
 make_made {w = w} lw u [] {m} o q t hq l small lead = record {
   grew = grew_refl w (Free m) None o;
@@ -122,6 +123,6 @@ make_made {root} {n} {w} lw u (i ∷ is) {m} o q t hq l small lead =
     (make_made lw u is a.grew.order (q ++ (i ∷ [])) f (a.there f e) (omega (arith, length-append q (i ∷ []))) (λ k. small (suc k)) first)))
 
 -- once they are made, each leading run of the path is reached
-pub made_lead : {m : Memory} {root n : ℕ} {w q : List ℕ} {o : Out} → Made m root n w q o → (t : ℕ) → o.walked ≡ Value t → {p : List ℕ} → Leads p q
-    → (s : ℕ) × (reach_in o.mem root p ≡ Value s)
+pub made_lead : {m : Memory} {root n : ℕ} {w q : List ℕ} {o : Out} → Made m root n w q o → (t : ℕ) → o.walked ≡ Ok t → {p : List ℕ} → Leads p q
+    → (s : ℕ) × (reach_in o.mem root p ≡ Ok s)
 made_lead {root = root} {o = o} a t e l = reach_lead o.mem.words (start_frame o.mem) (total_of o.mem) root t l (a.there t e)

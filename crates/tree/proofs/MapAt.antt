@@ -6,12 +6,12 @@ use mathlib.Core.List.{List, [], ◌∷◌, ◌++◌}
 use native.Mathlib.Omega.{arith}
 use lib.ListN.{length, get_or, take, length-take}
 use lib.Seq.{take-suc}
+use Rattle.std.specs.Prelude.{Ok, Err, Result}
+use Rattle.answer.specs.declared.Refusal.{Refusal}
+use Rattle.answer.specs.declared.Refusal.TheVariants.{BrokenRecord}
 use Rattle.bits.specs.Bit.{flag, pick}
-use Rattle.answer.specs.Numbers.{broken_record}
 use Rattle.entry.specs.Entry.{frame_of}
 use Rattle.entry.proofs.Entry.{indices_lt}
-use Rattle.answer.specs.declared.Outcome.{Outcome}
-use Rattle.answer.specs.declared.Outcome.TheVariants.{Value, Stop}
 use Rattle.paging.specs.Walk.{address}
 use Rattle.paging.specs.Map.{Memory, start_frame, total_of}
 use Rattle.paging.specs.Calls.{map_at, lent_walk, translate}
@@ -41,7 +41,7 @@ module _ {m : Memory} {root up : ℕ} (o : Ordered m root (suc up)) (u : Bool) (
       let c = map_entry_kept u m root (take k (path up v)) (get_or (path up v) k 0) e in
       let s : lent_walk (suc up) (length (map_at up k u m root v e).mem.words) (start_frame (map_at up k u m root v e).mem) (total_of (map_at up k u m root v e).mem) root
       ≡ lent_walk (suc up) (length m.words) (start_frame m) (total_of m) root = rw (c.words, c.start, c.total) in
-      ap₂ (λ (x : Bool) (y : Outcome). pick x y (Stop broken_record)) s (ap (address v') (below_other k l v' d))
+      ap₂ (λ (x : Bool) (y : Result ℕ Refusal). pick x y (Err BrokenRecord)) s (ap (address v') (below_other k l v' d))
 
   -- so a page's word, met or refused, changes no other page
   pub page_other : (v' : ℕ) → (path up v' ≡ path up v → ⊥) → leaf_in (map_at up up u m root v e).mem root (path up v') ≡ leaf_in m root (path up v')
@@ -51,12 +51,12 @@ module _ {m : Memory} {root up : ℕ} (o : Ordered m root (suc up)) (u : Bool) (
   page_translate v' d = below_translate up (omega arith) v' (λ a. d (sym (take_path up v') ∙ a ∙ take_path up v))
 
   -- refused it changes no leaf at all
-  pub page_refused : (a : ℕ) → (map_at up up u m root v e).walked ≡ Stop a → Turned m root (suc up) (upper up v) (last up v) a (map_at up up u m root v e).mem
+  pub page_refused : (a : Refusal) → (map_at up up u m root v e).walked ≡ Err a → Turned m root (suc up) (upper up v) (last up v) a (map_at up up u m root v e).mem
   page_refused = map_refused o u (upper up v) (last up v) (omega (arith, length_upper up v)) (upper_small up v) (last_small up v) e
 
   -- and met, with a marked frame that nothing reaches, it adds that page
-  pub page_placed : (f : ℕ) → flag 0 e ≡ true → frame_of e ≡ f → inside_in m f ≡ true → mark_in m f ≡ 1 → ((p : List ℕ) → length p ≤ suc up → reach_in m root p ≡ Value f → ⊥)
-      → (x : ℕ) → (map_at up up u m root v e).walked ≡ Value x → Placed m root (suc up) (path up v) f (map_at up up u m root v e).mem
+  pub page_placed : (f : ℕ) → flag 0 e ≡ true → frame_of e ≡ f → inside_in m f ≡ true → mark_in m f ≡ 1 → ((p : List ℕ) → length p ≤ suc up → reach_in m root p ≡ Ok f → ⊥)
+      → (x : ℕ) → (map_at up up u m root v e).walked ≡ Ok x → Placed m root (suc up) (path up v) f (map_at up up u m root v e).mem
   page_placed f bit to may_walk mine new x h =
       subst (λ (w : List ℕ). Placed m root (suc up) w f (map_at up up u m root v e).mem) (path_split up v)
       (map_placed o u (upper up v) (last up v) (omega (arith, length_upper up v)) (upper_small up v) (last_small up v) e f (ap suc (length_upper up v)) bit to may_walk mine new x h)

@@ -7,16 +7,16 @@ use native.Mathlib.Omega.{arith}
 use lib.Dec.{eqb}
 use lib.ListN.{length}
 use borrow.Author.Tests.{eq-eqb}
+use Rattle.std.specs.Prelude.{Ok, Err, Result}
+use Rattle.answer.specs.declared.Refusal.{Refusal}
+use Rattle.answer.specs.declared.Refusal.TheVariants.{NotMapped}
 use Rattle.answer.specs.Outcomes.{and_then}
-use Rattle.answer.specs.Numbers.{not_mapped}
 use Rattle.bitmap.specs.Bitmap.{marked, count}
 use Rattle.bitmap.proofs.Marks.{Words}
 use Rattle.entry.specs.Entry.{indices}
 use Rattle.entry.proofs.Entry.{length_indices}
 use Rattle.frame.specs.Frames.{is_levels, inside}
 use Rattle.frame.proofs.Laws.{inside_from, inside_under, sound_counted}
-use Rattle.answer.specs.declared.Outcome.{Outcome}
-use Rattle.answer.specs.declared.Outcome.TheVariants.{Value, Stop}
 use Rattle.paging.specs.declared.Leaf.{Leaf}
 use Rattle.paging.specs.Walk.{reach, leaf, address, WordsLent}
 use Rattle.paging.specs.Map.{Memory, start_frame, total_of}
@@ -29,10 +29,10 @@ use Rattle.tree.proofs.Plain.{Plain, Ends, at_page, at_none, leaf_ends}
 
 -- ---- a memory's walks and marks
 
-abbrev pub reach_in : Memory → ℕ → List ℕ → Outcome
+abbrev pub reach_in : Memory → ℕ → List ℕ → Result ℕ Refusal
 reach_in m root p = reach m.words (start_frame m) (total_of m) root p
 
-abbrev pub leaf_in : Memory → ℕ → List ℕ → Leaf
+abbrev pub leaf_in : Memory → ℕ → List ℕ → Result Leaf Refusal
 leaf_in m root p = leaf m.words (start_frame m) (total_of m) root p
 
 -- whether frame f is one of those lent
@@ -44,7 +44,7 @@ abbrev pub mark_in : Memory → ℕ → ℕ
 mark_in m f = marked m.frames.bits (f - start_frame m)
 
 -- the translation of an address, on a board of so many levels
-abbrev pub translate_in : ℕ → Memory → ℕ → ℕ → Outcome
+abbrev pub translate_in : ℕ → Memory → ℕ → ℕ → Result ℕ Refusal
 translate_in levels m root v = translate levels m.words (start_frame m) (total_of m) root v
 
 abbrev pub PlainIn : Memory → ℕ → ℕ → Type 0
@@ -84,7 +84,7 @@ module _ {m : Memory} {root n : ℕ} (o : Ordered m root n) where
   ordered_walk = walk_by_lent n (length m.words) (start_frame m) (total_of m) root o.board ∙ whole_lent m root ordered_whole
 
   -- a free frame is not reached
-  pub free_unreached : (f : ℕ) → mark_in m f ≡ 0 → (p : List ℕ) → length p ≤ n → reach_in m root p ≡ Value f → ⊥
+  pub free_unreached : (f : ℕ) → mark_in m f ≡ 0 → (p : List ℕ) → length p ≤ n → reach_in m root p ≡ Ok f → ⊥
   free_unreached f free p lp h = let k : mark_in m f ≡ 1 = o.tree.kept p f lp h in omega arith
 
   -- a lent frame's bit is in the bitmap, and its number fits an entry
@@ -97,22 +97,22 @@ module _ {m : Memory} {root n : ℕ} (o : Ordered m root n) where
 -- ---- translations, where there is no large page
 
 module _ {m : Memory} {root up : ℕ} (o : Ordered m root (suc up)) (w : PlainIn m root (suc up)) (v : ℕ) where
-  translates : {x : Outcome} {l : Leaf} → Ends x l → address v l ≡ and_then x Stop (λ f. Value (f * 2 ^ 12 + v % 2 ^ 12))
-  translates (at_page e) = ap (λ (f : ℕ). Value (f * 2 ^ 12 + v % 2 ^ 12)) e
+  translates : {x : Result ℕ Refusal} {l : Result Leaf Refusal} → Ends x l → address v l ≡ and_then x Err (λ f. Ok (f * 2 ^ 12 + v % 2 ^ 12))
+  translates (at_page e) = ap (λ (f : ℕ). Ok (f * 2 ^ 12 + v % 2 ^ 12)) e
   translates at_none = refl
 
   -- an address translates just where its page is reached, to the place in that frame; if not it is 14
-  pub translate_reach : translate_in (suc up) m root v ≡ and_then (reach_in m root (indices (suc up) v)) Stop (λ f. Value (f * 2 ^ 12 + v % 2 ^ 12))
+  pub translate_reach : translate_in (suc up) m root v ≡ and_then (reach_in m root (indices (suc up) v)) Err (λ f. Ok (f * 2 ^ 12 + v % 2 ^ 12))
   translate_reach =
       translate_is (suc up) m.words (start_frame m) (total_of m) root v (ordered_walk o)
       ∙ translates (leaf_ends w (indices (suc up) v) (omega arith) (length_indices (suc up) v))
 
-  pub page_translates : (f : ℕ) → reach_in m root (indices (suc up) v) ≡ Value f → translate_in (suc up) m root v ≡ Value (f * 2 ^ 12 + v % 2 ^ 12)
+  pub page_translates : (f : ℕ) → reach_in m root (indices (suc up) v) ≡ Ok f → translate_in (suc up) m root v ≡ Ok (f * 2 ^ 12 + v % 2 ^ 12)
   page_translates f h = translate_reach ∙ rw h
 
-  pub no_page_translates : ((f : ℕ) → reach_in m root (indices (suc up) v) ≡ Value f → ⊥) → translate_in (suc up) m root v ≡ Stop not_mapped
+  pub no_page_translates : ((f : ℕ) → reach_in m root (indices (suc up) v) ≡ Ok f → ⊥) → translate_in (suc up) m root v ≡ Err NotMapped
   no_page_translates none = translate_reach ∙ go (reach_in m root (indices (suc up) v)) refl
     where
-      go : (x : Outcome) → reach_in m root (indices (suc up) v) ≡ x → and_then x Stop (λ f. Value (f * 2 ^ 12 + v % 2 ^ 12)) ≡ Stop not_mapped
-      go (Value f) h = absurd (none f h)
-      go (Stop a) h = ap Stop (tree_stop o.tree (indices (suc up) v) a (omega (arith, length_indices (suc up) v)) h)
+      go : (x : Result ℕ Refusal) → reach_in m root (indices (suc up) v) ≡ x → and_then x Err (λ f. Ok (f * 2 ^ 12 + v % 2 ^ 12)) ≡ Err NotMapped
+      go (Ok f) h = absurd (none f h)
+      go (Err a) h = ap Err (tree_stop o.tree (indices (suc up) v) a (omega (arith, length_indices (suc up) v)) h)

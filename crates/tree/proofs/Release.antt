@@ -5,16 +5,16 @@ use mathlib.Core.Bool.{Bool, true, false}
 use mathlib.Core.List.{List, [], ◌∷◌, ◌++◌}
 use native.Mathlib.Omega.{arith}
 use lib.ListN.{length, get_or, length-append, length-set}
+use Rattle.std.specs.Prelude.{Ok, Err, Result}
+use Rattle.answer.specs.declared.Refusal.{Refusal}
+use Rattle.answer.specs.declared.Refusal.TheVariants.{NotMapped, TableOutside}
 use Rattle.bits.specs.Bit.{flag}
-use Rattle.answer.specs.Numbers.{not_mapped, outside}
 use Rattle.bitmap.specs.Bitmap.{marked, unmark, count}
 use Rattle.bitmap.proofs.Marks.{Words, unmark_own, unmark_other, unmark_words, length_unmark, count_unmark}
 use Rattle.entry.specs.Entry.{frame_of}
 use Rattle.entry.proofs.Entry.{flag_zero}
 use Rattle.frame.specs.Frames.{frames, inside, without_mark, with_counter}
 use Rattle.frame.proofs.Laws.{inside_from, inside_under}
-use Rattle.answer.specs.declared.Outcome.{Outcome}
-use Rattle.answer.specs.declared.Outcome.TheVariants.{Value, Stop}
 use Rattle.paging.specs.Walk.{place, reach}
 use Rattle.paging.specs.Map.{Memory, memory, start_frame, total_of, left, unmap_entry}
 use Rattle.paging.proofs.Map.{take_leaf_out, take_leaf_none, take_leaf_there, unmap_entry_stop, unmap_entry_take}
@@ -27,8 +27,8 @@ use Rattle.tree.proofs.Ordered.{reach_in, leaf_in, inside_in, mark_in, PlainIn, 
 -- ---- what unmapping comes to
 
 -- a page that is reached: its leaf is cleared, and its frame handed back
-pub unmap_met : (ws : List ℕ) (start total root : ℕ) (q : List ℕ) (j t f : ℕ) → reach ws start total root q ≡ Value t → reach ws start total root (q ++ (j ∷ [])) ≡ Value f
-    → unmap_entry ws start total root q j ≡ left (Value f) (stored ws start t j 0)
+pub unmap_met : (ws : List ℕ) (start total root : ℕ) (q : List ℕ) (j t f : ℕ) → reach ws start total root q ≡ Ok t → reach ws start total root (q ++ (j ∷ [])) ≡ Ok f
+    → unmap_entry ws start total root q j ≡ left (Ok f) (stored ws start t j 0)
 unmap_met ws start total root q j t f hq hf =
     let b = reach_back ws start total root q j f hf in
     let bt : b.table ≡ t = let x = b.way in cc in
@@ -36,25 +36,25 @@ unmap_met ws start total root q j t f hq hf =
     let ins : inside start total t ≡ true = rw bt at c.table in
     let word : get_or ws (place start t j) 0 ≡ b.word = rw bt at c.word in
     unmap_entry_take ws start total root q j t hq ∙ take_leaf_there ws start total t j ins (ap (flag 0) word ∙ c.bit)
-    ∙ ap (λ (x : ℕ). left (Value x) (stored ws start t j 0)) (ap frame_of word ∙ b.names)
+    ∙ ap (λ (x : ℕ). left (Ok x) (stored ws start t j 0)) (ap frame_of word ∙ b.names)
 
 -- one that is not: nothing is done
-pub unmap_none : (ws : List ℕ) (start total root : ℕ) (q : List ℕ) (j a : ℕ) → j < 512 → reach ws start total root (q ++ (j ∷ [])) ≡ Stop a
-    → (b : ℕ) × (unmap_entry ws start total root q j ≡ left (Stop b) ws)
+pub unmap_none : (ws : List ℕ) (start total root : ℕ) (q : List ℕ) (j : ℕ) (a : Refusal) → j < 512 → reach ws start total root (q ++ (j ∷ [])) ≡ Err a
+    → (b : Refusal) × (unmap_entry ws start total root q j ≡ left (Err b) ws)
 unmap_none ws start total root q j a sj h = by_way (reach ws start total root q) refl
   where
-    by_word : (t : ℕ) → reach ws start total root q ≡ Value t → inside start total t ≡ true → (x : Bool) → flag 0 (get_or ws (place start t j) 0) ≡ x
-        → (b : ℕ) × (unmap_entry ws start total root q j ≡ left (Stop b) ws)
+    by_word : (t : ℕ) → reach ws start total root q ≡ Ok t → inside start total t ≡ true → (x : Bool) → flag 0 (get_or ws (place start t j) 0) ≡ x
+        → (b : Refusal) × (unmap_entry ws start total root q j ≡ left (Err b) ws)
     by_word t k i true w = absurd (nowhere (sym h ∙ reach_step ws start total q root t j _ k (entry_there ws start total t j i sj w)))
-    by_word t k i false w = (not_mapped, unmap_entry_take ws start total root q j t k ∙ take_leaf_none ws start total t j i w)
+    by_word t k i false w = (NotMapped, unmap_entry_take ws start total root q j t k ∙ take_leaf_none ws start total t j i w)
 
-    by-table : (t : ℕ) → reach ws start total root q ≡ Value t → (x : Bool) → inside start total t ≡ x → (b : ℕ) × (unmap_entry ws start total root q j ≡ left (Stop b) ws)
+    by-table : (t : ℕ) → reach ws start total root q ≡ Ok t → (x : Bool) → inside start total t ≡ x → (b : Refusal) × (unmap_entry ws start total root q j ≡ left (Err b) ws)
     by-table t k true i = by_word t k i (flag 0 (get_or ws (place start t j) 0)) refl
-    by-table t k false i = (outside, unmap_entry_take ws start total root q j t k ∙ take_leaf_out ws start total t j i)
+    by-table t k false i = (TableOutside, unmap_entry_take ws start total root q j t k ∙ take_leaf_out ws start total t j i)
 
-    by_way : (x : Outcome) → reach ws start total root q ≡ x → (b : ℕ) × (unmap_entry ws start total root q j ≡ left (Stop b) ws)
-    by_way (Value t) k = by-table t k (inside start total t) refl
-    by_way (Stop b) k = (b, unmap_entry_stop ws start total root q j b k)
+    by_way : (x : Result ℕ Refusal) → reach ws start total root q ≡ x → (b : Refusal) × (unmap_entry ws start total root q j ≡ left (Err b) ws)
+    by_way (Ok t) k = by-table t k (inside start total t) refl
+    by_way (Err b) k = (b, unmap_entry_stop ws start total root q j b k)
 
 -- ---- what it leaves
 
@@ -64,15 +64,15 @@ pub record Cut (m m' : Memory) (root n : ℕ) (w : List ℕ) (f : ℕ) : Type 0 
   pub plain : PlainIn m root n → PlainIn m' root n
   pub start : start_frame m' ≡ start_frame m
   pub total : total_of m' ≡ total_of m
-  pub was : reach_in m root w ≡ Value f
-  pub gone : reach_in m' root w ≡ Stop not_mapped
+  pub was : reach_in m root w ≡ Ok f
+  pub gone : reach_in m' root w ≡ Err NotMapped
   pub rest : (p : List ℕ) → length p ≤ n → (p ≡ w → ⊥) → reach_in m' root p ≡ reach_in m root p
   pub leaves : (p : List ℕ) → length p ≡ n → (p ≡ w → ⊥) → leaf_in m' root p ≡ leaf_in m root p
   pub marks : (g : ℕ) → inside_in m g ≡ true → (g ≡ f → ⊥) → mark_in m' g ≡ mark_in m g
 
 -- the page's frame is reached by nothing now
 pub cut_away : {m m' : Memory} {root n : ℕ} {w : List ℕ} {f : ℕ} → Ordered m root n → length w ≤ n → Cut m m' root n w f
-    → (p : List ℕ) → length p ≤ n → reach_in m' root p ≡ Value f → ⊥
+    → (p : List ℕ) → length p ≤ n → reach_in m' root p ≡ Ok f → ⊥
 cut_away {m' = m'} {root = root} {w = w} {f = f} o lw c p lp h = go (same_path p w)
   where
     go : Dec (p ≡ w) → ⊥
@@ -88,7 +88,7 @@ abbrev pub freed : Memory → ℕ → ℕ → ℕ → Memory
 freed m t j f = memory (stored m.words (start_frame m) t j 0) (without_mark m.frames (f - start_frame m))
 
 module _ {m : Memory} {root n : ℕ} (o : Ordered m root n) (q : List ℕ) (j t f : ℕ) (lq : suc (length q) ≡ n) (sj : j < 512)
-    (hq : reach_in m root q ≡ Value t) (hf : reach_in m root (q ++ (j ∷ [])) ≡ Value f) where
+    (hq : reach_in m root q ≡ Ok t) (hf : reach_in m root (q ++ (j ∷ [])) ≡ Ok f) where
   under : length q < n
   under = omega arith
 

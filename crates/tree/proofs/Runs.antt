@@ -6,8 +6,8 @@ use mathlib.Core.List.Memᴰ
 use mathlib.Core.List.Permᴰ
 use mathlib.Core.List.{List, [], ◌∷◌, ◌++◌, foldl-append}
 use native.Mathlib.Omega.{arith}
-use Rattle.answer.specs.declared.Outcome.{Outcome}
-use Rattle.answer.specs.declared.Outcome.TheVariants.{Value, Stop}
+use Rattle.std.specs.Prelude.{Ok, Err, Result}
+use Rattle.answer.specs.declared.Refusal.{Refusal}
 use Rattle.frame.specs.Found.{tally, and_found}
 use Rattle.paging.specs.Map.{Memory}
 use Rattle.paging.specs.Pages.{Ran, map_fresh, map_pages, free_page, free_pages}
@@ -28,32 +28,32 @@ run v (suc n) = v ∷ run (v + 4096) n
 
 -- the first page of a run, and what follows
 module _ (up : ℕ) (w u : Bool) (m : Memory) (root v k n : ℕ) where
-  pub map_pages_on : (x : ℕ) → (map_fresh up w u m root v).walked ≡ Value x
+  pub map_pages_on : (x : ℕ) → (map_fresh up w u m root v).walked ≡ Ok x
       → map_pages up w u m root v k (suc n) ≡ map_pages up w u (map_fresh up w u m root v).mem root (v + 4096) (suc k) n
   unfolding map_pages
   map_pages_on x h = rw h
 
-  pub map_pages_stop : (a : ℕ) → (map_fresh up w u m root v).walked ≡ Stop a
-      → map_pages up w u m root v k (suc n) ≡ record { walked = Stop a; done = k; mem = (map_fresh up w u m root v).mem }
+  pub map_pages_stop : (a : Refusal) → (map_fresh up w u m root v).walked ≡ Err a
+      → map_pages up w u m root v k (suc n) ≡ record { walked = Err a; done = k; mem = (map_fresh up w u m root v).mem }
   unfolding map_pages
   map_pages_stop a h = rw h
 
 -- a run that is met takes all its pages
-pub map_pages_met : {root up : ℕ} (w u : Bool) (n : ℕ) {m : Memory} → Ordered m root (suc up) → (v k x : ℕ) → (map_pages up w u m root v k n).walked ≡ Value x
+pub map_pages_met : {root up : ℕ} (w u : Bool) (n : ℕ) {m : Memory} → Ordered m root (suc up) → (v k x : ℕ) → (map_pages up w u m root v k n).walked ≡ Ok x
     → Takes root up m (run v n) (map_pages up w u m root v k n).mem
 unfolding map_pages
 map_pages_met w u zero o v k x h = none
 map_pages_met {root} {up} w u (suc n) {m} o v k x h = go (map_fresh up w u m root v).walked refl (λ g. map_pages_met w u n g (v + 4096) (suc k) x)
   where
-    go : (y : Outcome) → (map_fresh up w u m root v).walked ≡ y
-        → (Ordered (map_fresh up w u m root v).mem root (suc up) → (map_pages up w u (map_fresh up w u m root v).mem root (v + 4096) (suc k) n).walked ≡ Value x
+    go : (y : Result ℕ Refusal) → (map_fresh up w u m root v).walked ≡ y
+        → (Ordered (map_fresh up w u m root v).mem root (suc up) → (map_pages up w u (map_fresh up w u m root v).mem root (v + 4096) (suc k) n).walked ≡ Ok x
         → Takes root up (map_fresh up w u m root v).mem (run (v + 4096) n) (map_pages up w u (map_fresh up w u m root v).mem root (v + 4096) (suc k) n).mem)
         → Takes root up m (v ∷ run (v + 4096) n) (map_pages up w u m root v k (suc n)).mem
-    go (Value y) e r =
+    go (Ok y) e r =
         let t = (take_met o w u v y e).1 in
         let on = map_pages_on up w u m root v k n y e in
         rw on (more t (r t.grew.order (ap (λ (q : Ran). q.walked) (sym on) ∙ h)))
-    go (Stop a) e r = absurd (nowhere (ap (λ (q : Ran). q.walked) (sym (map_pages_stop up w u m root v k n a e)) ∙ h))
+    go (Err a) e r = absurd (nowhere (ap (λ (q : Ran). q.walked) (sym (map_pages_stop up w u m root v k n a e)) ∙ h))
 
 -- ---- freed
 

@@ -8,11 +8,11 @@ use mathlib.Core.Logic.{◌⊎◌, inl}
 use native.Mathlib.Omega.{arith}
 use native.Mathlib.Decide.{ℕ_discrete}
 use lib.ListN.{length, replicate, length-replicate}
-use Rattle.answer.specs.Numbers.{not_mapped}
+use Rattle.std.specs.Prelude.{Ok}
+use Rattle.answer.specs.declared.Refusal.TheVariants.{NotMapped}
 use Rattle.bitmap.proofs.Marks.{mark_own, mark_other, mark_words, length_mark, count_mark, marked_replicate, replicate_words, count_replicate}
 use Rattle.frame.specs.Frames.{Frames, frames, is_levels, inside, with_mark, unused, with_levels}
 use Rattle.frame.proofs.Laws.{inside_yes, inside_from}
-use Rattle.answer.specs.declared.Outcome.TheVariants.{Value}
 use Rattle.paging.specs.Walk.{entry_at, reach}
 use Rattle.paging.specs.Map.{Memory, memory, zero_frame}
 use Rattle.paging.proofs.Map.{length_clear}
@@ -35,11 +35,11 @@ module _ (ws : List ℕ) (start total n : ℕ) (some : 0 < total) (few : total �
   root_in = inside_yes start total start (omega arith) (omega arith)
 
   -- nothing but the root is reached
-  pub fresh_only : (p : List ℕ) (f : ℕ) → reach_in (fresh ws start total n) start p ≡ Value f → (p ≡ []) × (f ≡ start)
+  pub fresh_only : (p : List ℕ) (f : ℕ) → reach_in (fresh ws start total n) start p ≡ Ok f → (p ≡ []) × (f ≡ start)
   unfolding reach with_mark
   fresh_only [] f h = (refl, cc)
   fresh_only (i ∷ p) f h =
-      absurd (nowhere (sym (reach_stuck (zero_frame ws start start) start total [] start start i p not_mapped refl (zero_blank ws start total start root_in enough i)) ∙ h))
+      absurd (nowhere (sym (reach_stuck (zero_frame ws start start) start total [] start start i p NotMapped refl (zero_blank ws start total start root_in enough i)) ∙ h))
 
   -- nothing but the root is marked
   pub fresh_root : mark_in (fresh ws start total n) start ≡ 1
@@ -85,7 +85,7 @@ module _ (ws : List ℕ) (start total n : ℕ) (some : 0 < total) (few : total �
     where
       by : (f : ℕ) → inside_in (fresh ws start total n) f ≡ true → mark_in (fresh ws start total n) f ≡ 1 → Dec (f ≡ start)
           → Reached (fresh ws start total n) start n f ⊎ Memᴰ f [] ⊎ None f
-      by f ins done (yes e) = inl (record { path = []; short = omega arith; comes = ap Value (sym e) })
+      by f ins done (yes e) = inl (record { path = []; short = omega arith; comes = ap Ok (sym e) })
       by f ins done (no d) =
           let far : f - start ≡ 0 → ⊥ = λ z. d (omega (arith, inside_from start total f ins)) in
           absurd (omega (arith, mark_other (replicate 128 0) 0 (marked_replicate 128 0) (f - start) far, marked_replicate 128 (f - start), done))

@@ -7,14 +7,14 @@ use mathlib.Core.Logic.{inl, inr, ⊎_elim}
 use native.Mathlib.Omega.{arith}
 use native.Mathlib.Decide.{ℕ_discrete}
 use lib.ListN.{length, get_or, length-set}
+use Rattle.std.specs.Prelude.{Ok, Err}
+use Rattle.answer.specs.declared.Refusal.TheVariants.{NotMapped}
 use Rattle.bits.specs.Bit.{flag}
-use Rattle.answer.specs.Numbers.{not_mapped}
 use Rattle.bitmap.specs.Bitmap.{marked, mark}
 use Rattle.bitmap.proofs.Marks.{mark_own, mark_other, mark_more, length_mark, mark_words, count_mark}
 use Rattle.entry.specs.Entry.{frame_of}
 use Rattle.frame.specs.Frames.{with_mark}
 use Rattle.frame.proofs.Laws.{inside_yes, inside_from}
-use Rattle.answer.specs.declared.Outcome.TheVariants.{Value, Stop}
 use Rattle.paging.specs.Walk.{place, entry_at}
 use Rattle.paging.specs.Map.{Memory, memory, start_frame, total_of, zero_frame}
 use Rattle.paging.proofs.Map.{length_clear}
@@ -46,7 +46,7 @@ module _ {m : Memory} {root n : ℕ} (o : Ordered m root n) (j : ℕ) (lt : j < 
   unfolding with_mark
   fresh_marked = ap (marked (mark m.frames.bits j)) fresh_at ∙ mark_own m.frames.bits j free (in_bitmap o j lt)
 
-  fresh_new : (p : List ℕ) → length p ≤ n → reach_in m root p ≡ Value (start_frame m + j) → ⊥
+  fresh_new : (p : List ℕ) → length p ≤ n → reach_in m root p ≡ Ok (start_frame m + j) → ⊥
   fresh_new = free_unreached o (start_frame m + j) fresh_free
 
   -- no walk sees it
@@ -61,7 +61,7 @@ module _ {m : Memory} {root n : ℕ} (o : Ordered m root n) (j : ℕ) (lt : j < 
       idle_leaf m.words _ (start_frame m) (total_of m) root n (start_frame m + j) (zero_other m.words (start_frame m) (total_of m) (start_frame m + j) fresh_inside) fresh_new
 
   -- it has no entry
-  pub fresh_blank : (i : ℕ) → entry_at (freshened m j).words (start_frame m) (total_of m) (start_frame m + j) i ≡ Stop not_mapped
+  pub fresh_blank : (i : ℕ) → entry_at (freshened m j).words (start_frame m) (total_of m) (start_frame m + j) i ≡ Err NotMapped
   fresh_blank = zero_blank m.words (start_frame m) (total_of m) (start_frame m + j) fresh_inside o.sizes.enough
 
   -- and is the one frame that is marked and not reached
@@ -91,7 +91,7 @@ module _ {m : Memory} {root n : ℕ} (o : Ordered m root n) (j : ℕ) (lt : j < 
     used = λ f ins no-mark done. inr (own f ins no-mark done);
   }
     where
-      back : (p : List ℕ) {x : ℕ} → length p ≤ n → reach_in (freshened m j) root p ≡ Value x → reach_in m root p ≡ Value x
+      back : (p : List ℕ) {x : ℕ} → length p ≤ n → reach_in (freshened m j) root p ≡ Ok x → reach_in m root p ≡ Ok x
       back p lp h = sym (fresh_reach p lp) ∙ h
 
       own : (f : ℕ) → inside_in m f ≡ true → mark_in m f ≡ 0 → marked (mark m.frames.bits j) (f - start_frame m) ≡ 1 → f ≡ start_frame m + j
@@ -113,16 +113,16 @@ pub record Names (m : Memory) (root n : ℕ) (q : List ℕ) (e f : ℕ) : Type 0
   pub names : frame_of e ≡ f
   pub lent : inside_in m f ≡ true
   pub mine : mark_in m f ≡ 1
-  pub new : (p : List ℕ) → length p ≤ n → reach_in m root p ≡ Value f → ⊥
-  pub blank : suc (length q) < n → (i : ℕ) → entry_at m.words (start_frame m) (total_of m) f i ≡ Stop not_mapped
+  pub new : (p : List ℕ) → length p ≤ n → reach_in m root p ≡ Ok f → ⊥
+  pub blank : suc (length q) < n → (i : ℕ) → entry_at m.words (start_frame m) (total_of m) f i ≡ Err NotMapped
   pub low : suc (length q) < n → flag 7 e ≡ false
 
-module _ {m : Memory} {root n : ℕ} (o : Ordered m root n) (q : List ℕ) (s j : ℕ) (lq : length q < n) (hq : reach_in m root q ≡ Value s) (small : j < 512)
+module _ {m : Memory} {root n : ℕ} (o : Ordered m root n) (q : List ℕ) (s j : ℕ) (lq : length q < n) (hq : reach_in m root q ≡ Ok s) (small : j < 512)
     (absent : flag 0 (get_or m.words (place (start_frame m) s j) 0) ≡ false) {e f : ℕ} (c : Names m root n q e f) where
-  none : entry_at m.words (start_frame m) (total_of m) s j ≡ Stop not_mapped
+  none : entry_at m.words (start_frame m) (total_of m) s j ≡ Err NotMapped
   none = entry_absent m.words (start_frame m) (total_of m) s j (o.tree.into q s (omega arith) hq) small absent
 
-  pub write_at : reach_in (written m s j e) root (q ++ (j ∷ [])) ≡ Value f
+  pub write_at : reach_in (written m s j e) root (q ++ (j ∷ [])) ≡ Ok f
   write_at = grown_at o.tree o.sizes.enough q s j lq hq small e f c.bit c.names c.new c.blank
 
   -- f is reached, along that path, and nothing else is new

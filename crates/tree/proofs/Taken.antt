@@ -6,11 +6,12 @@ use mathlib.Core.List.{List, ◌∷◌, [], ◌++◌}
 use mathlib.Core.Logic.{◌⊎◌, inl, inr, ⊎_elim}
 use native.Mathlib.Omega.{arith}
 use lib.ListN.{length}
+use Rattle.answer.specs.declared.Refusal.{Refusal}
+use Rattle.std.specs.Prelude.{Ok, Err}
 use Rattle.bitmap.specs.Bitmap.{marked}
 use Rattle.entry.specs.Entry.{entry_of}
 use Rattle.entry.proofs.Entry.{maps_entry, frame_entry}
 use Rattle.frame.specs.Frames.{with_mark}
-use Rattle.answer.specs.declared.Outcome.TheVariants.{Value, Stop}
 use Rattle.paging.specs.Map.{Memory, start_frame, total_of, Out}
 use Rattle.paging.specs.Calls.{map_at}
 use Rattle.tree.proofs.Paths.{Leads, leads_refl, leads_whole, leads_snoc, path, upper, last, length_path, length_upper, path_split, upper_small, last_small}
@@ -26,8 +27,8 @@ pub record Took (m : Memory) (root up v f : ℕ) (m' : Memory) : Type 0 where
   pub grew : Grew m m' root (suc up) (path up v) (Free m) None
   pub lent : inside_in m f ≡ true
   pub free : mark_in m f ≡ 0
-  pub page : reach_in m' root (path up v) ≡ Value f
-  pub off : (x : ℕ) → reach_in m root (path up v) ≡ Value x → ⊥
+  pub page : reach_in m' root (path up v) ≡ Ok f
+  pub off : (x : ℕ) → reach_in m root (path up v) ≡ Ok x → ⊥
   pub leaves : (p : List ℕ) → length p ≡ suc up → (p ≡ path up v → ⊥) → leaf_in m' root p ≡ leaf_in m root p
 
 -- a page that was not, though a frame f was: f is marked and nothing reaches it; new tables lie above the page, and no leaf changed
@@ -36,7 +37,7 @@ pub record Lost (m : Memory) (root up v f : ℕ) (m' : Memory) : Type 0 where
   pub lent : inside_in m f ≡ true
   pub free : mark_in m f ≡ 0
   pub mine : mark_in m' f ≡ 1
-  pub away : (p : List ℕ) → length p ≤ suc up → reach_in m' root p ≡ Value f → ⊥
+  pub away : (p : List ℕ) → length p ≤ suc up → reach_in m' root p ≡ Ok f → ⊥
   pub leaves : (p : List ℕ) → length p ≡ suc up → leaf_in m' root p ≡ leaf_in m root p
 
 -- frame start + j, zeroed, mapped at v
@@ -47,11 +48,11 @@ module _ {m : Memory} {root up : ℕ} (o : Ordered m root (suc up)) (w u : Bool)
   lu : length (upper up v) ≤ suc up
   lu = omega (arith, length_upper up v)
 
-  unreached : (p : List ℕ) → length p ≤ suc up → reach_in (freshened m j) root p ≡ Value (start_frame m + j) → ⊥
+  unreached : (p : List ℕ) → length p ≤ suc up → reach_in (freshened m j) root p ≡ Ok (start_frame m + j) → ⊥
   unreached p lp h = free_unreached o (start_frame m + j) (fresh_free o j lt free) p lp (sym (fresh_reach o j lt free p lp) ∙ h)
 
   -- mapped
-  pub frame_took : (x : ℕ) → (map_frame up w u m root v j).walked ≡ Value x → Took m root up v (start_frame m + j) (map_frame up w u m root v j).mem
+  pub frame_took : (x : ℕ) → (map_frame up w u m root v j).walked ≡ Ok x → Took m root up v (start_frame m + j) (map_frame up w u m root v j).mem
   unfolding with_mark
   frame_took x h =
       let f : ℕ = start_frame m + j in
@@ -61,7 +62,7 @@ module _ {m : Memory} {root up : ℕ} (o : Ordered m root (suc up)) (w u : Bool)
       record {
         grew = grew_trans (omega (arith, length_path up v)) g r.grew (λ y z. absurd z)
             (λ y. ⊎_elim (free_before g y) (λ d. ap (λ (y : ℕ). marked m.frames.bits (y - start_frame m)) d ∙ fresh_free o j lt free))
-            (λ y d. inl (record { path = path up v; lead = leads_refl (path up v); comes = r.page ∙ ap Value (sym d) })) (λ y z. z);
+            (λ y d. inl (record { path = path up v; lead = leads_refl (path up v); comes = r.page ∙ ap Ok (sym d) })) (λ y z. z);
         lent = ins;
         free = fresh_free o j lt free;
         page = r.page;
@@ -73,7 +74,7 @@ module _ {m : Memory} {root up : ℕ} (o : Ordered m root (suc up)) (w u : Bool)
       }
 
   -- not mapped
-  pub frame_lost : (a : ℕ) → (map_frame up w u m root v j).walked ≡ Stop a → Lost m root up v (start_frame m + j) (map_frame up w u m root v j).mem
+  pub frame_lost : (a : Refusal) → (map_frame up w u m root v j).walked ≡ Err a → Lost m root up v (start_frame m + j) (map_frame up w u m root v j).mem
   unfolding with_mark
   frame_lost a h =
       let f : ℕ = start_frame m + j in
@@ -92,18 +93,18 @@ module _ {m : Memory} {root up : ℕ} (o : Ordered m root (suc up)) (w u : Bool)
 
 module _ {m m' : Memory} {root up v f : ℕ} (t : Took m root up v f m') where
   -- a path that is reached was so before, is the page's, or is a proper leading run of it
-  pub took_new : (p : List ℕ) (x : ℕ) → length p ≤ suc up → reach_in m' root p ≡ Value x
-      → (reach_in m root p ≡ Value x) ⊎ ((p ≡ path up v) × (x ≡ f)) ⊎ (Leads p (upper up v) × Free m x)
+  pub took_new : (p : List ℕ) (x : ℕ) → length p ≤ suc up → reach_in m' root p ≡ Ok x
+      → (reach_in m root p ≡ Ok x) ⊎ ((p ≡ path up v) × (x ≡ f)) ⊎ (Leads p (upper up v) × Free m x)
   took_new p x lp h = ⊎_elim (λ a. inl a) (λ a. inr (part (leads_snoc p (upper up v) (last up v) (rw (path_split up v) a.0)) a.1)) (t.grew.grew p x lp h)
     where
       part : Leads p (upper up v) ⊎ (p ≡ upper up v ++ (last up v ∷ [])) → Free m x → ((p ≡ path up v) × (x ≡ f)) ⊎ (Leads p (upper up v) × Free m x)
       part (inl l) free = inr (l, free)
       part (inr e) free =
           let pe : p ≡ path up v = e ∙ path_split up v in
-          let a : reach_in m' root (path up v) ≡ Value x = subst (λ (q : List ℕ). reach_in m' root q ≡ Value x) pe h in
+          let a : reach_in m' root (path up v) ≡ Ok x = subst (λ (q : List ℕ). reach_in m' root q ≡ Ok x) pe h in
           let b = t.page in
           inl (pe, cc)
 
   -- and each leading run of the page's path is reached
-  pub took_lead : {p : List ℕ} → Leads p (path up v) → (x : ℕ) × (reach_in m' root p ≡ Value x)
+  pub took_lead : {p : List ℕ} → Leads p (path up v) → (x : ℕ) × (reach_in m' root p ≡ Ok x)
   took_lead l = reach_lead m'.words (start_frame m') (total_of m') root f l t.page

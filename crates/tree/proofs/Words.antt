@@ -8,10 +8,10 @@ use native.Mathlib.Decide.{ℕ_discrete}
 use lib.Arith.{lt_of_le-ne}
 use lib.ListN.{length, get_or, set}
 use lib.Seq.{get_or-set_same, get_or-set_other}
-use Rattle.answer.specs.Numbers.{not_mapped}
+use Rattle.std.specs.Prelude.{Err}
+use Rattle.answer.specs.declared.Refusal.TheVariants.{NotMapped}
 use Rattle.frame.specs.Frames.{inside}
 use Rattle.frame.proofs.Laws.{inside_from, inside_under}
-use Rattle.answer.specs.declared.Outcome.TheVariants.{Stop}
 use Rattle.paging.specs.Walk.{place, entry_at}
 use Rattle.paging.specs.Map.{clear, zero_frame}
 use Rattle.paging.proofs.Map.{length_clear}
@@ -42,7 +42,7 @@ module _ (ws : List ℕ) (start total f : ℕ) (inf : inside start total f ≡ t
       (λ k l e. d (place_table start f k t i (inside_from start total f inf) (inside_from start total t ins) l sm e))
 
   -- and the frame has no entry
-  pub zero_blank : total * 512 ≤ length ws → (i : ℕ) → entry_at (zero_frame ws start f) start total f i ≡ Stop not_mapped
+  pub zero_blank : total * 512 ≤ length ws → (i : ℕ) → entry_at (zero_frame ws start f) start total f i ≡ Err NotMapped
   zero_blank enough i =
       entry_zero (zero_frame ws start f) start total f i inf
       (λ sm. clear_own ws ((f - start) * 512) 512 i sm (omega (arith, inside_under start total f inf)))

@@ -1,17 +1,23 @@
 -- A run of the key program, document 01's 'The key program': where it stands, and one step of it.
-use Rattle.std.specs.Prelude.{ℕ, zero, suc, ◌+◌, Bool, true, false, List, [], ◌∷◌, ◌++◌, take, drop}
+use Rattle.std.specs.Prelude.{ℕ, zero, suc, ◌+◌, Bool, true, false, List, [], ◌∷◌, ◌++◌, Ok, Err, None, Some, drop}
+use Rattle.std.specs.declared.ops.ControlFlow.{ControlFlow}
+use Rattle.std.specs.declared.ops.ControlFlow.TheVariants.{Continue, Break}
 use Rattle.bits.specs.Bit.{pick}
+use Rattle.board.specs.declared.Records.{Records}
 use Rattle.board.specs.Board.{Board}
 use Rattle.board.specs.Packed.{board_of}
-use Rattle.tape.specs.declared.Next.{Next}
-use Rattle.tape.specs.declared.Next.TheVariants.{Read, Finished, Malformed}
-use Rattle.tape.specs.Tape.{next, call_size}
+use Rattle.tape.specs.Tape.{Next, next, call_size}
 use Rattle.tape.specs.Text.{line_text, count_text}
 use Rattle.player.specs.Play.{Turn, play}
-use Rattle.streams.specs.Streams.{left_of}
-use Rattle.turn.specs.declared.Stage.{Stage}
-use Rattle.turn.specs.declared.Stage.TheVariants.{Going, Ended, Unread, Unwritten, TooLong}
-use Rattle.turn.specs.declared.State.{State}
+use Rattle.streams.specs.Streams.{Left}
+
+-- How far a run is: under way, at its end, or stopped without one: a read or a write failed, or the tape is longer than a run counts.
+pub data Stage : Type 0 where
+  Going : Stage
+  Ended : Stage
+  Unread : Stage
+  Unwritten : Stage
+  TooLong : Stage
 
 -- the bytes of the tape that are not taken yet, the offset of the first of them, the board, the text put so far, and how far the run is
 pub record Run : Type 0 where
@@ -34,9 +40,9 @@ played r size t = run (drop size r.left) (r.offset + size) t.board (r.text ++ li
 
 -- 'An unknown kind, short body or other first byte in kind 3 ends the run with `tape` and that kind byte's offset before the last line'
 abbrev pub step_by : Run → Next → Run
-step_by r Finished = run r.left r.offset r.board r.text Ended
-step_by r Malformed = run r.left r.offset r.board (r.text ++ count_text tape_word r.offset) Ended
-step_by r (Read c) = played r (call_size c) (play r.board c)
+step_by r (Ok None) = run r.left r.offset r.board r.text Ended
+step_by r (Err e) = run r.left r.offset r.board (r.text ++ count_text tape_word r.offset) Ended
+step_by r (Ok (Some c)) = played r (call_size c) (play r.board c)
 
 unfoldable pub step : Run → Run
 step r = step_by r (next r.left)
@@ -60,7 +66,12 @@ unfoldable pub turns : ℕ → Run → Run
 turns zero r = r
 turns (suc n) r = turn (turns n r)
 
--- a run as code holds it: bytes and text in two buffers (crate streams), the board beside them
-abbrev pub run_of : List ℕ → List ℕ → List ℕ → List ℕ → List ℕ → List ℕ → List ℕ → State → Run
-run_of words bitmap kernel user marked buf out s =
-    run (left_of buf s.input) s.input.offset (board_of words bitmap kernel user marked s.records) (take s.put out) s.stage
+-- where a run is behind a step, by what code says of it: whether it goes on
+abbrev pub stage_behind : ControlFlow (Unit {0}) (Unit {0}) → Stage
+stage_behind (Continue u) = Going
+stage_behind (Break u) = Ended
+
+-- a run as code holds it: the board, the tape's bytes and the text
+abbrev pub run_of : List ℕ → List ℕ → List ℕ → List ℕ → List ℕ → Records → Left → List ℕ → Stage → Run
+run_of words bitmap kernel user marked records input out stage =
+    run input.bytes input.offset (board_of words bitmap kernel user marked records) out stage

@@ -1,14 +1,16 @@
 // One step of a run of the key program: the next call of the tape, played on the board, and its line put.
 #![tactic(auto)]
 
-ghost use Rattle.std.specs.Prelude.{◌≡◌, true, ◌+◌, ◌≤◌};
+ghost use Rattle.std.specs.Prelude.{◌≡◌, true, ◌+◌, ◌≤◌, length};
 ghost use Rattle.board.specs.Packed.{lists_fit};
-ghost use Rattle.turn.specs.Run.{step, run_of};
+ghost use Rattle.turn.specs.Run.{Stage, step, stage_behind, run_of};
 
 use board::Records;
 use frame::Marks;
-use streams::{Input, reading};
-use tape::Next;
+use std::ops::ControlFlow;
+use streams::reading::Input;
+use streams::writing::Output;
+use tape::Malformed;
 
 // The bytes of the three lists.
 pub type KernelBytes = [u8; vm_list::VM_SIZE];
@@ -17,25 +19,6 @@ pub type UserBytes = [u8; mappings::MMAP_SIZE];
 
 pub type MarkedBytes = [u8; cow::list::MARKED_SIZE];
 
-// How far a run is: under way, at its end, or stopped without one: a read or a write failed, or the tape is longer than a run counts.
-#[derive(Clone, Copy)]
-pub enum Stage {
-    Going,
-    Ended,
-    Unread,
-    Unwritten,
-    TooLong,
-}
-
-// Where a run stands: its input, the end of what is put, its records, and its stage.
-#[derive(Clone, Copy)]
-pub struct State {
-    pub input: Input,
-    pub put: usize,
-    pub records: Records,
-    pub stage: Stage,
-}
-
 // The next call of the tape, played, and its line put; or the end of the run, with `tape` and an offset where bytes are no call.
 pub fn play_next(
     words: &mut [u64],
@@ -43,52 +26,32 @@ pub fn play_next(
     kernel: &mut KernelBytes,
     user: &mut UserBytes,
     marked: &mut MarkedBytes,
-    buf: &[u8; 65536],
-    out: &mut [u8; 65536],
-    from: State,
-) -> State
-    requires at_le_filled { from.input.at ≤ from.input.filled }
-    requires filled_bound { from.input.filled ≤ 65536 }
-    requires offset_bound { from.input.offset ≤ 9223372036854775808 }
-    requires put_bound { from.put + 64 ≤ 65536 }
+    records: &mut Records,
+    input: &mut Input,
+    out: &mut Output,
+) -> ControlFlow<()>
+    requires offset_bound { input.old.offset ≤ 9223372036854775808 }
+    requires room { length out.old + 64 ≤ 65536 }
     requires marked_value { lists_fit kernel.old user.old marked.old ≡ true }
-    ensures result_after { run_of words.new bitmap.new kernel.new user.new marked.new
-        buf.now out.new result
-        ≡ step (run_of words.old bitmap.old kernel.old user.old marked.old
-        buf.now out.old from) }
-    ensures at_le_filled_2 { result.input.at ≤ result.input.filled }
-    ensures filled_value { result.input.filled ≡ from.input.filled }
-    ensures source_value { result.input.source ≡ from.input.source }
-    ensures put_bound_2 { result.put ≤ 65536 }
+    ensures result_after { (s : Stage) → run_of words.new bitmap.new kernel.new user.new marked.new records.new
+        input.new out.new (stage_behind result)
+        ≡ step (run_of words.old bitmap.old kernel.old user.old marked.old records.old
+        input.old out.old s) }
+    ensures source_value { input.new.source ≡ input.old.source }
     ensures marked_after { lists_fit kernel.new user.new marked.new ≡ true }
 {
-    let input = from.input;
-    let records = from.records;
-    let at = input.at;
-    let end = input.filled;
-    match reading::next_of(buf, at, end) {
-        Next::Finished => State {
-            input,
-            put: from.put,
-            records,
-            stage: Stage::Ended,
-        },
-        Next::Malformed => State {
-            input,
-            put: tape::text::put_count(out, from.put, b"tape", input.offset),
-            records,
-            stage: Stage::Ended,
-        },
-        Next::Read(call) => {
-            let played = player::play(words, bitmap, kernel, user, marked, records, call);
-            let line = played.line;
-            let left = played.records;
-            State {
-                input: reading::past(input, tape::read::call_size(call)),
-                put: tape::text::put_line(out, from.put, played.kind, line),
-                records: left,
-                stage: Stage::Going,
-            }
+    match input.next() {
+        Ok(None) => ControlFlow::Break(()),
+        Err(Malformed) => {
+            out.put_count(b"tape", input.offset());
+            ControlFlow::Break(())
+        }
+        Ok(Some(call)) => {
+            let played = player::play(words, bitmap, kernel, user, marked, *records, call);
+            *records = played.records;
+            input.take(call.size());
+            out.put_line(played.kind, played.line);
+            ControlFlow::Continue(())
         }
     }
 }

@@ -1,8 +1,9 @@
 -- What the calls on the user's memory mappings are lent, and what they leave.
+use Rattle.std.specs.Prelude.{Result}
+use Rattle.answer.specs.declared.Refusal.{Refusal}
 use Rattle.std.specs.Prelude.{ℕ, ◌%◌, Bool, eqb}
 use Rattle.bits.specs.Bit.{both}
 use Rattle.slots.specs.Slots.{Slots}
-use Rattle.answer.specs.declared.Outcome.{Outcome}
 use Rattle.paging.specs.Map.{Memory}
 use Rattle.paging.specs.Calls.{whole}
 use Rattle.mappings.specs.declared.MappedRegion.{MappedRegion}
@@ -18,10 +19,10 @@ abbrev pub user : Memory → Slots MappedRegion → ℕ → User
 user m s next = record { mem = m; regions = s; next = next }
 
 pub record UserDid : Type 0 where
-  pub answer : Outcome
+  pub answer : Result ℕ Refusal
   pub user : User
 
-abbrev pub user_did : Outcome → User → UserDid
+abbrev pub user_did : Result ℕ Refusal → User → UserDid
 user_did a s = record { answer = a; user = s }
 
 abbrev pub sound_user : User → ℕ → Bool

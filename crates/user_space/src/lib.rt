@@ -11,6 +11,7 @@ ghost use Rattle.user_space.specs.Packed.{lent_user};
 use address::Frame;
 use frame::{FrameAllocator, Marks};
 
+// The flags of mmap and mprotect stay plain numbers: the C interface takes them as `int`, any bits set.
 pub const PROT_READ: i32 = 0x1;
 
 pub const PROT_WRITE: i32 = 0x2;

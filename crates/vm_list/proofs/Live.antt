@@ -1,5 +1,5 @@
 -- The slots of a list are copied as far as they are live.
-use Prim.Native.Nat.{ℕ, suc, ◌+◌, ◌-◌, ◌<◌, ◌≤◌, max}
+use Prim.Native.Nat.{ℕ, suc, ◌+◌, ◌-◌, ◌<◌, ◌≤◌, min, max}
 use mathlib.Core.Path.{◌≡◌, refl, sym, ◌∙◌, ap}
 use mathlib.Core.Bool.{Bool, true, false, not}
 use mathlib.Core.List.{List, [], ◌∷◌, ◌++◌, append_assoc}
@@ -7,15 +7,15 @@ use native.Mathlib.Omega.{arith}
 use native.Mathlib.Numerals.{add-one}
 use lib.Dec.{eqb}
 use lib.ListN.{length-set, length, length-replicate, get_or, take, drop, set, replicate, length-append, length-drop, take-append-drop}
-use lib.Seq.{drop-cons, take-suc, append_snoc, set_at, take_at, length-take-le}
+use lib.Seq.{drop-cons, take-suc, append_snoc, set_at, take_at, take_all, length-take-le}
 use borrow.Author.Tests.{eqb-true}
 use Rattle.bits.proofs.Choice.{both_true}
 use Rattle.slots.proofs.Filled.{drop_replicate}
 use Rattle.slots.specs.Slots.{Slots, slotted, listed, every, first_at, store}
 use Rattle.slots.proofs.Stored.{store_count}
 use Rattle.regions.specs.declared.VMRegion.{VMRegion}
-use Rattle.regions.specs.Regions.{vm_region, no_vm_region, is_no_slot, well_placed_vm, sound_regions, fits, taken, merge}
-use Rattle.regions.specs.List.{freed_at}
+use Rattle.regions.specs.Regions.{vm_region, no_vm_region, is_no_slot, well_placed_vm, sound_regions, fits, taken, taken_slots, merge}
+use Rattle.regions.specs.List.{HasRoom, freed_at}
 use Rattle.vm_list.specs.Packed.{vm_in, vm_fit, overwritten}
 use Rattle.regions.proofs.Placed.{sound_few, sound_placed, sound_blank}
 use Rattle.vm_list.proofs.RoundTrip.{slots_long}
@@ -32,9 +32,29 @@ copied d i l m zs h k e =
     ∙ sym (append_snoc (take i l) a (drop (suc i) m))
     )
 
--- once the first n are, they are the same
-pub front : {A : Type 0} (i n : ℕ) (l m zs : List A) → i ≡ n → n ≤ length l → zs ≡ take i l ++ m → take n zs ≡ take n l
-front i n l m zs e h z = ap (take n) (z ∙ ap (λ (k : ℕ). take k l ++ m) e) ∙ take_at (take n l) m n (length-take-le n l h)
+-- ---- an array of m slots, the first n of them read
+
+module _ {A : Type 0} (n m : ℕ) (d : A) (rs slots : List A) (h : n ≤ m) (k : n ≤ length slots) (e : rs ≡ take (length (take n (replicate m d))) slots) where
+  wide : length (take n (replicate m d)) ≡ n
+  wide = length-take-le n (replicate m d) (omega (arith, length-replicate m d))
+
+  same : rs ≡ take n slots
+  same = e ∙ ap (λ (i : ℕ). take i slots) wide
+
+  as_long : length rs ≡ n
+  as_long = ap length same ∙ length-take-le n slots k
+
+  pub read_long : length (rs ++ drop n (replicate m d)) ≡ m
+  read_long = omega (arith, length-append rs (drop n (replicate m d)), as_long, length-drop n (replicate m d), length-replicate m d)
+
+  pub read_front : take n (rs ++ drop n (replicate m d)) ≡ take n slots
+  read_front = take_at rs (drop n (replicate m d)) n as_long ∙ same
+
+-- the first k slots of an array are written
+pub written : (k : ℕ) (zs slots : List VMRegion) → k ≤ length zs → overwritten (length (take k zs)) (take k zs) slots ≡ overwritten k zs slots
+written k zs slots h =
+    let e = length-take-le k zs h in
+    ap (λ (i : ℕ). take i (take k zs) ++ drop i slots) e ∙ ap (λ (l : List VMRegion). l ++ drop k slots) (take_all k (take k zs) (omega arith))
 
 -- ---- slots past the count are zero
 
@@ -128,3 +148,41 @@ module _ (bs : List ℕ) (n : ℕ) (sound : (vm_fit bs ≡ true) × (sound_regio
 
       pub step_back : {z : Slots VMRegion} → z ≡ slotted (overwritten (max n m) zs s.slots) m → z ≡ store no_vm_region (f (listed s)) s
       step_back z = z ∙ stored_live no_vm_region (f (listed s)) s n sound.2 l left
+
+  -- an array of m slots, the first n of them read: what is asked of a step on it, and what it leaves
+  module _ (m : ℕ) (d : VMRegion) (rs : List VMRegion) (small : n ≤ m) (e : rs ≡ take (length (take n (replicate m d))) s.slots) where
+    abbrev array : List VMRegion
+    array = rs ++ drop n (replicate m d)
+
+    there : n ≤ length s.slots
+    there = omega (arith, slots_long bs, few)
+
+    held : take n array ≡ take n s.slots
+    held = read_front n m d rs s.slots small there e
+
+    module _ (used : Bool) (size : ℕ) (room : min (n + 1) 256 ≤ m) where
+      pub take_asks : (i : ℕ) → i ≡ first_at (fits size) (listed s) → i < n
+          → HasRoom n array × (every well_placed_vm (take n array) ≡ true) × (i ≡ first_at (fits size) (take n array)) × (i < n)
+      take_asks i first k = ((few, omega (arith, read_long n m d rs s.slots small there e)), lies array held, first_live array held i size first, k)
+
+      pub take_left : (zs : List VMRegion) (k : ℕ) → slotted zs k ≡ taken_slots used size (slotted array n) → max n k ≤ min m 256
+      take_left zs k h =
+          omega (arith, step_count array held (taken used size) zs k h, take_few used size, take_more used size, few)
+
+      pub take_back : {zs : List VMRegion} {k : ℕ} → slotted zs k ≡ taken_slots used size (slotted array n) → {z : Slots VMRegion}
+          → z ≡ slotted (overwritten (max n k) zs s.slots) k → z ≡ taken_slots used size s
+      take_back {zs} {k} h z = step_back array held (taken used size) zs k h z
+
+    module _ (i : ℕ) where
+      abbrev freed : List VMRegion → List VMRegion
+      freed l = merge (freed_at i l)
+
+      pub free_asks : i < n → (n ≤ length array) × (every well_placed_vm (take n array) ≡ true) × (i < n)
+      free_asks k = (omega (arith, read_long n m d rs s.slots small there e), lies array held, k)
+
+      pub free_left : (zs : List VMRegion) (k : ℕ) → slotted zs k ≡ store no_vm_region (freed (take n array)) (slotted array n) → max n k ≤ n
+      free_left zs k h = omega (arith, step_count array held freed zs k h, free_few i)
+
+      pub free_back : {zs : List VMRegion} {k : ℕ} → slotted zs k ≡ store no_vm_region (freed (take n array)) (slotted array n) → {z : Slots VMRegion}
+          → z ≡ slotted (overwritten (max n k) zs s.slots) k → z ≡ store no_vm_region (freed (listed s)) s
+      free_back {zs} {k} h z = step_back array held freed zs k h z

@@ -17,7 +17,7 @@ use Rattle.packed.specs.Records.{records, packed}
 use Rattle.packed.proofs.Records.{length_packed, length_records}
 use Rattle.packed.proofs.Words.{length_bytes, pack_unpack}
 use Rattle.packed.proofs.Stores.{further, record_at, sets_head, slot_set, triple, length_triple, three_stored}
-use Rattle.packed.proofs.RoundTrip.{Bytes, number_small, next_word, number_kept, behind_two, first_kept, second_kept, slots_back, slots_kept, bytes_behind}
+use Rattle.packed.proofs.RoundTrip.{Bytes, number_small, next_word, number_kept, behind_two, first_kept, second_kept, slots_back, slots_kept, bytes_behind, pack_zeros}
 use Rattle.slots.specs.Slots.{Slots, slotted}
 use Rattle.slots.proofs.Filled.{zero_at}
 use Rattle.regions.specs.declared.VMRegion.{VMRegion}
@@ -42,6 +42,10 @@ slot_read i bs h a b c =
 
 pub slots_long : (bs : List ℕ) → length (vm_in bs).slots ≡ 256
 slots_long bs = length_records vm_region_in 256 (drop 8 bs)
+
+-- .. so n of them are there
+pub enough : (bs : List ℕ) (n : ℕ) → n ≤ 256 → n ≤ length (vm_in bs).slots
+enough bs n h = omega (arith, slots_long bs)
 
 pub fit_long : (bs : List ℕ) → vm_fit bs ≡ true → length bs ≡ vm_size
 fit_long bs fit = eqb-true _ vm_size (both_true _ _ fit).0
@@ -199,6 +203,10 @@ zeros (suc n) =
 pub all_zero : pack (replicate vm_words 0) ≡ vm_out no_regions
 unfolding pack
 all_zero = ap (λ (l : List ℕ). bytes 8 0 ++ l) (sym (zeros 256))
+
+-- .. as bytes that are filled with 0
+pub filled_zero : (n : ℕ) → n ≡ vm_size → replicate n 0 ≡ vm_out no_regions
+filled_zero n h = ap (λ (k : ℕ). replicate k 0) h ∙ sym (pack_zeros vm_words) ∙ all_zero
 
 pub no_regions_in : vm_in (vm_out no_regions) ≡ no_regions
 no_regions_in = vm_kept no_regions (omega arith) (length-replicate 256 no_vm_region) (λ i. subst VmFits (sym (zero_at no_vm_region 256 i)) (omega arith, omega arith))

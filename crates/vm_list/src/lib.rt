@@ -1,26 +1,24 @@
 // The list of vmalloc.rs where it stands, as packed bytes: its tests, its searches, and the steps that change it.
 #![tactic(auto)]
 
-ghost use Rattle.std.specs.Prelude.{◌≡◌, true, ◌-◌, ◌≤◌, ◌<◌, max, eqb, length, get_or, take, drop, set, replicate};
+ghost use Rattle.std.specs.Prelude.{◌≡◌, true, ◌+◌, ◌≤◌, ◌<◌, min, max, eqb, length, get_or, take, drop, set, replicate, MatchOption};
 ghost use Rattle.bits.specs.Bit.{both};
 ghost use Rattle.packed.specs.Words.{unpack};
 ghost use Rattle.slots.specs.Slots.{slotted, listed, every, first_at, store};
 ghost use Rattle.regions.specs.Regions.{no_vm_region, well_placed_vm, fits, sound_regions, taken_slots, merge};
-ghost use Rattle.regions.specs.List.{few_regions, one_region, used_at, freed_at};
+ghost use Rattle.regions.specs.List.{one_region, used_at, freed_at};
 ghost use Rattle.vm_list.specs.Packed.{vm_size, vm_words, used_is_flag, vm_in, vm_out, vm_fit, overwritten};
 
-use regions::{
-    FEW_REGIONS, MAX_VM_REGIONS, Stepped, SteppedFew, VMALLOC_END, VMALLOC_START, VMRegion, lent,
-};
+use regions::{FEW_REGIONS, MAX_VM_REGIONS, VMALLOC_END, VMALLOC_START, VMRegion, lent};
 
-// How many bytes it takes: the count, and three numbers for each slot.
+// How many bytes it takes: the count, and three numbers for each slot. The functions take a slice of that length (`list_len`, `list_value`), since a call is lent one
+// of any length and `is_sound` tests it: of what is written through an array that is borrowed from a slice a caller's proof knows nothing.
 pub const VM_SIZE: usize = 8 + MAX_VM_REGIONS * 24;
 
 // How many numbers its bytes are.
 const VM_WORDS: usize = VM_SIZE / 8;
 
-// The window as one free region. The small array is filled with it before slots are read into it. Zeros would do, but of zeros the compiler unrolls the fill, and then no longer
-// leaves out the copies of the array between the steps.
+// The window as one free region.
 const WINDOW: VMRegion = VMRegion {
     start: VMALLOC_START,
     size: VMALLOC_END - VMALLOC_START,
@@ -28,11 +26,11 @@ const WINDOW: VMRegion = VMRegion {
 };
 
 // How many regions stand.
-pub fn count(list: &[u8]) -> u64
+pub fn count(list: &[u8]) -> usize
     requires { length list.now ≡ vm_size }
     ensures { result ≡ (vm_in list.now).count }
 {
-    packed::word_at(list, 0)
+    packed::word_at(list, 0) as usize
 }
 
 pub fn put_count(list: &mut [u8], n: usize)
@@ -92,9 +90,9 @@ fn rest_zero(list: &[u8], k: usize) -> bool
     requires k_le_vm_words { k ≤ vm_words }
     ensures { result ≡ every (λ w. eqb w 0) (drop k (unpack vm_words list.now)) }
 {
-    let mut any: u64 = 0;
+    let mut any = 0;
     for j in k..VM_WORDS {
-        any = any | packed::word_at(list, j * 8);
+        any |= packed::word_at(list, j * 8);
     }
     any == 0
 }
@@ -107,151 +105,101 @@ pub fn is_sound(list: &[u8]) -> bool
         return false;
     }
     let n = count(list);
-    if n > MAX_VM_REGIONS as u64 {
+    if n > MAX_VM_REGIONS {
         return false;
     }
-    if !live_sound(list, n as usize) {
-        return false;
-    }
-    rest_zero(list, n as usize * 3 + 1)
+    live_sound(list, n) && rest_zero(list, n * 3 + 1)
 }
 
 // Whether a region is free, of `size` bytes or more.
 fn is_fit(r: VMRegion, size: u64) -> bool
     ensures { result ≡ fits size r }
 {
-    if r.used {
-        return false;
-    }
-    r.size >= size
+    !r.used && r.size >= size
 }
 
-// The index of the first free region of `size` bytes or more, or n.
-pub fn first_fit(list: &[u8], n: usize, size: u64) -> usize
+// The index of the first free region of `size` bytes or more, of the first n.
+pub fn first_fit(list: &[u8], n: usize, size: u64) -> Option<usize>
     requires list_len { length list.now ≡ vm_size }
     requires n_bound { n ≤ 256 }
-    ensures { result ≡ first_at (fits size) (take n (vm_in list.now).slots) }
+    ensures { MatchOption result (first_at (fits size) (take n (vm_in list.now).slots) ≡ n) (λ i. (i ≡ first_at (fits size) (take n (vm_in list.now).slots)) × (i < n)) }
 {
     for i in 0..n {
         if is_fit(slot(list, i), size) {
-            return i;
+            return Some(i);
         }
     }
-    n
+    None
 }
 
 // Whether a region is used and starts at `addr`.
 fn is_used_at(r: VMRegion, addr: u64) -> bool
     ensures { result ≡ used_at addr r }
 {
-    if r.start != addr {
-        return false;
-    }
-    r.used
+    r.start == addr && r.used
 }
 
-// The index of the first used region at `addr`, or n.
-pub fn find_used(list: &[u8], n: usize, addr: u64) -> usize
+// The index of the first used region at `addr`, of the first n.
+pub fn find_used(list: &[u8], n: usize, addr: u64) -> Option<usize>
     requires list_len { length list.now ≡ vm_size }
     requires n_bound { n ≤ 256 }
-    ensures { result ≡ first_at (used_at addr) (take n (vm_in list.now).slots) }
+    ensures { MatchOption result (first_at (used_at addr) (take n (vm_in list.now).slots) ≡ n) (λ i. (i ≡ first_at (used_at addr) (take n (vm_in list.now).slots)) × (i < n)) }
 {
     for i in 0..n {
         if is_used_at(slot(list, i), addr) {
-            return i;
+            return Some(i);
         }
     }
-    n
+    None
 }
 
-// The slots. Those past the n regions of a sound list are zero, and are not read.
-fn read_live(list: &[u8], n: usize) -> [VMRegion; 256]
+// The list's first slots, as many as `regions` has; what is behind them is not read.
+fn read_slots(list: &[u8], regions: &mut [VMRegion])
     requires list_len { length list.now ≡ vm_size }
-    requires n_value { (n ≡ (vm_in list.now).count) × (sound_regions (vm_in list.now) ≡ true) }
-    ensures { result ≡ (vm_in list.now).slots }
+    requires regions_len { length regions.old ≤ 256 }
+    ensures { regions.new ≡ take (length regions.old) (vm_in list.now).slots }
 {
-    let blank = VMRegion {
-        start: 0,
-        size: 0,
-        used: false,
-    };
-    let mut regions = [blank; 256];
-    for i in 0..n {
-        regions[i] = slot(list, i);
+    for (i, r) in regions.iter_mut().enumerate() {
+        *r = slot(list, i);
     }
-    regions
 }
 
-// The first n slots into the small array; what is behind them is not read.
-fn read_few(list: &[u8], n: usize) -> [VMRegion; FEW_REGIONS]
-    requires list_len { length list.now ≡ vm_size }
-    requires n_le_few_regions { n ≤ few_regions }
-    ensures { take n result ≡ take n (vm_in list.now).slots }
-{
-    let mut regions = [WINDOW; FEW_REGIONS];
-    for i in 0..n {
-        regions[i] = slot(list, i);
-    }
-    regions
-}
-
-// The first n slots are those of `regions` then.
-fn write_live(list: &mut [u8], n: usize, regions: [VMRegion; 256])
+// The list's first slots are `regions` then.
+fn write_slots(list: &mut [u8], regions: &[VMRegion])
     requires list_value { vm_fit list.old ≡ true }
-    requires n_bound { n ≤ 256 }
-    ensures list_after { vm_in list.new ≡ slotted (overwritten n regions (vm_in list.old).slots) (vm_in list.old).count }
+    requires regions_len { length regions.now ≤ 256 }
+    ensures list_after { vm_in list.new ≡ slotted (overwritten (length regions.now) regions.now (vm_in list.old).slots) (vm_in list.old).count }
     ensures list_after_2 { vm_fit list.new ≡ true }
 {
-    for i in 0..n {
-        put(list, i, regions[i]);
+    for (i, r) in regions.iter().enumerate() {
+        put(list, i, *r);
     }
 }
 
-// The same of the small array.
-fn write_few(list: &mut [u8], n: usize, regions: [VMRegion; FEW_REGIONS])
+// A list of n regions is what a step on its slots left: `count` of them.
+fn write_back(list: &mut [u8], n: usize, regions: &[VMRegion], count: usize)
     requires list_value { vm_fit list.old ≡ true }
-    requires n_le_few_regions { n ≤ few_regions }
-    ensures list_after { vm_in list.new ≡ slotted (overwritten n regions (vm_in list.old).slots) (vm_in list.old).count }
+    requires n_bound { (n ≤ 256) × (count ≤ 256) }
+    requires room { max n count ≤ length regions.now }
+    ensures list_after { vm_in list.new ≡ slotted (overwritten (max n count) regions.now (vm_in list.old).slots) count }
     ensures list_after_2 { vm_fit list.new ≡ true }
 {
-    for i in 0..n {
-        put(list, i, regions[i]);
-    }
+    write_slots(list, &regions[..n.max(count)]);
+    put_count(list, count);
 }
 
-fn larger(a: usize, b: usize) -> usize
-    ensures { result ≡ max a b }
-{
-    if a < b {
-        return b;
-    }
-    a
-}
-
-// A list of n regions is what a step on its slots left.
-fn write_back(list: &mut [u8], n: usize, next: Stepped)
-    requires list_value { vm_fit list.old ≡ true }
-    requires n_bound { (n ≤ 256) × (next.count ≤ 256) }
-    ensures list_after { vm_in list.new
-        ≡ slotted (overwritten (max n next.count) next.regions (vm_in list.old).slots) next.count }
+// `take_region` in an array of N slots, which has one for the tail.
+fn take_among<const N: usize>(list: &mut [u8], n: usize, i: usize, size: u64, used: bool)
+    requires list_value { (vm_fit list.old ≡ true) × (sound_regions (vm_in list.old) ≡ true) × (n ≡ (vm_in list.old).count) }
+    requires i_value { (i ≡ first_at (fits size) (listed (vm_in list.old))) × (i < n) }
+    requires room { (n ≤ N) × (min (n + 1) 256 ≤ N) × (N ≤ 256) }
+    ensures list_after { vm_in list.new ≡ taken_slots used size (vm_in list.old) }
     ensures list_after_2 { vm_fit list.new ≡ true }
 {
-    let regions = next.regions;
-    write_live(list, larger(n, next.count), regions);
-    put_count(list, next.count);
-}
-
-// The same of the small array.
-fn write_back_few(list: &mut [u8], n: usize, next: SteppedFew)
-    requires list_value { vm_fit list.old ≡ true }
-    requires n_le_few_regions { (n ≤ few_regions) × (next.count ≤ few_regions) }
-    ensures list_after { vm_in list.new
-        ≡ slotted (overwritten (max n next.count) next.regions (vm_in list.old).slots) next.count }
-    ensures list_after_2 { vm_fit list.new ≡ true }
-{
-    let regions = next.regions;
-    write_few(list, larger(n, next.count), regions);
-    put_count(list, next.count);
+    let mut regions = [VMRegion::default(); N];
+    read_slots(list, &mut regions[..n]);
+    let count = lent::take_region(&mut regions, n, i, size, used);
+    write_back(list, n, &regions, count);
 }
 
 // `size` bytes taken of region i, the first of n that is large enough, which is used or free then.
@@ -262,14 +210,24 @@ pub fn take_region(list: &mut [u8], n: usize, i: usize, size: u64, used: bool)
     ensures list_after_2 { vm_fit list.new ≡ true }
 {
     if n < FEW_REGIONS {
-        let few = read_few(list, n);
-        let next = lent::taken_few(few, n, i, size, used);
-        write_back_few(list, n, next);
-        return;
+        take_among::<FEW_REGIONS>(list, n, i, size, used);
+    } else {
+        take_among::<MAX_VM_REGIONS>(list, n, i, size, used);
     }
-    let regions = read_live(list, n);
-    let next = lent::taken(regions, n, i, size, used);
-    write_back(list, n, next);
+}
+
+// `free_region` in an array of N slots.
+fn free_among<const N: usize>(list: &mut [u8], n: usize, i: usize)
+    requires list_value { (vm_fit list.old ≡ true) × (sound_regions (vm_in list.old) ≡ true) × (n ≡ (vm_in list.old).count) }
+    requires i_lt_n { i < n }
+    requires room { (n ≤ N) × (N ≤ 256) }
+    ensures list_after { vm_in list.new ≡ store no_vm_region (merge (freed_at i (listed (vm_in list.old)))) (vm_in list.old) }
+    ensures list_after_2 { vm_fit list.new ≡ true }
+{
+    let mut regions = [VMRegion::default(); N];
+    read_slots(list, &mut regions[..n]);
+    let count = lent::free_region(&mut regions, n, i);
+    write_back(list, n, &regions, count);
 }
 
 // Region i of n free, and joined with the free regions that it adjoins.
@@ -280,23 +238,9 @@ pub fn free_region(list: &mut [u8], n: usize, i: usize)
     ensures list_after_2 { vm_fit list.new ≡ true }
 {
     if n <= FEW_REGIONS {
-        let few = read_few(list, n);
-        let next = lent::freed_few(few, n, i);
-        write_back_few(list, n, next);
-        return;
-    }
-    let regions = read_live(list, n);
-    let next = lent::freed(regions, n, i);
-    write_back(list, n, next);
-}
-
-// All zero.
-fn clear(list: &mut [u8])
-    requires { length list.old ≡ vm_size }
-    ensures { list.new ≡ vm_out (slotted (replicate 256 no_vm_region) 0) }
-{
-    for j in 0..VM_WORDS {
-        packed::put_word(list, j * 8, 0);
+        free_among::<FEW_REGIONS>(list, n, i);
+    } else {
+        free_among::<MAX_VM_REGIONS>(list, n, i);
     }
 }
 
@@ -307,7 +251,7 @@ pub fn start(list: &mut [u8])
     ensures list_after_2 { vm_in list.new ≡ one_region }
     ensures list_after_3 { vm_fit list.new ≡ true }
 {
-    clear(list);
+    list.fill(0);
     put(list, 0, WINDOW);
     put_count(list, 1);
 }

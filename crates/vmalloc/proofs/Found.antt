@@ -5,9 +5,9 @@ use mathlib.Core.Bool.{Bool, true, false}
 use mathlib.Core.List.{List}
 use native.Mathlib.Omega.{arith}
 use lib.ListN.{length, get_or, take}
+use Rattle.std.specs.Prelude.{Ok, Err}
+use Rattle.answer.specs.declared.Refusal.TheVariants.{NoRegion, RegionNotFound}
 use Rattle.bits.proofs.Choice.{both_true, both_false}
-use Rattle.answer.specs.Numbers.{no_region, region_not_found}
-use Rattle.answer.specs.declared.Outcome.TheVariants.{Value, Stop}
 use Rattle.paging.specs.Map.{Memory}
 use Rattle.paging.specs.Calls.{whole}
 use Rattle.slots.specs.Slots.{Slots, listed, first_at}
@@ -67,18 +67,18 @@ module _ (m : Memory) (bs : List ℕ) (root : ℕ) (h : sound_lent m bs root ≡
       lies = subst (λ (x : VMRegion). Placed x.start x.size) (sym e) (placed_at s (sound_placed s lent_sound) enough i inside)
 
       module _ (size : ℕ) (f : i ≡ first_at (fits size) (take n s.slots)) where
-        pub found : (first_fit size (listed s) ≡ Value r.start) × (size ≤ r.size)
-        found = subst (λ (x : VMRegion). (first_fit size (listed s) ≡ Value x.start) × (size ≤ x.size)) (sym e) (fit_of s enough size i (in_list (fits size) i f) inside)
+        pub found : (first_fit size (listed s) ≡ Ok r.start) × (size ≤ r.size)
+        found = subst (λ (x : VMRegion). (first_fit size (listed s) ≡ Ok x.start) × (size ≤ x.size)) (sym e) (fit_of s enough size i (in_list (fits size) i f) inside)
 
       module _ (a : ℕ) (f : i ≡ first_at (used_at a) (take n s.slots)) where
-        pub found_used : (used_size a (listed s) ≡ Value r.size) × (r.start ≡ a)
-        found_used = subst (λ (x : VMRegion). (used_size a (listed s) ≡ Value x.size) × (x.start ≡ a)) (sym e) (used_of s enough a i (in_list (used_at a) i f) inside)
+        pub found_used : (used_size a (listed s) ≡ Ok r.size) × (r.start ≡ a)
+        found_used = subst (λ (x : VMRegion). (used_size a (listed s) ≡ Ok x.size) × (x.start ≡ a)) (sym e) (used_of s enough a i (in_list (used_at a) i f) inside)
 
         pub found_freed : free_first a (listed s) ≡ freed_at i (listed s)
         found_freed = free_of s enough a i (in_list (used_at a) i f) inside
 
-    pub none_fits : (i size : ℕ) → i ≡ first_at (fits size) (take n s.slots) → i ≡ n → first_fit size (listed s) ≡ Stop no_region
+    pub none_fits : (i size : ℕ) → i ≡ first_at (fits size) (take n s.slots) → i ≡ n → first_fit size (listed s) ≡ Err NoRegion
     none_fits i size f z = fit_none_of s enough size i (in_list (fits size) i f) (z ∙ c)
 
-    pub none_used : (i a : ℕ) → i ≡ first_at (used_at a) (take n s.slots) → i ≡ n → used_size a (listed s) ≡ Stop region_not_found
+    pub none_used : (i a : ℕ) → i ≡ first_at (used_at a) (take n s.slots) → i ≡ n → used_size a (listed s) ≡ Err RegionNotFound
     none_used i a f z = used_none_of s enough a i (in_list (used_at a) i f) (z ∙ c)

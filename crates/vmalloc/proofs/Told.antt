@@ -4,12 +4,12 @@ use mathlib.Core.Path.{◌≡◌, refl, sym, ◌∙◌, ap}
 use mathlib.Core.Bool.{Bool, true, false, true≢false}
 use mathlib.Core.List.{List}
 use borrow.Author.Tests.{eq-eqb, ne_eqb}
+use Rattle.std.specs.Prelude.{Err, Result}
+use Rattle.answer.specs.declared.Refusal.{Refusal}
+use Rattle.answer.specs.declared.Refusal.TheVariants.{BrokenRecord}
 use Rattle.bits.specs.Bit.{both}
-use Rattle.answer.specs.Numbers.{broken_record}
 use Rattle.packed.proofs.RoundTrip.{Bytes}
 use Rattle.frame.specs.Found.{none_found}
-use Rattle.answer.specs.declared.Outcome.{Outcome}
-use Rattle.answer.specs.declared.Outcome.TheVariants.{Stop}
 use Rattle.paging.specs.Map.{Memory}
 use Rattle.paging.specs.Kept.{Kept, kept}
 use Rattle.slots.specs.Slots.{Slots}
@@ -21,13 +21,13 @@ use Rattle.vmalloc.specs.Packed.{kept_kernel, on_vm_list, KernelStands, KernelRe
 use Rattle.vmalloc.proofs.Found.{lent_fit, lent_kernel}
 
 -- what an inner call leaves
-pub left : {A : Type 0} (form : Outcome → A) {d : KernelDid} (w : Outcome) (m : Memory) {s : Slots VMRegion} → d ≡ kernel_did w (kernel m s) → (zs : List ℕ) → vm_fit zs ≡ true → Bytes zs → vm_in zs ≡ s
+pub left : {A : Type 0} (form : Result ℕ Refusal → A) {d : KernelDid} (w : Result ℕ Refusal) (m : Memory) {s : Slots VMRegion} → d ≡ kernel_did w (kernel m s) → (zs : List ℕ) → vm_fit zs ≡ true → Bytes zs → vm_in zs ≡ s
     → (kept (form w) m zs ≡ kept_kernel form d) × KernelStands d zs
 left form w m h zs fit b e =
     ((λ j. kept (form w) m (packed_back zs fit b e j)) ∙ ap (kept_kernel form) (sym h), (fit, e ∙ ap (λ (x : KernelDid). x.kernel.regions) (sym h)))
 
 -- .. and what the call leaves
-module _ {A : Type 0} (form : Outcome → A) (call : Kernel → KernelDid) (m : Memory) (list : List ℕ) where
+module _ {A : Type 0} (form : Result ℕ Refusal → A) (call : Kernel → KernelDid) (m : Memory) (list : List ℕ) where
   abbrev pub Told : Kept A → Type 0
   Told k = (k ≡ on_vm_list form call m list) × KernelReads call m list k.list
 
@@ -37,18 +37,18 @@ module _ {A : Type 0} (form : Outcome → A) (call : Kernel → KernelDid) (m : 
   told_on fit h (e, s) = (e ∙ ap (kept_kernel form) (sym h) ∙ sym (rw fit), λ _. (s.0, s.1 ∙ ap (λ (x : KernelDid). x.kernel.regions) (sym h)))
 
   -- .. which refuses it
-  pub told_refused : vm_fit list ≡ true → Bytes list → (e : ℕ) → call (kernel m (vm_in list)) ≡ kernel_did (Stop e) (kernel m (vm_in list)) → Told (kept (form (Stop e)) m list)
-  told_refused fit b e h = told_on fit h (left form (Stop e) m refl list fit b refl)
+  pub told_refused : vm_fit list ≡ true → Bytes list → (e : Refusal) → call (kernel m (vm_in list)) ≡ kernel_did (Err e) (kernel m (vm_in list)) → Told (kept (form (Err e)) m list)
+  told_refused fit b e h = told_on fit h (left form (Err e) m refl list fit b refl)
 
   -- something is broken
   pub told_broken : (root : ℕ) → sound_lent m list root ≡ false → Bytes list
-      → (sound_kernel (kernel m (vm_in list)) root ≡ false → call (kernel m (vm_in list)) ≡ kernel_did (Stop broken_record) (kernel m (vm_in list)))
-      → Told (kept (form (Stop broken_record)) m list)
+      → (sound_kernel (kernel m (vm_in list)) root ≡ false → call (kernel m (vm_in list)) ≡ kernel_did (Err BrokenRecord) (kernel m (vm_in list)))
+      → Told (kept (form (Err BrokenRecord)) m list)
   unfolding on_vm_list
   told_broken root h b broken = by (vm_fit list) refl
     where
-      by : (f : Bool) → vm_fit list ≡ f → Told (kept (form (Stop broken_record)) m list)
-      by true e = told_refused e b broken_record (broken (sym (ap (λ (f : Bool). both f (sound_kernel (kernel m (vm_in list)) root)) e) ∙ h))
+      by : (f : Bool) → vm_fit list ≡ f → Told (kept (form (Err BrokenRecord)) m list)
+      by true e = told_refused e b BrokenRecord (broken (sym (ap (λ (f : Bool). both f (sound_kernel (kernel m (vm_in list)) root)) e) ∙ h))
       by false e = (sym (rw e), λ t. absurd (true≢false (sym t ∙ e)))
 
 -- what a vfree finds, by what code has tested

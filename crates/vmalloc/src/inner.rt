@@ -6,8 +6,8 @@ ghost use Rattle.paging.specs.Kept.{lent_memory};
 ghost use Rattle.vmalloc.specs.Packed.{kept_kernel, vmalloced, vfreed, KernelStands, sound_lent, placed_on, released_on, released_found_on};
 
 use crate::{Vfreed, Vmalloced};
-use address::{Frame, VirtAddr, VirtAnswer};
-use answer::{Answer, Outcome};
+use address::{Frame, VirtAddr};
+use answer::Refusal;
 use frame::{FrameAllocator, Marks, tallies};
 
 // `size` bytes at the first free region large enough, its pages mapped; 15 where there is none. The region of a refused call is free, with its size cut.
@@ -25,14 +25,13 @@ pub fn allocate(
     ensures kernel_stands { KernelStands (placed_on (lent_memory words.old bitmap.old frames) list.old root.0 size)
         list.new }
 {
-    let n = vm_list::count(list) as usize;
-    let i = vm_list::first_fit(list, n, size);
-    if i == n {
+    let n = vm_list::count(list);
+    let Some(i) = vm_list::first_fit(list, n, size) else {
         return Vmalloced {
-            answer: VirtAnswer::NoVirt(answer::NO_REGION),
+            answer: Err(Refusal::NoRegion),
             frames,
         };
-    }
+    };
     let r = vm_list::slot(list, i);
     let start = VirtAddr(r.start);
     let up = frames.levels - 1;
@@ -50,17 +49,17 @@ pub fn allocate(
     let walked = run.walked;
     let left = run.frames;
     match walked {
-        Outcome::Stop(e) => {
+        Err(e) => {
             vm_list::take_region(list, n, i, size, false);
             Vmalloced {
-                answer: VirtAnswer::NoVirt(e),
+                answer: Err(e),
                 frames: left,
             }
         }
-        Outcome::Value(_) => {
+        Ok(_) => {
             vm_list::take_region(list, n, i, size, true);
             Vmalloced {
-                answer: VirtAnswer::AtVirt(start),
+                answer: Ok(start),
                 frames: left,
             }
         }
@@ -83,15 +82,14 @@ pub fn free(
         list.new }
     ensures found_value { result.found ≡ released_found_on (lent_memory words.old bitmap.old frames) list.old root.0 addr.0 }
 {
-    let n = vm_list::count(list) as usize;
-    let i = vm_list::find_used(list, n, addr.0);
-    if i == n {
+    let n = vm_list::count(list);
+    let Some(i) = vm_list::find_used(list, n, addr.0) else {
         return Vfreed {
-            answer: Answer::Refused(answer::REGION_NOT_FOUND),
+            answer: Err(Refusal::RegionNotFound),
             found: tallies::none(),
             frames,
         };
-    }
+    };
     let r = vm_list::slot(list, i);
     let up = frames.levels - 1;
     let given = freeing::free_pages(words, bitmap, frames, up, root, addr, r.size / 4096);
@@ -99,7 +97,7 @@ pub fn free(
     let left = given.frames;
     vm_list::free_region(list, n, i);
     Vfreed {
-        answer: Answer::Met,
+        answer: Ok(()),
         found,
         frames: left,
     }

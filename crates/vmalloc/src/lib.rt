@@ -8,21 +8,21 @@ ghost use Rattle.paging.specs.Kept.{lent_memory};
 ghost use Rattle.vmalloc.specs.Calls.{vmalloc_of, vfree_of, is_vmalloc_addr};
 ghost use Rattle.vmalloc.specs.Packed.{vmalloc_on, vfree_on, vfree_found_on, vmalloced, vfreed, KernelReads, sound_lent};
 
-use address::{Frame, VirtAddr, VirtAnswer};
-use answer::{Answer, Outcome};
+use address::{Frame, VirtAddr};
+use answer::Refusal;
 use frame::{FrameAllocator, Marks, Tally, tallies};
 
 // What a vmalloc answers, and the frame record that it leaves.
 #[derive(Clone, Copy)]
 pub struct Vmalloced {
-    pub answer: VirtAnswer,
+    pub answer: Result<VirtAddr, Refusal>,
     pub frames: FrameAllocator,
 }
 
 // The same of a vfree, with what the frames of its pages were found to be.
 #[derive(Clone, Copy)]
 pub struct Vfreed {
-    pub answer: Answer,
+    pub answer: Result<(), Refusal>,
     pub found: Tally,
     pub frames: FrameAllocator,
 }
@@ -58,22 +58,22 @@ pub fn vmalloc(
 {
     if !is_whole(words, bitmap, frames, root, list) {
         return Vmalloced {
-            answer: VirtAnswer::NoVirt(answer::BROKEN_RECORD),
+            answer: Err(Refusal::BrokenRecord),
             frames,
         };
     }
     if size == 0 {
         return Vmalloced {
-            answer: VirtAnswer::NoVirt(answer::SIZE_ZERO),
+            answer: Err(Refusal::SizeZero),
             frames,
         };
     }
     match allocator::page_align_up(size) {
-        Outcome::Stop(n) => Vmalloced {
-            answer: VirtAnswer::NoVirt(n),
+        Err(n) => Vmalloced {
+            answer: Err(n),
             frames,
         },
-        Outcome::Value(n) => inner::allocate(words, bitmap, frames, root, list, n),
+        Ok(n) => inner::allocate(words, bitmap, frames, root, list, n),
     }
 }
 
@@ -93,14 +93,14 @@ pub fn vfree(
 {
     if !is_whole(words, bitmap, frames, root, list) {
         return Vfreed {
-            answer: Answer::Refused(answer::BROKEN_RECORD),
+            answer: Err(Refusal::BrokenRecord),
             found: tallies::none(),
             frames,
         };
     }
     if addr.0 == 0 {
         return Vfreed {
-            answer: Answer::Refused(answer::REGION_NOT_FOUND),
+            answer: Err(Refusal::RegionNotFound),
             found: tallies::none(),
             frames,
         };

@@ -11,8 +11,8 @@ ghost use Rattle.paging.specs.Levels.{most_above, most_levels};
 ghost use Rattle.address.specs.Address.{as_phys};
 ghost use Rattle.frame.specs.Frames.{inside};
 
-use address::{Frame, PhysAddr, PhysAnswer, VirtAddr};
-use answer::{FlagAnswer, Outcome};
+use address::{Frame, PhysAddr, VirtAddr};
+use answer::Refusal;
 use entry::paging::PageTableEntry;
 use paging::Leaf;
 
@@ -27,19 +27,19 @@ pub fn entry_place(start: u64, t: u64, i: usize) -> usize
 }
 
 // The present word at entry i of table t.
-pub fn entry_at(words: &[u64], start: u64, total: u64, t: u64, i: usize) -> Outcome
+pub fn entry_at(words: &[u64], start: u64, total: u64, t: u64, i: usize) -> Result<u64, Refusal>
     requires words_lent { WordsLent words.now start total }
     requires i_bound { i < 512 }
     ensures { result ≡ entry_at words.now start total t i }
 {
     if !frame::inner::is_inside(start, total, t) {
-        return Outcome::Stop(answer::OUTSIDE);
+        return Err(Refusal::TableOutside);
     }
     let e = words[entry_place(start, t, i)];
     if PageTableEntry(e).is_present() {
-        return Outcome::Value(e);
+        return Ok(e);
     }
-    Outcome::Stop(answer::NOT_MAPPED)
+    Err(Refusal::NotMapped)
 }
 
 // The entry that a translation ends at, of the levels from the root's on. They count from the bottom, 1 the last; only the last but one looks at HUGE.
@@ -50,29 +50,24 @@ fn leaf_below(
     levels: u64,
     root: Frame,
     virt: VirtAddr,
-) -> Leaf
+) -> Result<Leaf, Refusal>
     requires words_lent { WordsLent words.now start total }
     requires levels_le_most_levels { levels ≤ most_levels }
     ensures { result ≡ leaf words.now start total root.0 (indices_of levels virt.0) }
 {
     let mut t = root.0;
-    let mut level = levels;
-    while level > 0 {
-        match entry_at(words, start, total, t, entry::page_index(virt, level - 1)) {
-            Outcome::Stop(n) => return Leaf::NoLeaf(n),
-            Outcome::Value(e) => {
-                if level == 1 {
-                    return Leaf::Page(e);
-                }
-                if level == 2 && PageTableEntry(e).is_huge() {
-                    return Leaf::Large(e);
-                }
-                t = PageTableEntry(e).addr().0 >> 12;
-            }
+    for done in 0..levels {
+        let level = levels - done;
+        let e = entry_at(words, start, total, t, entry::page_index(virt, level - 1))?;
+        if level == 1 {
+            return Ok(Leaf::Page(e));
         }
-        level = level - 1;
+        if level == 2 && PageTableEntry(e).is_huge() {
+            return Ok(Leaf::Large(e));
+        }
+        t = PageTableEntry(e).addr().0 >> 12;
     }
-    Leaf::NoLeaf(answer::NOT_MAPPED)
+    Err(Refusal::NotMapped)
 }
 
 // The table of level 4 on an address's way: the root on a board of four levels, what it names on one of five.
@@ -83,18 +78,16 @@ fn fourth_table(
     levels: u64,
     root: Frame,
     virt: VirtAddr,
-) -> Outcome
+) -> Result<u64, Refusal>
     requires words_lent { WordsLent words.now start total }
     requires levels_le_most_levels { levels ≤ most_levels }
     ensures { result ≡ reach words.now start total root.0 (take (levels - 4) (indices_of 5 virt.0)) }
 {
     if levels < 5 {
-        return Outcome::Value(root.0);
+        return Ok(root.0);
     }
-    match entry_at(words, start, total, root.0, entry::page_index(virt, 4)) {
-        Outcome::Stop(n) => Outcome::Stop(n),
-        Outcome::Value(e) => Outcome::Value(PageTableEntry(e).addr().0 >> 12),
-    }
+    let e = entry_at(words, start, total, root.0, entry::page_index(virt, 4))?;
+    Ok(PageTableEntry(e).addr().0 >> 12)
 }
 
 // The same. Where there are four levels the loop's length is written out, for the compiler.
@@ -105,7 +98,7 @@ fn find_leaf(
     levels: u64,
     root: Frame,
     virt: VirtAddr,
-) -> Leaf
+) -> Result<Leaf, Refusal>
     requires words_lent { WordsLent words.now start total }
     requires levels_le_most_levels { levels ≤ most_levels }
     ensures { result ≡ leaf words.now start total root.0 (indices_of levels virt.0) }
@@ -124,17 +117,12 @@ fn large_offset(virt: VirtAddr) -> u64
 }
 
 // An address's physical one, by the entry that its translation ends at.
-pub fn phys_at(end: Leaf, virt: VirtAddr) -> PhysAnswer
+pub fn phys_at(end: Result<Leaf, Refusal>, virt: VirtAddr) -> Result<PhysAddr, Refusal>
     ensures { result ≡ as_phys (address virt.0 end) }
 {
-    match end {
-        Leaf::Page(e) => {
-            PhysAnswer::AtPhys(PhysAddr(PageTableEntry(e).addr().0 + virt.page_offset()))
-        }
-        Leaf::Large(e) => {
-            PhysAnswer::AtPhys(PhysAddr(PageTableEntry(e).addr().0 + large_offset(virt)))
-        }
-        Leaf::NoLeaf(n) => PhysAnswer::NoPhys(n),
+    match end? {
+        Leaf::Page(e) => Ok(PhysAddr(PageTableEntry(e).addr().0 + virt.page_offset())),
+        Leaf::Large(e) => Ok(PhysAddr(PageTableEntry(e).addr().0 + large_offset(virt))),
     }
 }
 
@@ -146,7 +134,7 @@ pub fn walk(
     levels: u64,
     root: Frame,
     virt: VirtAddr,
-) -> PhysAnswer
+) -> Result<PhysAddr, Refusal>
     requires words_lent { WordsLent words.now start total }
     requires levels_le_most_levels { levels ≤ most_levels }
     ensures { result ≡ as_phys (address virt.0 (leaf words.now start total root.0 (indices_of levels virt.0))) }
@@ -183,8 +171,8 @@ fn user_below(
     ensures { result ≡ user_rows write (rows_below words.now start total root.0 (indices_of levels virt.0)) }
 {
     let mut t = root.0;
-    let mut level = levels;
-    while level > 0 {
+    for done in 0..levels {
+        let level = levels - done;
         let word = words[entry_place(start, t, entry::page_index(virt, level - 1))];
         let e = PageTableEntry(word);
         if !e.is_present() {
@@ -203,7 +191,6 @@ fn user_below(
         if !frame::inner::is_inside(start, total, t) {
             return false;
         }
-        level = level - 1;
     }
     false
 }
@@ -216,23 +203,17 @@ fn table_below(
     up: u64,
     root: Frame,
     virt: VirtAddr,
-) -> Outcome
+) -> Result<u64, Refusal>
     requires words_lent { WordsLent words.now start total }
     requires up_le_most_above { up ≤ most_above }
     ensures { result ≡ reach words.now start total root.0 (take up (indices_of (suc up) virt.0)) }
 {
     let mut t = root.0;
-    let mut below = up;
-    while below > 0 {
-        match entry_at(words, start, total, t, entry::page_index(virt, below)) {
-            Outcome::Stop(n) => return Outcome::Stop(n),
-            Outcome::Value(e) => {
-                t = PageTableEntry(e).addr().0 >> 12;
-            }
-        }
-        below = below - 1;
+    for done in 0..up {
+        let e = entry_at(words, start, total, t, entry::page_index(virt, up - done))?;
+        t = PageTableEntry(e).addr().0 >> 12;
     }
-    Outcome::Value(t)
+    Ok(t)
 }
 
 // The same. Where there are three levels above it the loop's length is written out, for the compiler.
@@ -243,7 +224,7 @@ pub fn find_table(
     up: u64,
     root: Frame,
     virt: VirtAddr,
-) -> Outcome
+) -> Result<u64, Refusal>
     requires words_lent { WordsLent words.now start total }
     requires up_le_most_above { up ≤ most_above }
     ensures { result ≡ reach words.now start total root.0 (take up (indices_of (suc up) virt.0)) }
@@ -263,7 +244,7 @@ pub fn find_above(
     up: u64,
     root: Frame,
     virt: VirtAddr,
-) -> Outcome
+) -> Result<u64, Refusal>
     requires words_lent { WordsLent words.now start total }
     requires le_up { 1 ≤ up }
     requires up_le_most_above { up ≤ most_above }
@@ -305,16 +286,14 @@ pub fn translate(
     levels: u64,
     root: Frame,
     virt: VirtAddr,
-) -> PhysAnswer
+) -> Result<PhysAddr, Refusal>
     ensures { result ≡ as_phys (translated levels words.now start total root.0 virt.0) }
 {
     if !may_walk(words.len(), start, total, levels, root) {
-        return PhysAnswer::NoPhys(answer::BROKEN_RECORD);
+        return Err(Refusal::BrokenRecord);
     }
-    match fourth_table(words, start, total, levels, root, virt) {
-        Outcome::Stop(n) => PhysAnswer::NoPhys(n),
-        Outcome::Value(t) => phys_at(leaf_below(words, start, total, 4, Frame(t), virt), virt),
-    }
+    let t = fourth_table(words, start, total, levels, root, virt)?;
+    phys_at(leaf_below(words, start, total, 4, Frame(t), virt), virt)
 }
 
 // Whether user code may read an address, or write it. Where there are four levels the loop's length is written out, for the compiler.
@@ -326,14 +305,14 @@ pub fn user_may(
     root: Frame,
     virt: VirtAddr,
     write: bool,
-) -> FlagAnswer
+) -> Result<bool, Refusal>
     ensures { result ≡ user_may levels words.now start total root.0 virt.0 write }
 {
     if !may_walk(words.len(), start, total, levels, root) {
-        return FlagAnswer::NoFlag(answer::BROKEN_RECORD);
+        return Err(Refusal::BrokenRecord);
     }
     if levels == frame::LEVELS {
-        return FlagAnswer::Flag(user_below(words, start, total, frame::LEVELS, root, virt, write));
+        return Ok(user_below(words, start, total, frame::LEVELS, root, virt, write));
     }
-    FlagAnswer::Flag(user_below(words, start, total, levels, root, virt, write))
+    Ok(user_below(words, start, total, levels, root, virt, write))
 }

@@ -11,7 +11,8 @@ ghost use Rattle.paging.specs.Levels.{most_levels};
 ghost use Rattle.paging.specs.Working.{verdict_of, goes_on, rows_below, by_verdict, end_of, show_translate};
 ghost use Rattle.working.specs.Rows.{verdict_number, row_numbers, shown_numbers};
 
-use address::{Frame, PhysAnswer, VirtAddr};
+use address::{Frame, PhysAddr, VirtAddr};
+use answer::Refusal;
 use entry::paging::PageTableEntry;
 use paging::{Leaf, Row, Verdict};
 
@@ -42,38 +43,25 @@ fn entry_verdict(start: u64, total: u64, below: u64, e: PageTableEntry) -> Verdi
 fn goes_on(verdict: Verdict) -> bool
     ensures { result ≡ goes_on verdict }
 {
-    match verdict {
-        Verdict::Absent => false,
-        Verdict::Outside => false,
-        Verdict::Followed => true,
-        Verdict::LargePage => false,
-        Verdict::Last => false,
-    }
+    matches!(verdict, Verdict::Followed)
 }
 
 // What a translation ends at, by its last row.
-fn leaf_by(verdict: Verdict, e: u64) -> Leaf
+fn leaf_by(verdict: Verdict, e: u64) -> Result<Leaf, Refusal>
     ensures { result ≡ by_verdict verdict e }
 {
     match verdict {
-        Verdict::Absent => Leaf::NoLeaf(answer::NOT_MAPPED),
-        Verdict::Outside => Leaf::NoLeaf(answer::OUTSIDE),
-        Verdict::Followed => Leaf::NoLeaf(answer::NOT_MAPPED),
-        Verdict::LargePage => Leaf::Large(e),
-        Verdict::Last => Leaf::Page(e),
+        Verdict::Last => Ok(Leaf::Page(e)),
+        Verdict::LargePage => Ok(Leaf::Large(e)),
+        Verdict::Outside => Err(Refusal::TableOutside),
+        Verdict::Absent | Verdict::Followed => Err(Refusal::NotMapped),
     }
 }
 
 fn verdict_number(verdict: Verdict) -> u64
     ensures { result ≡ verdict_number verdict }
 {
-    match verdict {
-        Verdict::Absent => 0,
-        Verdict::Outside => 1,
-        Verdict::Followed => 2,
-        Verdict::LargePage => 3,
-        Verdict::Last => 4,
-    }
+    verdict as u64
 }
 
 // The numbers of row k.
@@ -82,12 +70,14 @@ fn put_row(out: &mut [u64; SHOWN_NUMBERS], k: usize, row: Row)
     ensures { out.new ≡ sets out.old (1 + k * 5) (row_numbers row) }
 {
     let at = 1 + k * 5;
-    out[at] = row.level;
-    out[at + 1] = row.frame.0;
-    out[at + 2] = row.index as u64;
-    out[at + 3] = row.word;
-    let verdict = row.verdict;
-    out[at + 4] = verdict_number(verdict);
+    let numbers = [
+        row.level,
+        row.frame.0,
+        row.index as u64,
+        row.word,
+        verdict_number(row.verdict),
+    ];
+    out[at..at + 5].copy_from_slice(&numbers);
 }
 
 // The rows from the root on, and the result. No walk comes past the last level: no entry there is followed.
@@ -99,7 +89,7 @@ fn show_rows(
     root: Frame,
     virt: VirtAddr,
     out: &mut [u64; SHOWN_NUMBERS],
-) -> PhysAnswer
+) -> Result<PhysAddr, Refusal>
     requires words_lent { WordsLent words.now start total }
     requires levels_nonzero { 0 < levels }
     requires levels_le_most_levels { levels ≤ most_levels }
@@ -109,32 +99,26 @@ fn show_rows(
     ensures out_after { out.new ≡ shown_numbers (rows_below words.now start total root.0 (indices_of levels virt.0)) }
 {
     let mut t = root.0;
-    let mut level = levels;
-    let mut at: usize = 0;
-    while level > 0 {
+    for at in 0..levels {
+        let level = levels - at;
         let i = entry::page_index(virt, level - 1);
         let e = words[walk::entry_place(start, t, i)];
         let verdict = entry_verdict(start, total, level - 1, PageTableEntry(e));
-        put_row(
-            out,
-            at,
-            Row {
-                level,
-                frame: Frame(t),
-                index: i,
-                word: e,
-                verdict,
-            },
-        );
+        let row = Row {
+            level,
+            frame: Frame(t),
+            index: i,
+            word: e,
+            verdict,
+        };
+        put_row(out, at as usize, row);
         if !goes_on(verdict) {
-            out[0] = at as u64 + 1;
+            out[0] = at + 1;
             return walk::phys_at(leaf_by(verdict, e), virt);
         }
         t = PageTableEntry(e).addr().0 >> 12;
-        at = at + 1;
-        level = level - 1;
     }
-    PhysAnswer::NoPhys(answer::NOT_MAPPED)
+    Err(Refusal::NotMapped)
 }
 
 // `translate` with its working, whose numbers are all written.
@@ -146,13 +130,13 @@ pub fn show_translate(
     root: Frame,
     virt: VirtAddr,
     out: &mut [u64; SHOWN_NUMBERS],
-) -> PhysAnswer
+) -> Result<PhysAddr, Refusal>
     ensures value { result ≡ as_phys (show_translate levels words.now start total root.0 virt.0).answer }
     ensures out_after { out.new ≡ shown_numbers (show_translate levels words.now start total root.0 virt.0).rows }
 {
     *out = [0; SHOWN_NUMBERS];
     if !walk::may_walk(words.len(), start, total, levels, root) {
-        return PhysAnswer::NoPhys(answer::BROKEN_RECORD);
+        return Err(Refusal::BrokenRecord);
     }
     show_rows(words, start, total, levels, root, virt, out)
 }

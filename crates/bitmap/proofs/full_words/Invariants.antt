@@ -1,10 +1,7 @@
 -- `full_words`: the words passed are full.
-use Rattle.std.proofs.Common.{◌≡◌, ◌*◌, ◌-◌, ◌≤◌}
+use Rattle.std.proofs.Common.{◌≡◌, ◌*◌}
 use Rattle.bitmap.specs.Bitmap.{count as count_below, marks_in}
 use Rattle.bitmap.proofs.full_words.Given as goal
 
 abbrev pub invariant-loop-k : goal.invariant-loop-k
-invariant-loop-k l = (l.k ≤ l.n) × (count_below (marks_in l.bitmap) (l.k * 64) ≡ l.k * 64)
-
-abbrev pub decreases-loop-k : goal.decreases-loop-k
-decreases-loop-k l = l.n - l.k
+invariant-loop-k l = count_below (marks_in l.bitmap) (l.k * 64) ≡ l.k * 64

@@ -6,10 +6,10 @@ use Rattle.board.proofs.Outcomes.{met_tests}
 use Rattle.board.proofs.Steps.{fresh_held, begun_told}
 use Rattle.board.proofs.begin.Goals as goal
 
-pub mark_frame-frames-requires : goal.mark_frame-frames-requires
-mark_frame-frames-requires c =
+pub mark_frame-requires : goal.mark_frame-requires
+mark_frame-requires c =
     let lent : Board = board_of c.args.words.now c.args.bitmap.now c.args.kernel.now c.args.user.now c.args.marked.now c.args.records in
-    fresh_held (lent) c.args.from c.args.to c.args.levels c.requires.levels_value c.init-fresh.ensures.value c.init-fresh.ensures.bitmap_after
+    fresh_held (lent) c.args.from c.args.to c.args.levels c.requires.levels_value c.init.ensures
 
 pub zero_frame-requires : goal.zero_frame-requires
 zero_frame-requires c =
@@ -18,11 +18,11 @@ zero_frame-requires c =
 pub returns-clause-result_after : goal.returns-clause-result_after
 returns-clause-result_after c =
     (let lent : Board = board_of c.args.words.now c.args.bitmap.now c.args.kernel.now c.args.user.now c.args.marked.now c.args.records in
-    begun_told (lent) c.args.from c.args.to c.args.levels c.requires.levels_value c.init-fresh.ensures.value c.init-fresh.ensures.bitmap_after c.mark_frame-frames.ensures.value c.mark_frame-frames.ensures.bitmap_after
+    begun_told (lent) c.args.from c.args.to c.args.levels c.requires.levels_value c.init.ensures c.mark_frame.ensures
     c.zero_frame.ensures (c.start.ensures.list_after, (c.start.ensures.list_after_2, c.start.ensures.list_after_3)) (c.start-2.ensures.list_after, c.start-2.ensures.mmap_stands) (c.start-3.ensures.list_after, (c.start-3.ensures.list_after_2, c.start-3.ensures.list_after_3))).0
 
 pub returns-clause-board_stands : goal.returns-clause-board_stands
 returns-clause-board_stands c =
     (let lent : Board = board_of c.args.words.now c.args.bitmap.now c.args.kernel.now c.args.user.now c.args.marked.now c.args.records in
-    begun_told (lent) c.args.from c.args.to c.args.levels c.requires.levels_value c.init-fresh.ensures.value c.init-fresh.ensures.bitmap_after c.mark_frame-frames.ensures.value c.mark_frame-frames.ensures.bitmap_after
+    begun_told (lent) c.args.from c.args.to c.args.levels c.requires.levels_value c.init.ensures c.mark_frame.ensures
     c.zero_frame.ensures (c.start.ensures.list_after, (c.start.ensures.list_after_2, c.start.ensures.list_after_3)) (c.start-2.ensures.list_after, c.start-2.ensures.mmap_stands) (c.start-3.ensures.list_after, (c.start-3.ensures.list_after_2, c.start-3.ensures.list_after_3))).1

@@ -10,20 +10,20 @@ copy_to-requires-clause-room_to_take c =
 
 pub copy_to-requires-clause-f_value : goal.copy_to-requires-clause-f_value
 copy_to-requires-clause-f_value c =
-    let e = c.raw_frame-taken.ensures c.args.words.now in taken_lent _ e _ c.in-Value.is
+    let e = c.raw_frame-taken.ensures c.args.words.now in taken_lent _ e _ c.in-Ok.is
 
-pub returns-in-Stop-clause-frames_after : goal.returns-in-Stop-clause-frames_after
-returns-in-Stop-clause-frames_after c =
-    let e = stepped (c.raw_frame-taken.ensures c.args.words.now) c.in-Stop.is in sym (cow_none c.args.up _ c.args.root.0 c.args.page.0 c.args.user _ _ e)
+pub returns-in-Err-clause-frames_after : goal.returns-in-Err-clause-frames_after
+returns-in-Err-clause-frames_after c =
+    let e = stepped (c.raw_frame-taken.ensures c.args.words.now) c.in-Err.is in sym (cow_none c.args.up _ c.args.root.0 c.args.page.0 c.args.user _ _ e)
 
-pub returns-in-Stop-clause-found_value : goal.returns-in-Stop-clause-found_value
-returns-in-Stop-clause-found_value c =
-    let e = stepped (c.raw_frame-taken.ensures c.args.words.now) c.in-Stop.is in c.none.ensures ∙ sym (cow_found_none c.args.up _ c.args.root.0 c.args.page.0 c.args.user _ _ e)
+pub returns-in-Err-clause-found_value : goal.returns-in-Err-clause-found_value
+returns-in-Err-clause-found_value c =
+    let e = stepped (c.raw_frame-taken.ensures c.args.words.now) c.in-Err.is in c.none.ensures ∙ sym (cow_found_none c.args.up _ c.args.root.0 c.args.page.0 c.args.user _ _ e)
 
-pub returns-in-Value-clause-frames_after : goal.returns-in-Value-clause-frames_after
-returns-in-Value-clause-frames_after c =
-    let e = stepped (c.raw_frame-taken.ensures c.args.words.now) c.in-Value.is in c.copy_to.ensures.frames_after ∙ sym (cow_on c.args.up _ c.args.root.0 c.args.page.0 c.args.user _ _ e)
+pub returns-in-Ok-clause-frames_after : goal.returns-in-Ok-clause-frames_after
+returns-in-Ok-clause-frames_after c =
+    let e = stepped (c.raw_frame-taken.ensures c.args.words.now) c.in-Ok.is in c.copy_to.ensures.frames_after ∙ sym (cow_on c.args.up _ c.args.root.0 c.args.page.0 c.args.user _ _ e)
 
-pub returns-in-Value-clause-found_value : goal.returns-in-Value-clause-found_value
-returns-in-Value-clause-found_value c =
-    let e = stepped (c.raw_frame-taken.ensures c.args.words.now) c.in-Value.is in c.copy_to.ensures.found_value ∙ sym (cow_found c.args.up _ c.args.root.0 c.args.page.0 c.args.user _ _ e)
+pub returns-in-Ok-clause-found_value : goal.returns-in-Ok-clause-found_value
+returns-in-Ok-clause-found_value c =
+    let e = stepped (c.raw_frame-taken.ensures c.args.words.now) c.in-Ok.is in c.copy_to.ensures.found_value ∙ sym (cow_found c.args.up _ c.args.root.0 c.args.page.0 c.args.user _ _ e)

@@ -30,16 +30,16 @@ clear_page-requires-clause-words_lent c =
     c.args.f true false c.map_frame-mapped.ensures 0
     (roomy_less _ (omega (arith, c.requires.up_le_most_above)) (room))) in let e : length c.copy_from-copied.new.words ≡ length c.map_frame-mapped.new.words = search rules in lent_still e (lent-after)
 
-pub returns-in-Stop : goal.returns-in-Stop
-returns-in-Stop c =
+pub returns-in-Err : goal.returns-in-Err
+returns-in-Err c =
     let freed : Memory = lent_memory c.clear_if_mapped.new.words c.args.bitmap.now c.args.frames in let lent : Memory = lent_memory c.args.words.now c.args.bitmap.now c.args.frames in let free : freed ≡ unused c.args.up (lent) c.args.root.0 = c.clear_if_mapped.ensures c.args.bitmap.now in let mapped : out c.map_frame-mapped.result.walked (lent_memory c.map_frame-mapped.new.words c.map_frame-mapped.new.bitmap c.map_frame-mapped.result.frames) ≡ map_frame c.args.up (unused c.args.up (lent) c.args.root.0) c.args.root.0 temporary c.args.f true false = c.map_frame-mapped.ensures ∙ ap (λ (x : Memory). map_frame c.args.up x c.args.root.0 temporary c.args.f true false)
     (free) in
-    sym (copy_page_stop c.args.up _ _ _ _ _ _ (stepped (mapped) c.in-Stop.is))
+    sym (copy_page_stop c.args.up _ _ _ _ _ _ (stepped (mapped) c.in-Err.is))
 
-pub returns-in-Value : goal.returns-in-Value
-returns-in-Value c =
+pub returns-in-Ok : goal.returns-in-Ok
+returns-in-Ok c =
     let freed : Memory = lent_memory c.clear_if_mapped.new.words c.args.bitmap.now c.args.frames in let lent : Memory = lent_memory c.args.words.now c.args.bitmap.now c.args.frames in let free : freed ≡ unused c.args.up (lent) c.args.root.0 = c.clear_if_mapped.ensures c.args.bitmap.now in let mapped : out c.map_frame-mapped.result.walked (lent_memory c.map_frame-mapped.new.words c.map_frame-mapped.new.bitmap c.map_frame-mapped.result.frames) ≡ map_frame c.args.up (unused c.args.up (lent) c.args.root.0) c.args.root.0 temporary c.args.f true false = c.map_frame-mapped.ensures ∙ ap (λ (x : Memory). map_frame c.args.up x c.args.root.0 temporary c.args.f true false)
     (free) in
     ap (out c.copy_from-copied.result) (c.clear_page.ensures c.map_frame-mapped.new.bitmap)
     ∙ sym (copy_page_on c.args.up _ _ c.args.page.0 _ _ _
-    (stepped (mapped) c.in-Value.is) (sym (c.copy_from-copied.ensures c.map_frame-mapped.new.bitmap)))
+    (stepped (mapped) c.in-Ok.is) (sym (c.copy_from-copied.ensures c.map_frame-mapped.new.bitmap)))

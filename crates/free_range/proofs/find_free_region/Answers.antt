@@ -1,12 +1,11 @@
 -- No range, a range at `addr`, or a region in the way that the search moves past.
+use Rattle.std.specs.Prelude.{Err, None, Some}
+use Rattle.answer.specs.declared.Refusal.TheVariants.{NoRegion}
 use Rattle.std.proofs.Common.{ℕ, ◌≡◌, ◌+◌, ◌<◌, ◌≤◌, List, refl, sym, ◌∙◌, ap, arith}
 use Rattle.slots.specs.Slots.{listed}
-use Rattle.answer.specs.Numbers.{no_region}
-use Rattle.answer.specs.declared.Outcome.TheVariants.{Stop}
 use Rattle.mappings.specs.declared.MappedRegion.{MappedRegion}
 use Rattle.mappings.specs.Packed.{mmap_in, next_in}
 use Rattle.mappings.proofs.Sound.{sound_few, listed_long}
-use Rattle.free_range.specs.declared.InTheWay.TheVariants.{Nothing, Until}
 use Rattle.free_range.specs.declared.Scanned.{Scanned}
 use Rattle.free_range.specs.declared.Searched.{Searched}
 use Rattle.free_range.specs.Search.{user_end, in_the_way, find_free}
@@ -20,7 +19,7 @@ abbrev regions : List ℕ → List MappedRegion
 regions bs = listed (mmap_in bs)
 
 -- no range from `a` on ends below the user's end: none is found, and no more regions are compared
-none : (bs : List ℕ) (n : ℕ) (o : Searched) (sum a : ℕ) → o ≡ record { outcome = Stop no_region; compared = sum } → user_end ≤ a + n
+none : (bs : List ℕ) (n : ℕ) (o : Searched) (sum a : ℕ) → o ≡ record { outcome = Err NoRegion; compared = sum } → user_end ≤ a + n
     → find_free (regions bs) a n ≡ find_free (regions bs) (next_in bs) n
     → sum + compared (regions bs) a n ≡ compared (regions bs) (next_in bs) n
     → o ≡ searched (regions bs) (next_in bs) n
@@ -47,25 +46,25 @@ overflow_add-compared c =
     let more = compared_least l c.args.n c.loop-addr.addr below in
     record { fits = omega (arith, few, more, scan-compared c.loop-addr.addr c.args.n l c.scan-one.result c.scan-one.ensures, c.loop-addr.invariant.1) }
 
-pub returns-in-Nothing : goal.returns-in-Nothing
-returns-in-Nothing c =
+pub returns-in-None : goal.returns-in-None
+returns-in-None c =
     let l = regions c.args.list.now in
     let below : c.loop-addr.addr + c.args.n < user_end = omega (arith, c.loop-addr-test.true) in
-    let free : in_the_way c.loop-addr.addr c.args.n l ≡ Nothing = sym (scan-way c.loop-addr.addr c.args.n l c.scan-one.result c.scan-one.ensures) ∙ c.in-Nothing.is in
+    let free : in_the_way c.loop-addr.addr c.args.n l ≡ None = sym (scan-way c.loop-addr.addr c.args.n l c.scan-one.result c.scan-one.ensures) ∙ c.in-None.is in
     search_reports l (next_in c.args.list.now) c.args.n (sym (find_here l c.args.n c.loop-addr.addr below free) ∙ c.loop-addr.invariant.0)
     (omega (arith, compared_here l c.args.n c.loop-addr.addr below free, scan-compared c.loop-addr.addr c.args.n l c.scan-one.result c.scan-one.ensures, c.loop-addr.invariant.1))
 
 pub loop-addr-smaller : goal.loop-addr-smaller
 loop-addr-smaller c =
     let l = regions c.args.list.now in
-    let taken : in_the_way c.loop-addr.addr c.args.n l ≡ Until c.in-Until.end = sym (scan-way c.loop-addr.addr c.args.n l c.scan-one.result c.scan-one.ensures) ∙ c.in-Until.is in
+    let taken : in_the_way c.loop-addr.addr c.args.n l ≡ Some c.in-Some.end = sym (scan-way c.loop-addr.addr c.args.n l c.scan-one.result c.scan-one.ensures) ∙ c.in-Some.is in
     omega (arith, c.loop-addr-test.true, way_past _ _ _ _ taken)
 
 pub loop-addr-preserved : goal.loop-addr-preserved
 loop-addr-preserved c =
     let l = regions c.args.list.now in
     let below : c.loop-addr.addr + c.args.n < user_end = omega (arith, c.loop-addr-test.true) in
-    let taken : in_the_way c.loop-addr.addr c.args.n l ≡ Until c.in-Until.end = sym (scan-way c.loop-addr.addr c.args.n l c.scan-one.result c.scan-one.ensures) ∙ c.in-Until.is in (
+    let taken : in_the_way c.loop-addr.addr c.args.n l ≡ Some c.in-Some.end = sym (scan-way c.loop-addr.addr c.args.n l c.scan-one.result c.scan-one.ensures) ∙ c.in-Some.is in (
       sym (find_past l c.args.n c.loop-addr.addr below _ taken) ∙ c.loop-addr.invariant.0,
       omega (arith, compared_past l c.args.n c.loop-addr.addr below _ taken, scan-compared c.loop-addr.addr c.args.n l c.scan-one.result c.scan-one.ensures, c.loop-addr.invariant.1),
     )

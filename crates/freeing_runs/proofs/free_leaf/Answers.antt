@@ -7,18 +7,18 @@ use Rattle.pages.proofs.Laws.{unmapped}
 use Rattle.freeing_runs.proofs.Leaves.{leaf_none, leaf_freed, leaf_told_none, leaf_told}
 use Rattle.freeing_runs.proofs.free_leaf.Goals as goal
 
-pub returns-in-Stop-clause-frames_after : goal.returns-in-Stop-clause-frames_after
-returns-in-Stop-clause-frames_after c =
-    let m = lent_memory c.args.words.now c.args.bitmap.now c.args.frames in let came = unmapped c.take_leaf.ensures.value c.take_leaf.ensures.words_after c.in-Stop.is in sym (leaf_none m c.args.t c.args.i c.take_leaf.new.words _ came)
+pub returns-in-Err-clause-frames_after : goal.returns-in-Err-clause-frames_after
+returns-in-Err-clause-frames_after c =
+    let m = lent_memory c.args.words.now c.args.bitmap.now c.args.frames in let came = unmapped c.take_leaf.ensures.value c.take_leaf.ensures.words_after c.in-Err.is in sym (leaf_none m c.args.t c.args.i c.take_leaf.new.words _ came)
 
-pub returns-in-Stop-clause-tells : goal.returns-in-Stop-clause-tells
-returns-in-Stop-clause-tells c =
-    let m = lent_memory c.args.words.now c.args.bitmap.now c.args.frames in let came = unmapped c.take_leaf.ensures.value c.take_leaf.ensures.words_after c.in-Stop.is in leaf_told_none m c.args.t c.args.i c.requires.i_bound c.take_leaf.new.words _ came c.none.ensures
+pub returns-in-Err-clause-tells : goal.returns-in-Err-clause-tells
+returns-in-Err-clause-tells c =
+    let m = lent_memory c.args.words.now c.args.bitmap.now c.args.frames in let came = unmapped c.take_leaf.ensures.value c.take_leaf.ensures.words_after c.in-Err.is in leaf_told_none m c.args.t c.args.i c.requires.i_bound c.take_leaf.new.words _ came c.none.ensures
 
-pub returns-in-Value-clause-frames_after : goal.returns-in-Value-clause-frames_after
-returns-in-Value-clause-frames_after c =
-    let m = lent_memory c.args.words.now c.args.bitmap.now c.args.frames in let came = unmapped c.take_leaf.ensures.value c.take_leaf.ensures.words_after c.in-Value.is in ap (λ (x : Frames). memory c.take_leaf.new.words x) c.give_back.ensures.frames_after ∙ sym (leaf_freed m c.args.t c.args.i c.take_leaf.new.words _ came)
+pub returns-in-Ok-clause-frames_after : goal.returns-in-Ok-clause-frames_after
+returns-in-Ok-clause-frames_after c =
+    let m = lent_memory c.args.words.now c.args.bitmap.now c.args.frames in let came = unmapped c.take_leaf.ensures.value c.take_leaf.ensures.words_after c.in-Ok.is in ap (λ (x : Frames). memory c.take_leaf.new.words x) c.give_back.ensures.frames_after ∙ sym (leaf_freed m c.args.t c.args.i c.take_leaf.new.words _ came)
 
-pub returns-in-Value-clause-tells : goal.returns-in-Value-clause-tells
-returns-in-Value-clause-tells c =
-    let m = lent_memory c.args.words.now c.args.bitmap.now c.args.frames in let came = unmapped c.take_leaf.ensures.value c.take_leaf.ensures.words_after c.in-Value.is in leaf_told m c.args.t c.args.i c.requires.i_bound c.take_leaf.new.words _ came c.give_back.ensures.frames_after c.give_back.ensures.found_value
+pub returns-in-Ok-clause-tells : goal.returns-in-Ok-clause-tells
+returns-in-Ok-clause-tells c =
+    let m = lent_memory c.args.words.now c.args.bitmap.now c.args.frames in let came = unmapped c.take_leaf.ensures.value c.take_leaf.ensures.words_after c.in-Ok.is in leaf_told m c.args.t c.args.i c.requires.i_bound c.take_leaf.new.words _ came c.give_back.ensures.frames_after c.give_back.ensures.found_value

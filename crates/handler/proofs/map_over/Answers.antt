@@ -13,22 +13,22 @@ use Rattle.handler.proofs.map_over.Goals as goal
 
 pub put_over-requires-clause-words_lent : goal.put_over-requires-clause-words_lent
 put_over-requires-clause-words_lent c =
-    let lent : Memory = lent_memory c.args.words.now c.args.bitmap.now c.args.frames in let is = indices (suc c.args.up) c.args.virt.0 in roomy_lent (made_roomy c.args.user (lent) c.args.root.0 (take c.args.up is) c.make_tables-made.ensures 0
+    let lent : Memory = lent_memory c.args.words.now c.args.bitmap.now c.args.frames in let is = indices (suc c.args.up) c.args.virt.0 in roomy_lent (made_roomy c.args.user (lent) c.args.root.0 (take c.args.up is) c.make_tables.ensures 0
     (roomy_less {m = lent} _ (omega (arith, length-take c.args.up is, c.requires.up_le_most_above)) c.requires.room_to_take))
 
 pub put_over-requires-clause-f_value : goal.put_over-requires-clause-f_value
 put_over-requires-clause-f_value c =
-    let lent : Memory = lent_memory c.args.words.now c.args.bitmap.now c.args.frames in let is = indices (suc c.args.up) c.args.virt.0 in made_lent c.args.user (lent) c.args.root.0 (take c.args.up is) c.make_tables-made.ensures c.args.f c.requires.f_value
+    let lent : Memory = lent_memory c.args.words.now c.args.bitmap.now c.args.frames in let is = indices (suc c.args.up) c.args.virt.0 in made_lent c.args.user (lent) c.args.root.0 (take c.args.up is) c.make_tables.ensures c.args.f c.requires.f_value
 
-pub returns-in-Stop : goal.returns-in-Stop
-returns-in-Stop c =
+pub returns-in-Err : goal.returns-in-Err
+returns-in-Err c =
     let lent : Memory = lent_memory c.args.words.now c.args.bitmap.now c.args.frames in
-    map_over_stop c.args.up (lent) c.args.root.0 c.args.virt.0 c.args.f c.args.writable c.args.user c.make_tables-made.ensures c.in-Stop.is
+    map_over_stop c.args.up (lent) c.args.root.0 c.args.virt.0 c.args.f c.args.writable c.args.user c.make_tables.ensures c.in-Err.is
 
-pub returns-in-Value : goal.returns-in-Value
-returns-in-Value c =
+pub returns-in-Ok : goal.returns-in-Ok
+returns-in-Ok c =
     let lent : Memory = lent_memory c.args.words.now c.args.bitmap.now c.args.frames in
     map_over_put c.args.up (lent) c.args.root.0 c.args.virt.0 c.args.f c.args.writable c.args.user
-    c.make_tables-made.ensures c.in-Value.is (frame_low {m = lent} c.args.f c.requires.room_to_take c.requires.f_value)
+    c.make_tables.ensures c.in-Ok.is (frame_low {m = lent} c.args.f c.requires.room_to_take c.requires.f_value)
     c.start_address.ensures c.set-e.ensures
     c.page_index.ensures.value (c.put_over.ensures _)

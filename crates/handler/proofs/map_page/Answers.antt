@@ -8,4 +8,4 @@ map_over-requires-clause-room_to_take c =
 
 pub map_over-requires-clause-f_value : goal.map_over-requires-clause-f_value
 map_over-requires-clause-f_value c =
-    let e = c.raw_frame-taken.ensures c.args.words.now in taken_lent _ e _ c.in-Value.is
+    let e = c.raw_frame-taken.ensures c.args.words.now in taken_lent _ e _ c.in-Ok.is

@@ -1,14 +1,17 @@
--- Zero slots, then the count and next_addr.
-use Rattle.slots.specs.Slots.{slotted, Slots}
-use Rattle.mappings.specs.Regions.{user_start, empty_slots}
-use Rattle.mappings.specs.Packed.{MmapStands}
-use mathlib.Core.Path.{◌∙◌, ap}
-use Rattle.mappings.specs.declared.MappedRegion.{MappedRegion}
-use Rattle.mappings.proofs.RoundTrip.{stands_back}
+-- Zero bytes, then next_addr.
+use Rattle.std.proofs.Common.{ap, ◌∙◌}
+use lib.ListN.{replicate}
+use Rattle.mappings.proofs.RoundTrip.{fit_long, stands_back}
+use Rattle.mappings.proofs.Stores.{zeros_in}
 use Rattle.mappings.proofs.start.Goals as goal
+
+pub returns-clause-mmap_stands : goal.returns-clause-mmap_stands
+returns-clause-mmap_stands c =
+    let zeros = c.fill.ensures.after (λ y h. h) ∙ ap (λ n. replicate n 0) (fit_long c.args.list.now c.requires) in
+    (c.put_next.ensures.0, c.put_next.ensures.1 ∙ zeros_in zeros, c.put_next.ensures.2)
 
 pub returns-clause-list_after : goal.returns-clause-list_after
 returns-clause-list_after c =
-    let e : MmapStands c.put_next.new.list empty_slots user_start =
-    (c.put_next.ensures.0, c.put_next.ensures.1 ∙ c.put_count.ensures.1 ∙ ap (λ (s : Slots MappedRegion). slotted s.slots 0) c.clear.ensures.1, c.put_next.ensures.2)
-    in stands_back (λ k. (c.slice_known-4-1.given k).fits) e
+    let zeros = c.fill.ensures.after (λ y h. h) ∙ ap (λ n. replicate n 0) (fit_long c.args.list.now c.requires) in
+    let bytes = c.type_inv.list in
+    stands_back (λ k. (bytes k).fits) (c.put_next.ensures.0, c.put_next.ensures.1 ∙ zeros_in zeros, c.put_next.ensures.2)

@@ -1,52 +1,62 @@
 -- Bytes read, text written, and a step where there is one to make.
-use Rattle.std.proofs.Common.{take, sym, ◌∙◌, subst}
+use Rattle.std.proofs.Common.{◌≡◌, ◌≤◌, ◌<◌, ℕ, refl, ap, sym, ◌∙◌, subst}
+use Rattle.std.specs.Prelude.{Ok}
+use Rattle.std.specs.Result.{is_ok}
 use Rattle.board.specs.Packed.{board_of}
 use Rattle.streams.specs.declared.Source.{Source}
-use Rattle.streams.specs.Streams.{left_of}
-use Rattle.turn.specs.Run.{run, run_of}
+use Rattle.streams.specs.Streams.{readable}
+use Rattle.turn.specs.Run.{Stage, Going, TooLong, goes, run_of}
+use Rattle.runner.specs.declared.error.RunError.TheVariants.{ReadFailed, WriteFailed}
+use Rattle.runner.specs.Ends.{stage_of_turn}
 use Rattle.runner.specs.Loop.{TurnedBy}
-use Rattle.runner.proofs.Steps.{turned_by, turn_stays, stepped_to}
+use Rattle.runner.proofs.Steps.{by_stop, by_step, stopped_at, is_false, stage_unread, stage_unwritten, stage_long, stage_going}
 use Rattle.runner.proofs.advance.Goals as goal
 
-pub returns-then-not-is_going-clause-turned_by : goal.returns-then-not-is_going-clause-turned_by
-returns-then-not-is_going-clause-turned_by g c =
+pub returns-in_err-read-clause-turned_by : goal.returns-in_err-read-clause-turned_by
+returns-in_err-read-clause-turned_by g c =
     let a = c.args in
-    let rf = c.refill-input in
-    let fl = c.flush-flushed in
-    let r = rf.result in
-    let board = board_of a.words.now a.bitmap.now a.kernel.now a.user.now a.marked.now a.from.records in
-    let text = take fl.result.put a.out.now in
-    let ready = run (left_of rf.new.buf r) r.offset board text c.stage_of-stage.result in
-    let stays = sym c.is_going.ensures ∙ c.if-not-is_going.true in
-    turned_by a.buf.now rf.new.buf a.from.input r board (take a.from.put a.out.now) a.from.stage rf.ensures.refilled text c.is_readable.result fl.result.written
-    c.stage_of-stage.result ready fl.ensures.out_value c.is_readable.ensures c.stage_of-stage.ensures (turn_stays ready stays) _ _ _ _ rf.ensures.kept rf.ensures.end fl.ensures.kept
+    let rf = c.refill-read in
+    let fl = c.flush-written in
+    let b = board_of a.words.now a.bitmap.now a.kernel.now a.user.now a.marked.now a.records.now in
+    let at = stopped_at c.from_residual.result ReadFailed c.from_residual.ensures in
+    by_stop a.input.now rf.new.self b a.out.now fl.new.out fl.result _ _ _ _ rf.ensures.refilled fl.ensures.text rf.ensures.kept rf.ensures.end fl.ensures.kept
+    (stage_of_turn c.from_residual.result)
+    (at ∙ stage_unread (readable rf.new.self.source) (is_ok fl.result) rf.new.self.offset (is_false _ c.in_err-read.ensures.variant.1)) (ap goes at)
 
-pub returns-then-not-is_going-clause-turned : goal.returns-then-not-is_going-clause-turned
-returns-then-not-is_going-clause-turned g c = (returns-then-not-is_going-clause-turned_by g c).turned
+pub returns-in_err-written-clause-turned_by : goal.returns-in_err-written-clause-turned_by
+returns-in_err-written-clause-turned_by g c =
+    let a = c.args in
+    let rf = c.refill-read in
+    let fl = c.flush-written in
+    let b = board_of a.words.now a.bitmap.now a.kernel.now a.user.now a.marked.now a.records.now in
+    let at = stopped_at c.from_residual-in_err-written.result WriteFailed c.from_residual-in_err-written.ensures in
+    by_stop a.input.now rf.new.self b a.out.now fl.new.out fl.result _ _ _ _ rf.ensures.refilled fl.ensures.text rf.ensures.kept rf.ensures.end fl.ensures.kept
+    (stage_of_turn c.from_residual-in_err-written.result)
+    (at ∙ stage_unwritten (readable rf.new.self.source) (is_ok fl.result) rf.new.self.offset (c.in_ok-read.ensures.variant.0 refl) (ap is_ok c.in_err-written.was)) (ap goes at)
+
+pub returns-then-offset-gt-MOST-clause-turned_by : goal.returns-then-offset-gt-MOST-clause-turned_by
+returns-then-offset-gt-MOST-clause-turned_by g c =
+    let a = c.args in
+    let rf = c.refill-read in
+    let fl = c.flush-written in
+    let b = board_of a.words.now a.bitmap.now a.kernel.now a.user.now a.marked.now a.records.now in
+    let far : 9223372036854775808 < rf.new.self.offset = subst (λ (n : ℕ). 9223372036854775808 < n) c.offset.ensures c.if-offset-gt-MOST.true in
+    by_stop a.input.now rf.new.self b a.out.now fl.new.out fl.result _ _ _ _ rf.ensures.refilled fl.ensures.text rf.ensures.kept rf.ensures.end fl.ensures.kept TooLong
+    (stage_long (readable rf.new.self.source) (is_ok fl.result) rf.new.self.offset (c.in_ok-read.ensures.variant.0 refl) (ap is_ok c.in_ok-written.was) far) refl
 
 pub returns-clause-turned_by : goal.returns-clause-turned_by
 returns-clause-turned_by g c =
     let a = c.args in
-    let rf = c.refill-input in
-    let fl = c.flush-flushed in
+    let rf = c.refill-read in
+    let fl = c.flush-written in
     let p = c.play_next in
-    let r = rf.result in
-    let board = board_of a.words.now a.bitmap.now a.kernel.now a.user.now a.marked.now a.from.records in
-    let before = run_of a.words.now a.bitmap.now a.kernel.now a.user.now a.marked.now a.buf.now a.out.now a.from in
-    let text = take fl.result.put a.out.now in
-    let ready = run (left_of rf.new.buf r) r.offset board text c.stage_of-stage.result in
-    let after = run_of p.new.words p.new.bitmap p.new.kernel p.new.user p.new.marked rf.new.buf p.new.out p.result in
-    let going = sym c.is_going.ensures ∙ c.if-not-is_going.false in
-    let one =
-    turned_by a.buf.now rf.new.buf a.from.input r board (take a.from.put a.out.now) a.from.stage rf.ensures.refilled text c.is_readable.result fl.result.written
-    c.stage_of-stage.result after fl.ensures.out_value c.is_readable.ensures c.stage_of-stage.ensures (stepped_to after ready p.ensures.result_after going)
-    (g.R.Read.remaining a.reader.now) (g.R.Read.remaining rf.new.reader) (g.W.Write.contents a.writer.now) (g.W.Write.contents fl.new.writer) rf.ensures.kept rf.ensures.end
-    fl.ensures.kept in
+    let b = board_of a.words.now a.bitmap.now a.kernel.now a.user.now a.marked.now a.records.now in
+    let near : rf.new.self.offset ≤ 9223372036854775808 = subst (λ (n : ℕ). n ≤ 9223372036854775808) c.offset.ensures c.if-offset-gt-MOST.false in
+    let before = run_of a.words.now a.bitmap.now a.kernel.now a.user.now a.marked.now a.records.now a.input.now a.out.now Going in
+    let after = run_of p.new.words p.new.bitmap p.new.kernel p.new.user p.new.marked p.new.records p.new.input p.new.out (stage_of_turn (Ok p.result)) in
     subst
     (λ (t : Source).
-    TurnedBy a.from.input.source before t after (g.R.Read.remaining a.reader.now) (g.R.Read.remaining rf.new.reader) (g.W.Write.contents a.writer.now)
-    (g.W.Write.contents fl.new.writer))
-    (sym p.ensures.source_value) one
-
-pub returns-clause-turned : goal.returns-clause-turned
-returns-clause-turned g c = (returns-clause-turned_by g c).turned
+    TurnedBy a.input.now.source before t after (g.R.Read.remaining a.reader.now) (g.R.Read.remaining rf.new.reader) (g.W.Write.contents a.writer.now) (g.W.Write.contents fl.new.writer))
+    (sym p.ensures.source_value)
+    (by_step a.input.now rf.new.self b a.out.now fl.new.out fl.result _ _ _ _ rf.ensures.refilled fl.ensures.text rf.ensures.kept rf.ensures.end fl.ensures.kept after
+    (stage_going (readable rf.new.self.source) (is_ok fl.result) rf.new.self.offset (c.in_ok-read.ensures.variant.0 refl) (ap is_ok c.in_ok-written.was) near) (p.ensures.result_after Going))

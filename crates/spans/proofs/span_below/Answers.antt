@@ -1,19 +1,15 @@
-use Rattle.std.proofs.Common.{rules, ◌≡◌, ◌⊎◌, ℕ, suc, ◌+◌, ◌-◌, ◌*◌, ◌^◌, ◌≤◌, ◌<◌, min, get_or, length, ◌/◌, ◌%◌, Bool, true, false, nat_eq, nat_lt, List, [], ◌∷◌, ◌++◌, slice_set, bit_and, bit_or, Fits, w8, w32, w64, Bor, MutBor}
-use Rattle.entry.specs.Entry.{index as index_of}
-use Rattle.paging.specs.Walk.{WordsLent, reach}
-use Rattle.paging.specs.Levels.{most_above}
-use Rattle.spans.specs.Spans.{to_end, Off, IsSpan}
+use Rattle.std.specs.Prelude.{Ok}
+use Rattle.std.proofs.Common.{rules, ◌≡◌, ◌+◌, ◌≤◌, ◌/◌}
+use Rattle.paging.specs.Walk.{reach}
 use mathlib.Core.Path.{refl, sym, ◌∙◌}
 use native.Mathlib.Omega.{arith}
 use lib.ListN.{take, length-set}
-use Rattle.frame.specs.Frames.{inside}
 use Rattle.frame.proofs.Laws.{passed as test_passed, failed as test_failed}
-use Rattle.answer.specs.declared.Outcome.TheVariants.{Value}
 use Rattle.paging.proofs.Walk.{reach_end}
-use Rattle.bits.proofs.Counter.{onward, fewer, level_fits, slot_fits}
+use Rattle.bits.proofs.Counter.{onward}
 use Rattle.tree.proofs.Paths.{path}
 use Rattle.walk.proofs.Laws.{named}
-use Rattle.spans.proofs.Gaps.{further, gap_absent, gap_outside, gap_root, leaves_found, above_more}
+use Rattle.spans.proofs.Gaps.{further, gap_absent, gap_outside, gap_root, above_more}
 use Rattle.spans.proofs.span_below.Goals as goal
 
 pub returns-then-not-is_inside : goal.returns-then-not-is_inside
@@ -24,17 +20,17 @@ pub loop-passed-init : goal.loop-passed-init
 loop-passed-init c =
     (search rules, refl, reach_end _ _ _ _ refl, test_passed c.is_inside.ensures c.if-not-is_inside.false, λ k h. absurd (omega arith))
 
-pub returns-in-Stop : goal.returns-in-Stop
-returns-in-Stop c =
+pub returns-in-Err : goal.returns-in-Err
+returns-in-Err c =
     gap_absent c.args.words.now c.args.start c.args.total c.args.up c.args.root.0 c.args.virt.0 c.loop-passed.passed c.page_index.ensures.value _ _ c.loop-passed.invariant.0
-    c.to_end-in-Stop.ensures c.loop-passed.invariant.2
-    (sym c.entry_at.ensures ∙ c.in-Stop.is)
+    c.to_end-in-Err.ensures c.loop-passed.invariant.2
+    (sym c.entry_at.ensures ∙ c.in-Err.is)
 
 pub returns-then-not-is_inside-2 : goal.returns-then-not-is_inside-2
 returns-then-not-is_inside-2 c =
-    let down : reach c.args.words.now c.args.start c.args.total c.args.root.0 (take (c.loop-passed.passed + 1) (path c.args.up c.args.virt.0)) ≡ Value (c.addr-t.result.0 / 4096) = further c.args.words.now c.args.start c.args.total c.args.up c.args.root.0 c.args.virt.0 c.loop-passed.passed c.page_index.ensures.value c.loop-passed.t _
+    let down : reach c.args.words.now c.args.start c.args.total c.args.root.0 (take (c.loop-passed.passed + 1) (path c.args.up c.args.virt.0)) ≡ Ok (c.addr-t.result.0 / 4096) = further c.args.words.now c.args.start c.args.total c.args.up c.args.root.0 c.args.virt.0 c.loop-passed.passed c.page_index.ensures.value c.loop-passed.t _
     c.loop-passed-test.true c.loop-passed.invariant.2
-    (sym c.entry_at.ensures ∙ c.in-Value.is)
+    (sym c.entry_at.ensures ∙ c.in-Ok.is)
     ∙ named _ c.addr-t.ensures in
     let a = c.args in
     gap_outside a.words.now a.start a.total a.up a.root.0 a.virt.0 c.loop-passed.passed _ c.loop-passed-test.true
@@ -43,9 +39,9 @@ returns-then-not-is_inside-2 c =
 
 pub loop-passed-preserved : goal.loop-passed-preserved
 loop-passed-preserved c =
-    let down : reach c.args.words.now c.args.start c.args.total c.args.root.0 (take (c.loop-passed.passed + 1) (path c.args.up c.args.virt.0)) ≡ Value (c.addr-t.result.0 / 4096) = further c.args.words.now c.args.start c.args.total c.args.up c.args.root.0 c.args.virt.0 c.loop-passed.passed c.page_index.ensures.value c.loop-passed.t _
+    let down : reach c.args.words.now c.args.start c.args.total c.args.root.0 (take (c.loop-passed.passed + 1) (path c.args.up c.args.virt.0)) ≡ Ok (c.addr-t.result.0 / 4096) = further c.args.words.now c.args.start c.args.total c.args.up c.args.root.0 c.args.virt.0 c.loop-passed.passed c.page_index.ensures.value c.loop-passed.t _
     c.loop-passed-test.true c.loop-passed.invariant.2
-    (sym c.entry_at.ensures ∙ c.in-Value.is)
+    (sym c.entry_at.ensures ∙ c.in-Ok.is)
     ∙ named _ c.addr-t.ensures in let few : c.args.up ≤ 4 = c.requires.up_le_most_above in
     let a = c.args in (
       onward c.loop-passed.passed _ c.loop-passed-test.true,

@@ -1,37 +1,15 @@
--- `create_table`: the lowest free frame, zeroed and entered, or 11.
-use Rattle.std.proofs.Common.{rules, ◌≡◌, true}
-use Rattle.paging.specs.Kept.{lent_memory}
-use Rattle.frame.specs.Frames.{inside}
-use Rattle.bitmap.specs.Bitmap.{marks_in}
+-- `create_table`: a frame that was taken is one of the lent frames, so that its words are there.
+use Rattle.std.proofs.Common.{rules}
 use Rattle.paging.proofs.Walk.{frame_lent}
 use Rattle.paging.proofs.Map.{roomy_lent}
 use Rattle.walk.proofs.Laws.{place_asks}
-use Rattle.tables.proofs.Laws.{taken_lent, create_made, create_none}
 use Rattle.tables.proofs.create_table.Goals as goal
 
 pub entry_place-requires-clause-start_le_t : goal.entry_place-requires-clause-start_le_t
-entry_place-requires-clause-start_le_t c =
-    (let lent : inside c.args.frames.start c.args.frames.total c.in-AtFrame.f.0 ≡ true = taken_lent _ _ c.take_frame-taken.ensures.value _ c.in-AtFrame.is in
-    place_asks c.args.frames.start c.args.frames.total c.in-AtFrame.f.0 0 c.requires.room_to_take.held.few (lent) (search rules)).0
+entry_place-requires-clause-start_le_t c = (place_asks _ _ c.in_ok-f.f.0 0 c.requires.room_to_take.held.few c.in_ok-f.ensures.lent (search rules)).0
 
 pub entry_place-requires-clause-start_bound : goal.entry_place-requires-clause-start_bound
-entry_place-requires-clause-start_bound c =
-    (let lent : inside c.args.frames.start c.args.frames.total c.in-AtFrame.f.0 ≡ true = taken_lent _ _ c.take_frame-taken.ensures.value _ c.in-AtFrame.is in
-    place_asks c.args.frames.start c.args.frames.total c.in-AtFrame.f.0 0 c.requires.room_to_take.held.few (lent) (search rules)).1.0
+entry_place-requires-clause-start_bound c = (place_asks _ _ c.in_ok-f.f.0 0 c.requires.room_to_take.held.few c.in_ok-f.ensures.lent (search rules)).1.0
 
 pub zero_frame-requires : goal.zero_frame-requires
-zero_frame-requires c =
-    let lent : inside c.args.frames.start c.args.frames.total c.in-AtFrame.f.0 ≡ true = taken_lent _ _ c.take_frame-taken.ensures.value _ c.in-AtFrame.is in
-    rw c.entry_place.ensures (frame_lent _ (roomy_lent c.requires.room_to_take) (lent))
-
-pub returns-in-NoFrame : goal.returns-in-NoFrame
-returns-in-NoFrame c =
-    create_none c.args.user (lent_memory c.args.words.now c.args.bitmap.now c.args.frames) c.args.at c.take_frame-taken.result (marks_in c.take_frame-taken.new.bitmap)
-    c.take_frame-taken.ensures.value c.take_frame-taken.ensures.bitmap_after _ c.in-NoFrame.is
-
-pub returns-in-AtFrame : goal.returns-in-AtFrame
-returns-in-AtFrame c =
-    create_made c.args.user (lent_memory c.args.words.now c.args.bitmap.now c.args.frames) c.args.at c.take_frame-taken.result (marks_in c.take_frame-taken.new.bitmap)
-    c.take_frame-taken.ensures.value c.take_frame-taken.ensures.bitmap_after _ c.in-AtFrame.is c.requires.room_to_take.held.low
-    _ _ c.zero_frame.ensures c.entry_place.ensures
-    _ _ c.set.ensures c.start_address.ensures
+zero_frame-requires c = rw c.entry_place.ensures (frame_lent _ (roomy_lent c.requires.room_to_take) c.in_ok-f.ensures.lent)

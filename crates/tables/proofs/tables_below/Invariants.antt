@@ -7,9 +7,9 @@ use Rattle.paging.specs.Map.{make, RoomToTake}
 use Rattle.tables.proofs.tables_below.Given as goal
 
 abbrev pub invariant-loop-done : goal.invariant-loop-done
-invariant-loop-done l = (l.done ≤ l.k) × (length l.words ≡ length l.initial.words) × RoomToTake (lent_memory l.words l.bitmap l.left) (4 - l.done)
-    × (make l.user (lent_memory l.initial.words l.initial.bitmap l.initial.left) l.initial.t (take l.k (indices_of (suc l.up) l.virt.0))
-    ≡ make l.user (lent_memory l.words l.bitmap l.left) l.t (take (l.k - l.done) (indices_of (suc (l.up - l.done)) l.virt.0)))
+invariant-loop-done l = (l.done ≤ l.k) × (length l.words ≡ length l.initial.words) × RoomToTake (lent_memory l.words l.bitmap l.frames) (4 - l.done)
+    × (make l.user (lent_memory l.initial.words l.initial.bitmap l.initial.frames) l.initial.t (take l.k (indices_of (suc l.up) l.virt.0))
+    ≡ make l.user (lent_memory l.words l.bitmap l.frames) l.t (take (l.k - l.done) (indices_of (suc (l.up - l.done)) l.virt.0)))
 
 abbrev pub decreases-loop-done : goal.decreases-loop-done
 decreases-loop-done l = l.k - l.done

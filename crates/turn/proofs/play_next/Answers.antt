@@ -1,51 +1,37 @@
 -- The step that stands next: the end, a line `tape`, or a call.
-use Rattle.std.proofs.Common.{◌+◌, ◌≤◌, take, sym, ap, ◌∙◌, subst, arith}
+use Rattle.std.proofs.Common.{◌++◌, ◌≤◌, ℕ, length, sym, ap, ◌∙◌, subst}
+use Rattle.std.specs.Prelude.{Ok}
 use Rattle.board.specs.Packed.{board_of}
 use Rattle.player.specs.Play.{turn}
-use Rattle.streams.specs.declared.Input.{Input}
-use Rattle.streams.specs.Streams.{left_of}
-use Rattle.turn.specs.declared.Stage.TheVariants.{Going}
-use Rattle.turn.specs.Run.{run, run_of}
-use Rattle.turn.proofs.Steps.{step_finished, step_malformed, step_read, left_behind, call_within}
+use Rattle.streams.specs.Streams.{Left, taken}
+use Rattle.tape.specs.Kinds.{number_of}
+use Rattle.tape.specs.Text.{count_text}
+use Rattle.tape.proofs.Sizes.{call_there}
+use Rattle.turn.specs.Run.{Going, run, run_of, tape_word}
+use Rattle.turn.proofs.Steps.{step_finished, step_malformed, step_read}
 use Rattle.turn.proofs.play_next.Goals as goal
 
-pub past-requires-clause-size_bound : goal.past-requires-clause-size_bound
-past-requires-clause-size_bound c =
-    let i = c.args.from.input in
-    let within = call_within c.args.buf.now i.at i.filled c.in-Read.call c.requires.at_le_filled (sym c.in-Read.ensures) in
-    omega (arith, within, c.call_size.ensures)
+pub take-requires-clause-size_bound : goal.take-requires-clause-size_bound
+take-requires-clause-size_bound c =
+    subst (λ (n : ℕ). n ≤ length c.args.input.now.bytes) (sym c.size.ensures) (call_there c.args.input.now.bytes c.in-Ok-Some.call (sym c.in-Ok-Some.ensures ∙ ap Ok c.in-Ok-Some.field-0-is))
 
-pub returns-in-Finished-clause-result_after : goal.returns-in-Finished-clause-result_after
-returns-in-Finished-clause-result_after c =
+pub returns-in-Ok-None-clause-result_after : goal.returns-in-Ok-None-clause-result_after
+returns-in-Ok-None-clause-result_after c = λ s.
     let a = c.args in
-    step_finished (run_of a.words.now a.bitmap.now a.kernel.now a.user.now a.marked.now a.buf.now a.out.now a.from) (sym c.in-Finished.ensures)
+    step_finished (run_of a.words.now a.bitmap.now a.kernel.now a.user.now a.marked.now a.records.now a.input.now a.out.now s) (sym c.in-Ok-None.ensures ∙ ap Ok c.in-Ok-None.field-0-is)
 
-pub returns-in-Malformed-clause-result_after : goal.returns-in-Malformed-clause-result_after
-returns-in-Malformed-clause-result_after c =
+pub returns-in-Err-clause-result_after : goal.returns-in-Err-clause-result_after
+returns-in-Err-clause-result_after c = λ s.
     let a = c.args in
-    step_malformed (run_of a.words.now a.bitmap.now a.kernel.now a.user.now a.marked.now a.buf.now a.out.now a.from) (take c.put_count.result c.put_count.new.out)
-    (sym c.in-Malformed.ensures) c.put_count.ensures.out_after
+    step_malformed (run_of a.words.now a.bitmap.now a.kernel.now a.user.now a.marked.now a.records.now a.input.now a.out.now s) c.in-Err.field-0 c.put_count.new.self
+    (sym c.in-Err.ensures) (c.put_count.ensures.text ∙ ap (λ (n : ℕ). a.out.now ++ count_text tape_word n) c.offset.ensures)
 
-pub returns-in-Read-clause-result_after : goal.returns-in-Read-clause-result_after
-returns-in-Read-clause-result_after c =
+pub returns-in-Ok-Some-clause-result_after : goal.returns-in-Ok-Some-clause-result_after
+returns-in-Ok-Some-clause-result_after c = λ s.
     let a = c.args in
-    let i = a.from.input in
     let p = c.play-played in
-    let from = run_of a.words.now a.bitmap.now a.kernel.now a.user.now a.marked.now a.buf.now a.out.now a.from in
+    let from = run_of a.words.now a.bitmap.now a.kernel.now a.user.now a.marked.now a.records.now a.input.now a.out.now s in
     let board = board_of p.new.words p.new.bitmap p.new.kernel p.new.user p.new.marked p.result.records in
-    let text = take c.put_line.result c.put_line.new.out in
-    let size = c.call_size.result in
-    let read = sym c.in-Read.ensures in
-    let within = call_within a.buf.now i.at i.filled c.in-Read.call c.requires.at_le_filled read in
-    let w : i.at + size ≤ i.filled = omega (arith, within, c.call_size.ensures) in
-    let left = left_of a.buf.now (record { at = i.at + size; filled = i.filled; offset = i.offset + size; source = i.source }) in
-    ap (λ (j : Input). run (left_of a.buf.now j) j.offset board text Going) c.past.ensures
-    ∙ step_read from c.in-Read.call size (turn p.result.kind p.result.line board) left text read c.call_size.ensures p.ensures.records_after c.put_line.ensures.out_after
-    (left_behind a.buf.now i.at i.filled size w)
-
-pub returns-in-Read-clause-at_le_filled_2 : goal.returns-in-Read-clause-at_le_filled_2
-returns-in-Read-clause-at_le_filled_2 c =
-    let i = c.args.from.input in
-    let within = call_within c.args.buf.now i.at i.filled c.in-Read.call c.requires.at_le_filled (sym c.in-Read.ensures) in
-    let w : i.at + c.call_size.result ≤ i.filled = omega (arith, within, c.call_size.ensures) in
-    subst (λ (j : Input). j.at ≤ j.filled) (sym c.past.ensures) w
+    let text = c.put_line.new.self in
+    ap (λ (l : Left). run l.bytes l.offset board text Going) (c.take.ensures ∙ ap (λ (n : ℕ). taken n a.input.now) c.size.ensures)
+    ∙ step_read from c.in-Ok-Some.call (turn (number_of p.result.kind) p.result.line board) text (sym c.in-Ok-Some.ensures ∙ ap Ok c.in-Ok-Some.field-0-is) p.ensures.records_after c.put_line.ensures.text

@@ -6,16 +6,15 @@ use Rattle.vm_list.specs.Packed.{vm_in}
 use mathlib.Core.Path.{sym, ◌∙◌, ap}
 use native.Mathlib.Omega.{arith}
 use Rattle.slots.proofs.Slices.{seeking_on, seeking_here, seeking_end}
-use Rattle.vm_list.proofs.RoundTrip.{slots_long}
+use Rattle.vm_list.proofs.RoundTrip.{enough}
 use Rattle.vm_list.proofs.find_used.Goals as goal
 
-enough : (bs : List ℕ) (n : ℕ) → n ≤ 256 → n ≤ length (vm_in bs).slots
-enough bs n h = omega (arith, slots_long bs)
-
 pub returns-then-is_used_at : goal.returns-then-is_used_at
-returns-then-is_used_at c =
-    seeking_here no_vm_region _ _ (enough c.args.list.now c.args.n c.requires.n_bound) (used_at _) _ c.loop-i.invariant (search rules)
-    (ap (used_at c.args.addr) (sym c.slot.ensures) ∙ sym c.is_used_at.ensures ∙ c.if-is_used_at.true)
+returns-then-is_used_at c = (
+  seeking_here no_vm_region _ _ (enough c.args.list.now c.args.n c.requires.n_bound) (used_at _) _ c.loop-i.invariant (search rules)
+      (ap (used_at c.args.addr) (sym c.slot.ensures) ∙ sym c.is_used_at.ensures ∙ c.if-is_used_at.true),
+  c.loop-i-test.true,
+)
 
 pub loop-i-preserved : goal.loop-i-preserved
 loop-i-preserved c =
@@ -24,4 +23,4 @@ loop-i-preserved c =
 
 pub returns : goal.returns
 returns c =
-    seeking_end no_vm_region _ _ (enough c.args.list.now c.args.n c.requires.n_bound) (used_at _) _ c.loop-i.invariant c.loop-i-test.false
+    sym (seeking_end no_vm_region _ _ (enough c.args.list.now c.args.n c.requires.n_bound) (used_at _) _ c.loop-i.invariant c.loop-i-test.false)

@@ -5,16 +5,15 @@ use Rattle.vm_list.specs.Packed.{vm_in}
 use mathlib.Core.Path.{sym, ◌∙◌, ap}
 use native.Mathlib.Omega.{arith}
 use Rattle.slots.proofs.Slices.{seeking_on, seeking_here, seeking_end}
-use Rattle.vm_list.proofs.RoundTrip.{slots_long}
+use Rattle.vm_list.proofs.RoundTrip.{enough}
 use Rattle.vm_list.proofs.first_fit.Goals as goal
 
-enough : (bs : List ℕ) (n : ℕ) → n ≤ 256 → n ≤ length (vm_in bs).slots
-enough bs n h = omega (arith, slots_long bs)
-
 pub returns-then-is_fit : goal.returns-then-is_fit
-returns-then-is_fit c =
-    seeking_here no_vm_region _ _ (enough c.args.list.now c.args.n c.requires.n_bound) (fits _) _ c.loop-i.invariant (search rules)
-    (ap (fits c.args.size) (sym c.slot.ensures) ∙ sym c.is_fit.ensures ∙ c.if-is_fit.true)
+returns-then-is_fit c = (
+  seeking_here no_vm_region _ _ (enough c.args.list.now c.args.n c.requires.n_bound) (fits _) _ c.loop-i.invariant (search rules)
+      (ap (fits c.args.size) (sym c.slot.ensures) ∙ sym c.is_fit.ensures ∙ c.if-is_fit.true),
+  c.loop-i-test.true,
+)
 
 pub loop-i-preserved : goal.loop-i-preserved
 loop-i-preserved c =
@@ -23,4 +22,4 @@ loop-i-preserved c =
 
 pub returns : goal.returns
 returns c =
-    seeking_end no_vm_region _ _ (enough c.args.list.now c.args.n c.requires.n_bound) (fits _) _ c.loop-i.invariant c.loop-i-test.false
+    sym (seeking_end no_vm_region _ _ (enough c.args.list.now c.args.n c.requires.n_bound) (fits _) _ c.loop-i.invariant c.loop-i-test.false)

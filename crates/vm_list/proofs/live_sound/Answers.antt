@@ -8,12 +8,9 @@ use native.Mathlib.Omega.{arith}
 use borrow.Author.Tests.{le-leb, lt-leb}
 use Rattle.frame.proofs.Laws.{passed, failed}
 use Rattle.slots.proofs.Slices.{passing_on, passing_stop, passing_end}
-use Rattle.vm_list.proofs.RoundTrip.{slots_long}
+use Rattle.vm_list.proofs.RoundTrip.{enough}
 use Rattle.vm_list.proofs.Places.{flags_next, flags_done, none_right, none_left}
 use Rattle.vm_list.proofs.live_sound.Goals as goal
-
-enough : (bs : List ℕ) (n : ℕ) → n ≤ 256 → n ≤ length (vm_in bs).slots
-enough bs n h = omega (arith, slots_long bs)
 
 pub returns-then-word_at-gt1 : goal.returns-then-word_at-gt1
 returns-then-word_at-gt1 c =

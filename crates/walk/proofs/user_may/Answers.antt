@@ -1,11 +1,11 @@
 -- `user_may`: 10, or what the entries of the walk let user code do; the loop of four turns, or of as many as there are levels.
+use Rattle.std.specs.Prelude.{Ok}
 use Rattle.std.proofs.Common.{◌≡◌, true, length}
 use Rattle.entry.specs.Entry.{indices as indices_of}
 use Rattle.paging.specs.Calls.{lent_walk}
 use Rattle.paging.specs.Working.{rows_below}
 use Rattle.paging.specs.User.{user_rows}
 use mathlib.Core.Path.{sym, ◌∙◌, ap}
-use Rattle.answer.specs.declared.FlagAnswer.TheVariants.{Flag}
 use Rattle.paging.proofs.Walk.{lent_words, lent_root}
 use Rattle.paging.proofs.Calls.{walk_levels, walk_lent}
 use Rattle.paging.proofs.User.{may_broken, may_is}
@@ -27,7 +27,7 @@ user_below-requires-clause-root_value c =
 pub returns-then-levels-eq-LEVELS : goal.returns-then-levels-eq-LEVELS
 returns-then-levels-eq-LEVELS c =
     let good : lent_walk c.args.levels (length c.args.words.now) c.args.start c.args.total c.args.root.0 ≡ true = passed c.may_walk.ensures c.if-not-may_walk.false in
-    ap Flag (c.user_below.ensures
+    ap Ok (c.user_below.ensures
     ∙ ap (λ n. user_rows c.args.write (rows_below c.args.words.now c.args.start c.args.total c.args.root.0 (indices_of n c.args.virt.0))) (sym c.if-levels-eq-LEVELS.true))
     ∙ sym (may_is _ _ _ _ _ _ _ (good))
 
@@ -46,4 +46,4 @@ user_below-requires-2-clause-root_value c =
 pub returns : goal.returns
 returns c =
     let good : lent_walk c.args.levels (length c.args.words.now) c.args.start c.args.total c.args.root.0 ≡ true = passed c.may_walk.ensures c.if-not-may_walk.false in
-    ap Flag c.user_below-2.ensures ∙ sym (may_is _ _ _ _ _ _ _ (good))
+    ap Ok c.user_below-2.ensures ∙ sym (may_is _ _ _ _ _ _ _ (good))

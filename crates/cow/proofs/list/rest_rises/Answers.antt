@@ -7,13 +7,13 @@ use Rattle.cow.proofs.list.rest_rises.Goals as goal
 pub returns-then-page-last : goal.returns-then-page-last
 returns-then-page-last c =
     sym (c.loop-j.invariant ∙ page_stops c.args.list.now c.args.n c.requires.n_bound c.loop-j.j c.loop-j.last c.loop-j-test.true
-    (omega (arith, c.page_at-page.ensures, c.if-page-last.true)))
+    (omega (arith, c.slot-page.ensures, c.if-page-last.true)))
 
 pub loop-j-preserved : goal.loop-j-preserved
 loop-j-preserved c =
-    rw c.page_at-page.ensures
+    rw c.slot-page.ensures
     (c.loop-j.invariant ∙ page_rises c.args.list.now c.args.n c.requires.n_bound c.loop-j.j c.loop-j.last _ refl c.loop-j-test.true
-    (omega (arith, c.page_at-page.ensures, c.if-page-last.false)))
+    (omega (arith, c.slot-page.ensures, c.if-page-last.false)))
 
 pub returns : goal.returns
 returns c =

@@ -1,10 +1,10 @@
 -- A frame record that does not fit, or the call on it unpacked; words, bitmap and marked pages are changed where they stand.
+use Rattle.std.specs.Prelude.{Err}
+use Rattle.answer.specs.declared.Refusal.TheVariants.{BrokenRecord}
 use Rattle.frame.specs.Found.{key_line}
 use Rattle.layout.specs.Left.{fault_leftovers}
 use mathlib.Core.Path.{◌∙◌, ap}
 use borrow.Author.Tests.{eq-eqb, ne_eqb}
-use Rattle.answer.specs.Numbers.{broken_record}
-use Rattle.answer.specs.declared.Answer.TheVariants.{Refused}
 use Rattle.fault.specs.Faults.{Faulting, FaultDid, handle_fault_of}
 use Rattle.layout.specs.Parts.{fields_size}
 use Rattle.layout.proofs.Left.{contract_broken, contract_met, key_line_lem}
@@ -17,7 +17,7 @@ returns-then-fields-ne-FIELDS_SIZE-clause-marked_after c =
 
 pub returns-then-fields-ne-FIELDS_SIZE-clause-result_value : goal.returns-then-fields-ne-FIELDS_SIZE-clause-result_value
 returns-then-fields-ne-FIELDS_SIZE-clause-result_value c =
-    let call : Faulting → FaultDid = λ f. handle_fault_of f c.args.root c.args.addr c.args.code in let h = ne_eqb _ fields_size c.if-fields-ne-FIELDS_SIZE.true in let p = contract_broken fault_leftovers (fault_broken (call) c.args.words.now c.args.fields.now c.args.bits.now c.args.marked.now h (ap key_line c.broken_tally.ensures)) in fault_unfit_none c.args.words.now c.args.fields.now c.args.bits.now c.args.marked.now c.args.root c.args.addr c.args.code (Refused broken_record) h c.broken_tally.ensures
+    let call : Faulting → FaultDid = λ f. handle_fault_of f c.args.root c.args.addr c.args.code in let h = ne_eqb _ fields_size c.if-fields-ne-FIELDS_SIZE.true in let p = contract_broken fault_leftovers (fault_broken (call) c.args.words.now c.args.fields.now c.args.bits.now c.args.marked.now h (ap key_line c.broken_tally.ensures)) in fault_unfit_none c.args.words.now c.args.fields.now c.args.bits.now c.args.marked.now c.args.root c.args.addr c.args.code (Err BrokenRecord) h c.broken_tally.ensures
 
 pub returns-clause-marked_after : goal.returns-clause-marked_after
 returns-clause-marked_after c =

@@ -19,7 +19,7 @@ returns-clause-bits_after c =
     (let call : Memory → Out = λ m. handle_fault_second_of m c.args.root c.args.addr c.args.code in
     contract_met second_leftovers
     (memory_met (call) c.args.words.now c.args.fields.now c.args.bits.now c.handle_page_fault-did.new.bitmap (eq-eqb _ fields_size c.if-fields-ne-FIELDS_SIZE.false) c.get_fields-frames.ensures
-    (c.handle_page_fault-did.ensures.value, (c.handle_page_fault-did.ensures.words_after, c.handle_page_fault-did.ensures.bitmap_after)) c.answer_line.ensures c.put_fields.ensures)
+    (c.handle_page_fault-did.ensures.value, (c.handle_page_fault-did.ensures.words_after, c.handle_page_fault-did.ensures.bitmap_after)) c.line_of.ensures c.put_fields.ensures)
     (second_refused c.args.words.now c.args.fields.now c.args.bits.now (λ i. (c.slice_known-2-1.given i).fits) c.args.root c.args.addr c.args.code)).0
 
 pub returns-clause-refused : goal.returns-clause-refused
@@ -27,5 +27,5 @@ returns-clause-refused c =
     (let call : Memory → Out = λ m. handle_fault_second_of m c.args.root c.args.addr c.args.code in
     contract_met second_leftovers
     (memory_met (call) c.args.words.now c.args.fields.now c.args.bits.now c.handle_page_fault-did.new.bitmap (eq-eqb _ fields_size c.if-fields-ne-FIELDS_SIZE.false) c.get_fields-frames.ensures
-    (c.handle_page_fault-did.ensures.value, (c.handle_page_fault-did.ensures.words_after, c.handle_page_fault-did.ensures.bitmap_after)) c.answer_line.ensures c.put_fields.ensures)
+    (c.handle_page_fault-did.ensures.value, (c.handle_page_fault-did.ensures.words_after, c.handle_page_fault-did.ensures.bitmap_after)) c.line_of.ensures c.put_fields.ensures)
     (second_refused c.args.words.now c.args.fields.now c.args.bits.now (λ i. (c.slice_known-2-1.given i).fits) c.args.root c.args.addr c.args.code)).1

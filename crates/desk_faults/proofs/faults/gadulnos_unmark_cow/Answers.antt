@@ -9,10 +9,10 @@ use Rattle.desk_faults.proofs.faults.gadulnos_unmark_cow.Goals as goal
 
 pub returns-clause-marked_after : goal.returns-clause-marked_after
 returns-clause-marked_after c =
-    (contract_met no_leftovers (marked_did_lem (λ (s : Slots ℕ). unmark_cow s c.args.addr) c.args.marked.now c.unmark_cow.ensures.marked_after c.answer_line.ensures)
+    (contract_met no_leftovers (marked_did_lem (λ (s : Slots ℕ). unmark_cow s c.args.addr) c.args.marked.now c.unmark_cow.ensures.marked_after c.line_of.ensures)
     (unmark_refused c.args.marked.now (λ i. (c.slice_known-1.given i).fits) c.args.addr)).0
 
 pub returns-clause-refused : goal.returns-clause-refused
 returns-clause-refused c =
-    (contract_met no_leftovers (marked_did_lem (λ (s : Slots ℕ). unmark_cow s c.args.addr) c.args.marked.now c.unmark_cow.ensures.marked_after c.answer_line.ensures)
+    (contract_met no_leftovers (marked_did_lem (λ (s : Slots ℕ). unmark_cow s c.args.addr) c.args.marked.now c.unmark_cow.ensures.marked_after c.line_of.ensures)
     (unmark_refused c.args.marked.now (λ i. (c.slice_known-1.given i).fits) c.args.addr)).1

@@ -16,12 +16,12 @@ pub returns-clause-marked_after : goal.returns-clause-marked_after
 returns-clause-marked_after c =
     (contract_met no_leftovers
     (start_did c.args.words.now c.args.fields.now c.args.bits.now c.args.root.now c.args.kernel.now c.args.user.now c.args.marked.now c.args.from c.args.to c.args.levels _
-    c.start-did.new.bitmap (eq-eqb _ fields_size c.if-fields-ne-FIELDS_SIZE.false) c.start-did.ensures.marked_after c.answer_line.ensures (c.put_records.ensures.fields_after, c.put_records.ensures.root_after))
+    c.start-did.new.bitmap (eq-eqb _ fields_size c.if-fields-ne-FIELDS_SIZE.false) c.start-did.ensures.marked_after c.line_of.ensures (c.put_records.ensures.fields_after, c.put_records.ensures.root_after))
     (start_refused c.args.words.now c.args.fields.now c.args.bits.now c.args.root.now c.args.kernel.now c.args.user.now c.args.marked.now c.args.from c.args.to c.args.levels)).0
 
 pub returns-clause-refused : goal.returns-clause-refused
 returns-clause-refused c =
     (contract_met no_leftovers
     (start_did c.args.words.now c.args.fields.now c.args.bits.now c.args.root.now c.args.kernel.now c.args.user.now c.args.marked.now c.args.from c.args.to c.args.levels _
-    c.start-did.new.bitmap (eq-eqb _ fields_size c.if-fields-ne-FIELDS_SIZE.false) c.start-did.ensures.marked_after c.answer_line.ensures (c.put_records.ensures.fields_after, c.put_records.ensures.root_after))
+    c.start-did.new.bitmap (eq-eqb _ fields_size c.if-fields-ne-FIELDS_SIZE.false) c.start-did.ensures.marked_after c.line_of.ensures (c.put_records.ensures.fields_after, c.put_records.ensures.root_after))
     (start_refused c.args.words.now c.args.fields.now c.args.bits.now c.args.root.now c.args.kernel.now c.args.user.now c.args.marked.now c.args.from c.args.to c.args.levels)).1

@@ -1,35 +1,35 @@
 -- A record that does not fit, or the call on the record unpacked; the bitmap is changed where it stands.
+use Rattle.std.specs.Prelude.{Result}
+use Rattle.answer.specs.declared.Refusal.{Refusal}
+use Rattle.address.specs.declared.Frame.{Frame}
 use Rattle.layout.specs.Left.{no_leftovers}
 use mathlib.Core.Path.{refl}
 use borrow.Author.Tests.{eq-eqb, ne_eqb}
 use Rattle.layout.specs.Parts.{fields_size}
 use Rattle.layout.proofs.Left.{contract_broken, contract_met}
 use Rattle.frame.specs.Frames.{Frames, FramesDid, allocate}
-use Rattle.frame.specs.Results.{allocated}
-use Rattle.frame.specs.declared.Allocated.{Allocated}
 use Rattle.address.specs.Address.{frame_line}
-use Rattle.address.specs.declared.FrameAnswer.{FrameAnswer}
 use Rattle.desk_memory.proofs.LeftMemory.{frames_broken, frames_met, frames_unchanged, allocate_clean}
 use Rattle.desk_memory.proofs.frames.gadulnos_allocate_frame.Goals as goal
 
 pub returns-then-fields-ne-FIELDS_SIZE-clause-bits_after : goal.returns-then-fields-ne-FIELDS_SIZE-clause-bits_after
 returns-then-fields-ne-FIELDS_SIZE-clause-bits_after c =
-    (let call : Frames → FramesDid FrameAnswer = λ fr. allocate fr in
+    (let call : Frames → FramesDid (Result Frame Refusal) = λ fr. allocate fr in
     contract_broken no_leftovers
     (frames_broken frame_line (call) c.args.fields.now c.args.bits.now (ne_eqb _ fields_size c.if-fields-ne-FIELDS_SIZE.true) c.broken.ensures)).0
 
 pub returns-clause-bits_after : goal.returns-clause-bits_after
 returns-clause-bits_after c =
-    (let call : Frames → FramesDid FrameAnswer = λ fr. allocate fr in
+    (let call : Frames → FramesDid (Result Frame Refusal) = λ fr. allocate fr in
     contract_met no_leftovers
-    (frames_met frame_line (call) c.args.fields.now c.args.bits.now allocated (λ (x : Allocated). frame_line x.answer) (λ (x : Allocated). x.frames) (λ _. (refl, refl))
-    c.allocate_frame-did.new.bitmap (eq-eqb _ fields_size c.if-fields-ne-FIELDS_SIZE.false) c.get_fields.ensures (c.allocate_frame-did.ensures.value, c.allocate_frame-did.ensures.bitmap_after) c.frame_line.ensures c.put_fields.ensures)
+    (frames_met frame_line (call) c.args.fields.now c.args.bits.now
+    c.allocate_frame-answer.new.bitmap (eq-eqb _ fields_size c.if-fields-ne-FIELDS_SIZE.false) c.get_fields-frames.ensures c.allocate_frame-answer.ensures c.line_of.ensures c.put_fields.ensures)
     (frames_unchanged frame_line (call) c.args.fields.now c.args.bits.now no_leftovers (λ i. (c.slice_known-1.given i).fits) allocate_clean)).0
 
 pub returns-clause-refused : goal.returns-clause-refused
 returns-clause-refused c =
-    (let call : Frames → FramesDid FrameAnswer = λ fr. allocate fr in
+    (let call : Frames → FramesDid (Result Frame Refusal) = λ fr. allocate fr in
     contract_met no_leftovers
-    (frames_met frame_line (call) c.args.fields.now c.args.bits.now allocated (λ (x : Allocated). frame_line x.answer) (λ (x : Allocated). x.frames) (λ _. (refl, refl))
-    c.allocate_frame-did.new.bitmap (eq-eqb _ fields_size c.if-fields-ne-FIELDS_SIZE.false) c.get_fields.ensures (c.allocate_frame-did.ensures.value, c.allocate_frame-did.ensures.bitmap_after) c.frame_line.ensures c.put_fields.ensures)
+    (frames_met frame_line (call) c.args.fields.now c.args.bits.now
+    c.allocate_frame-answer.new.bitmap (eq-eqb _ fields_size c.if-fields-ne-FIELDS_SIZE.false) c.get_fields-frames.ensures c.allocate_frame-answer.ensures c.line_of.ensures c.put_fields.ensures)
     (frames_unchanged frame_line (call) c.args.fields.now c.args.bits.now no_leftovers (λ i. (c.slice_known-1.given i).fits) allocate_clean)).1

@@ -1,4 +1,7 @@
 -- A record that does not fit, or the call on the record unpacked; the bitmap is changed where it stands.
+use Rattle.std.specs.Prelude.{Result}
+use Rattle.answer.specs.declared.Refusal.{Refusal}
+use Rattle.frame.specs.declared.Found.{Found}
 use Rattle.layout.specs.Left.{no_leftovers}
 use mathlib.Core.Path.{refl}
 use borrow.Author.Tests.{eq-eqb, ne_eqb}
@@ -6,30 +9,27 @@ use Rattle.layout.specs.Parts.{fields_size}
 use Rattle.layout.proofs.Left.{contract_broken, contract_met}
 use Rattle.frame.specs.Frames.{Frames, FramesDid, deallocate}
 use Rattle.frame.specs.Found.{found_line}
-use Rattle.frame.specs.Results.{deallocated}
-use Rattle.frame.specs.declared.Deallocated.{Deallocated}
-use Rattle.frame.specs.declared.FoundAnswer.{FoundAnswer}
 use Rattle.desk_memory.proofs.LeftMemory.{frames_broken, frames_met, frames_unchanged, deallocate_clean}
 use Rattle.desk_memory.proofs.frames.gadulnos_deallocate_frame.Goals as goal
 
 pub returns-then-fields-ne-FIELDS_SIZE-clause-bits_after : goal.returns-then-fields-ne-FIELDS_SIZE-clause-bits_after
 returns-then-fields-ne-FIELDS_SIZE-clause-bits_after c =
-    (let call : Frames → FramesDid FoundAnswer = λ fr. deallocate fr c.args.number in
+    (let call : Frames → FramesDid (Result Found Refusal) = λ fr. deallocate fr c.args.number in
     contract_broken no_leftovers
     (frames_broken found_line (call) c.args.fields.now c.args.bits.now (ne_eqb _ fields_size c.if-fields-ne-FIELDS_SIZE.true) c.broken.ensures)).0
 
 pub returns-clause-bits_after : goal.returns-clause-bits_after
 returns-clause-bits_after c =
-    (let call : Frames → FramesDid FoundAnswer = λ fr. deallocate fr c.args.number in
+    (let call : Frames → FramesDid (Result Found Refusal) = λ fr. deallocate fr c.args.number in
     contract_met no_leftovers
-    (frames_met found_line (call) c.args.fields.now c.args.bits.now deallocated (λ (x : Deallocated). found_line x.answer) (λ (x : Deallocated). x.frames) (λ _. (refl, refl))
-    c.deallocate_frame-did.new.bitmap (eq-eqb _ fields_size c.if-fields-ne-FIELDS_SIZE.false) c.get_fields.ensures (c.deallocate_frame-did.ensures.value, c.deallocate_frame-did.ensures.bitmap_after) c.found_line.ensures c.put_fields.ensures)
+    (frames_met found_line (call) c.args.fields.now c.args.bits.now
+    c.deallocate_frame-answer.new.bitmap (eq-eqb _ fields_size c.if-fields-ne-FIELDS_SIZE.false) c.get_fields-frames.ensures c.deallocate_frame-answer.ensures c.line_of.ensures c.put_fields.ensures)
     (frames_unchanged found_line (call) c.args.fields.now c.args.bits.now no_leftovers (λ i. (c.slice_known-1.given i).fits) (deallocate_clean c.args.number))).0
 
 pub returns-clause-refused : goal.returns-clause-refused
 returns-clause-refused c =
-    (let call : Frames → FramesDid FoundAnswer = λ fr. deallocate fr c.args.number in
+    (let call : Frames → FramesDid (Result Found Refusal) = λ fr. deallocate fr c.args.number in
     contract_met no_leftovers
-    (frames_met found_line (call) c.args.fields.now c.args.bits.now deallocated (λ (x : Deallocated). found_line x.answer) (λ (x : Deallocated). x.frames) (λ _. (refl, refl))
-    c.deallocate_frame-did.new.bitmap (eq-eqb _ fields_size c.if-fields-ne-FIELDS_SIZE.false) c.get_fields.ensures (c.deallocate_frame-did.ensures.value, c.deallocate_frame-did.ensures.bitmap_after) c.found_line.ensures c.put_fields.ensures)
+    (frames_met found_line (call) c.args.fields.now c.args.bits.now
+    c.deallocate_frame-answer.new.bitmap (eq-eqb _ fields_size c.if-fields-ne-FIELDS_SIZE.false) c.get_fields-frames.ensures c.deallocate_frame-answer.ensures c.line_of.ensures c.put_fields.ensures)
     (frames_unchanged found_line (call) c.args.fields.now c.args.bits.now no_leftovers (λ i. (c.slice_known-1.given i).fits) (deallocate_clean c.args.number))).1

@@ -23,7 +23,7 @@ returns-clause-bits_after c =
     (let call : HugePageSize → Memory → Out = λ z m. map_huge_of m c.args.root c.args.virt c.args.phys z c.args.writable c.args.user in
     contract_met table_leftovers
     (memory_met (call c.huge_size-size.result) c.args.words.now c.args.fields.now c.args.bits.now c.map_huge_page-did.new.bitmap (eq-eqb _ fields_size c.if-fields-ne-FIELDS_SIZE.false) c.get_fields-frames.ensures
-    (c.map_huge_page-did.ensures.value, (c.map_huge_page-did.ensures.words_after, c.map_huge_page-did.ensures.bitmap_after)) c.answer_line.ensures c.put_fields.ensures
+    (c.map_huge_page-did.ensures.value, (c.map_huge_page-did.ensures.words_after, c.map_huge_page-did.ensures.bitmap_after)) c.line_of.ensures c.put_fields.ensures
     ∙ ap (λ (z : HugePageSize). on_memory (call z) (memory_parts c.args.words.now c.args.fields.now c.args.bits.now)) c.huge_size-size.ensures)
     (huge_refused c.args.words.now c.args.fields.now c.args.bits.now (λ i. (c.slice_known-2-1.given i).fits) c.args.root c.args.virt c.args.phys c.args.writable c.args.user (huge_of c.args.gigabyte))).0
 
@@ -32,6 +32,6 @@ returns-clause-refused c =
     (let call : HugePageSize → Memory → Out = λ z m. map_huge_of m c.args.root c.args.virt c.args.phys z c.args.writable c.args.user in
     contract_met table_leftovers
     (memory_met (call c.huge_size-size.result) c.args.words.now c.args.fields.now c.args.bits.now c.map_huge_page-did.new.bitmap (eq-eqb _ fields_size c.if-fields-ne-FIELDS_SIZE.false) c.get_fields-frames.ensures
-    (c.map_huge_page-did.ensures.value, (c.map_huge_page-did.ensures.words_after, c.map_huge_page-did.ensures.bitmap_after)) c.answer_line.ensures c.put_fields.ensures
+    (c.map_huge_page-did.ensures.value, (c.map_huge_page-did.ensures.words_after, c.map_huge_page-did.ensures.bitmap_after)) c.line_of.ensures c.put_fields.ensures
     ∙ ap (λ (z : HugePageSize). on_memory (call z) (memory_parts c.args.words.now c.args.fields.now c.args.bits.now)) c.huge_size-size.ensures)
     (huge_refused c.args.words.now c.args.fields.now c.args.bits.now (λ i. (c.slice_known-2-1.given i).fits) c.args.root c.args.virt c.args.phys c.args.writable c.args.user (huge_of c.args.gigabyte))).1

@@ -19,7 +19,7 @@ returns-clause-bits_after c =
     (let call : Memory → Out = λ m. map_page_of m c.args.root c.args.virt c.args.phys c.args.writable c.args.user in
     contract_met table_leftovers
     (memory_met (call) c.args.words.now c.args.fields.now c.args.bits.now c.map_page-did.new.bitmap (eq-eqb _ fields_size c.if-fields-ne-FIELDS_SIZE.false) c.get_fields-frames.ensures
-    (c.map_page-did.ensures.value, (c.map_page-did.ensures.words_after, c.map_page-did.ensures.bitmap_after)) c.answer_line.ensures c.put_fields.ensures)
+    (c.map_page-did.ensures.value, (c.map_page-did.ensures.words_after, c.map_page-did.ensures.bitmap_after)) c.line_of.ensures c.put_fields.ensures)
     (map_refused c.args.words.now c.args.fields.now c.args.bits.now (λ i. (c.slice_known-2-1.given i).fits) c.args.root c.args.virt c.args.phys c.args.writable c.args.user)).0
 
 pub returns-clause-refused : goal.returns-clause-refused
@@ -27,5 +27,5 @@ returns-clause-refused c =
     (let call : Memory → Out = λ m. map_page_of m c.args.root c.args.virt c.args.phys c.args.writable c.args.user in
     contract_met table_leftovers
     (memory_met (call) c.args.words.now c.args.fields.now c.args.bits.now c.map_page-did.new.bitmap (eq-eqb _ fields_size c.if-fields-ne-FIELDS_SIZE.false) c.get_fields-frames.ensures
-    (c.map_page-did.ensures.value, (c.map_page-did.ensures.words_after, c.map_page-did.ensures.bitmap_after)) c.answer_line.ensures c.put_fields.ensures)
+    (c.map_page-did.ensures.value, (c.map_page-did.ensures.words_after, c.map_page-did.ensures.bitmap_after)) c.line_of.ensures c.put_fields.ensures)
     (map_refused c.args.words.now c.args.fields.now c.args.bits.now (λ i. (c.slice_known-2-1.given i).fits) c.args.root c.args.virt c.args.phys c.args.writable c.args.user)).1

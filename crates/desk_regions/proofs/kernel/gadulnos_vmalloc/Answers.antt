@@ -20,7 +20,7 @@ returns-clause-list_after c =
     (let call : Kernel → KernelDid = λ k. vmalloc_of k c.args.root c.args.size in
     contract_met region_leftovers
     (kernel_met as_virt virt_line (call) c.args.words.now c.args.fields.now c.args.bits.now c.args.list.now refl c.vmalloc-did.new.bitmap
-    (eq-eqb _ fields_size c.if-fields-ne-FIELDS_SIZE.false) (λ i. (c.slice_known-2-1.given i).fits) c.get_fields.ensures c.vmalloc-did.ensures.list_after c.virt_line.ensures c.put_fields.ensures)
+    (eq-eqb _ fields_size c.if-fields-ne-FIELDS_SIZE.false) (λ i. (c.slice_known-2-1.given i).fits) c.get_fields.ensures c.vmalloc-did.ensures.list_after c.line_of.ensures c.put_fields.ensures)
     (vmalloc_refused c.args.words.now c.args.fields.now c.args.bits.now c.args.list.now (λ i. (c.slice_known-2-1.given i).fits) (λ i. (c.slice_known-3-1.given i).fits) c.args.root c.args.size)).0
 
 pub returns-clause-refused : goal.returns-clause-refused
@@ -28,5 +28,5 @@ returns-clause-refused c =
     (let call : Kernel → KernelDid = λ k. vmalloc_of k c.args.root c.args.size in
     contract_met region_leftovers
     (kernel_met as_virt virt_line (call) c.args.words.now c.args.fields.now c.args.bits.now c.args.list.now refl c.vmalloc-did.new.bitmap
-    (eq-eqb _ fields_size c.if-fields-ne-FIELDS_SIZE.false) (λ i. (c.slice_known-2-1.given i).fits) c.get_fields.ensures c.vmalloc-did.ensures.list_after c.virt_line.ensures c.put_fields.ensures)
+    (eq-eqb _ fields_size c.if-fields-ne-FIELDS_SIZE.false) (λ i. (c.slice_known-2-1.given i).fits) c.get_fields.ensures c.vmalloc-did.ensures.list_after c.line_of.ensures c.put_fields.ensures)
     (vmalloc_refused c.args.words.now c.args.fields.now c.args.bits.now c.args.list.now (λ i. (c.slice_known-2-1.given i).fits) (λ i. (c.slice_known-3-1.given i).fits) c.args.root c.args.size)).1

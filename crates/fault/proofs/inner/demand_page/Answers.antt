@@ -23,18 +23,18 @@ map_frame-requires-clause-room_to_take c =
 
 pub map_frame-requires-clause-f_bound : goal.map_frame-requires-clause-f_bound
 map_frame-requires-clause-f_bound c =
-    let e = c.raw_frame-taken.ensures c.args.words.now in let room = taken_roomy _ e 4 c.requires.room_to_take in frame_low _ room (taken_lent _ e _ c.in-Value.is)
+    let e = c.raw_frame-taken.ensures c.args.words.now in let room = taken_roomy _ e 4 c.requires.room_to_take in frame_low _ room (taken_lent _ e _ c.in-Ok.is)
 
-pub returns-in-Stop : goal.returns-in-Stop
-returns-in-Stop c =
+pub returns-in-Err : goal.returns-in-Err
+returns-in-Err c =
     let fits : valid c.args.page.0 ≡ true = passed c.is_valid.ensures c.if-not-is_valid.false in
     sym (demand_none c.args.up _ _ _ _ (fits) (sym c.is_heap_fetch.ensures ∙ c.if-is_heap_fetch.false) _ _
-    (stepped (c.raw_frame-taken.ensures _) c.in-Stop.is))
+    (stepped (c.raw_frame-taken.ensures _) c.in-Err.is))
 
-pub returns-in-Value : goal.returns-in-Value
-returns-in-Value c =
+pub returns-in-Ok : goal.returns-in-Ok
+returns-in-Ok c =
     let fits : valid c.args.page.0 ≡ true = passed c.is_valid.ensures c.if-not-is_valid.false in
     c.map_frame.ensures
     ∙ sym (demand_map c.args.up _ _ c.args.page.0 _ (fits)
-    (sym c.is_heap_fetch.ensures ∙ c.if-is_heap_fetch.false) _ _ (stepped (c.raw_frame-taken.ensures _) c.in-Value.is)
+    (sym c.is_heap_fetch.ensures ∙ c.if-is_heap_fetch.false) _ _ (stepped (c.raw_frame-taken.ensures _) c.in-Ok.is)
     c.is_write-writable.ensures c.is_user-user.ensures)

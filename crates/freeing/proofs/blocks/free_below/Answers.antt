@@ -19,22 +19,22 @@ pub find_above-requires-clause-words_lent : goal.find_above-requires-clause-word
 find_above-requires-clause-words_lent c =
     let few : c.wide-k.result ≤ 512 = omega (arith, c.wide-k.ensures, c.requires.barren.few (c.args.t - c.args.frames.start)) in let w = span_roomy c.args.up (lent_memory c.args.words.now c.args.bitmap.now c.args.frames) c.args.root.0 c.args.virt.0 c.at_most-done-2.result c.free_run-pages.ensures.frames_after c.requires.room_to_take in record { few = w.held.few; enough = w.enough; low = w.held.low }
 
-pub returns-in-Stop-clause-barren_2 : goal.returns-in-Stop-clause-barren_2
-returns-in-Stop-clause-barren_2 c =
+pub returns-in-Err-clause-barren_2 : goal.returns-in-Err-clause-barren_2
+returns-in-Err-clause-barren_2 c =
     let kept : Barren c.free_run-pages.new.words c.free_run-pages.result.frames.start c.free_run-pages.result.frames.total c.args.barren.now = barren_left c.args.up (lent_memory c.args.words.now c.args.bitmap.now c.args.frames) c.args.root.0 c.args.virt.0 c.at_most-done-2.result
     c.free_run-pages.ensures.frames_after c.requires.barren in let step : (0 < c.at_most-done-2.result) × (c.at_most-done-2.result ≤ c.args.n) = (
       omega (arith, c.at_most-done-2.ensures, c.to_end-2.ensures, to_end_some 1 c.args.virt.0, c.requires.n_nonzero),
       omega (arith, c.at_most-done-2.ensures),
     ) in let g = step in kept
 
-pub returns-in-Value-clause-barren_2 : goal.returns-in-Value-clause-barren_2
-returns-in-Value-clause-barren_2 c =
+pub returns-in-Ok-clause-barren_2 : goal.returns-in-Ok-clause-barren_2
+returns-in-Ok-clause-barren_2 c =
     let step : (0 < c.at_most-done-2.result) × (c.at_most-done-2.result ≤ c.args.n) = (
       omega (arith, c.at_most-done-2.ensures, c.to_end-2.ensures, to_end_some 1 c.args.virt.0, c.requires.n_nonzero),
       omega (arith, c.at_most-done-2.ensures),
     ) in let g = step in barren_more c.args.up c.requires.le_up (lent_memory c.args.words.now c.args.bitmap.now c.args.frames) c.args.root.0 c.args.virt.0 c.args.t c.requires.barren c.requires.t_value
     c.requires.virt_value c.at_most-done-2.result c.free_run-pages.ensures.frames_after (omega (arith, c.at_most-done-2.ensures, c.to_end-2.ensures))
-    c.if-done-eq512.true (sym c.find_above.ensures ∙ c.in-Value.is) c.wide-k.result
+    c.if-done-eq512.true (sym c.find_above.ensures ∙ c.in-Ok.is) c.wide-k.result
     (sym c.if-i-k-2.true ∙ c.page_index-i.ensures.value) c.wide-k.ensures
 
 pub returns-else-i-k-2-clause-barren_2 : goal.returns-else-i-k-2-clause-barren_2

@@ -12,7 +12,7 @@ use Rattle.protecting.proofs.Below.{follows_same, part_absent, part_down}
 use Rattle.protecting.proofs.Leaves.{run_none, run_part, Part, part_of}
 use Rattle.protecting.proofs.Remembered.{undone_lent, done_follows, remembered_as, remembered_run, remembered_whole}
 use Rattle.protecting.proofs.table.+protect_below_protect_entries.Goals as goal
-use Rattle.protecting.proofs.table.+protect_below_protect_entries.Goals.{protect_below-then-d-eq0, protect_below-else-d-eq0, protect_entries-in-Stop, protect_entries-in-Value}
+use Rattle.protecting.proofs.table.+protect_below_protect_entries.Goals.{protect_below-then-d-eq0, protect_below-else-d-eq0, protect_entries-in-Err, protect_entries-in-Ok}
 
 pub protect_below-returns-then-is_done-clause-words_after : goal.protect_below-returns-then-is_done-clause-words_after
 protect_below-returns-then-is_done-clause-words_after t c =
@@ -65,16 +65,16 @@ protect_entries-loop-done-preserved t c =
     let turned : (c.match-entry_at.words ≡ protect_pages a.d a.writable a.words.now a.start a.total a.t a.virt.0 (l.done + k))
     × Remembered a.writable c.match-entry_at.words a.start a.total c.match-entry_at.gone =
     elim c.match-entry_at.branch [
-      | protect_entries-in-Stop w ↦ (
+      | protect_entries-in-Err w ↦ (
         run_part a.d a.writable a.words.now a.start a.total a.t a.virt.0 l.done k l.invariant.1
-            (w.words-is ∙ sym (part_absent a.writable l.words a.start a.total a.t at k a.d _ c.requires.d_nonzero p.span (read ∙ w.in-Stop.is))),
+            (w.words-is ∙ sym (part_absent a.writable l.words a.start a.total a.t at k a.d _ c.requires.d_nonzero p.span (read ∙ w.in-Err.is))),
         remembered_as a.writable a.start a.total w.words-is w.gone-is l.invariant.2,
       )
-      | protect_entries-in-Value w ↦ (
+      | protect_entries-in-Ok w ↦ (
         run_part a.d a.writable a.words.now a.start a.total a.t a.virt.0 l.done k l.invariant.1
             (w.words-is ∙ w.protect_below.ensures.words_after
-            ∙ ap (λ (f : ℕ). protect_pages (a.d - 1) a.writable l.words a.start a.total f at k) (ap (λ (x : ℕ). x / 4096) w.addr-f.ensures ∙ frame_of_addr w.in-Value.e)
-            ∙ sym (part_down a.writable l.words a.start a.total a.t at k a.d _ c.requires.d_nonzero p.span (read ∙ w.in-Value.is))),
+            ∙ ap (λ (f : ℕ). protect_pages (a.d - 1) a.writable l.words a.start a.total f at k) (ap (λ (x : ℕ). x / 4096) w.addr-f.ensures ∙ frame_of_addr w.in-Ok.e)
+            ∙ sym (part_down a.writable l.words a.start a.total a.t at k a.d _ c.requires.d_nonzero p.span (read ∙ w.in-Ok.is))),
         remembered_as a.writable a.start a.total w.words-is w.gone-is w.protect_below.ensures.remembered_2,
       )
     ] in

@@ -5,4 +5,4 @@ use Rattle.streams.proofs.reading.read_behind.Goals as goal
 
 pub returns-clause-kept : goal.returns-clause-kept
 returns-clause-kept g c =
-    read_kept _ _ c.read.result c.got_of.result c.args.n (length c.args.buf.now - c.args.n) c.args.buf.now c.read.new.buf c.requires c.read.ensures.bound c.read.ensures.bytes c.got_of.ensures
+    read_kept _ _ c.read.result c.args.n (length c.args.buf.now - c.args.n) c.args.buf.now c.read.new.buf c.requires c.read.ensures.bound c.read.ensures.bytes

@@ -1,22 +1,24 @@
 -- `read_call`: nothing, no call, or the call of a known kind.
-use Rattle.std.proofs.Common.{◌+◌, ◌≤◌, ◌<◌, length, ℕ}
-use mathlib.Core.Path.{sym, ◌∙◌, subst}
-use Rattle.tape.proofs.Reading.{next_none, next_unknown, next_short, next_whole}
+use Rattle.std.proofs.Common.{◌∷◌, ◌≤◌, ◌<◌, length, ℕ, sym, ◌∙◌, ap, subst}
+use Rattle.tape.specs.Tape.{body_size}
+use Rattle.tape.proofs.Reading.{next_none, next_unknown, next_short, next_whole, handed_on}
 use Rattle.tape.proofs.read.read_call.Goals as goal
 
-pub returns-then-bytes-eq0 : goal.returns-then-bytes-eq0
-returns-then-bytes-eq0 c =
-    next_none _ c.if-bytes-eq0.true
+pub returns-in_default : goal.returns-in_default
+returns-in_default c = next_none _ c.in_default.ensures.cases
 
-pub returns-then-size-eq0 : goal.returns-then-size-eq0
-returns-then-size-eq0 c =
-    next_unknown _ c.if-bytes-eq0.false (sym c.body_size-size.ensures ∙ c.if-size-eq0.true)
+pub returns-in_err-kind : goal.returns-in_err-kind
+returns-in_err-kind c =
+    sym (handed_on _ c.from_residual.ensures.0) ∙ next_unknown _ c.in-Some.body.now c.in-Some.first.now c.in-Some.ensures.cases.0 c.in_err-kind.ensures
 
-pub returns-then-bytes-size : goal.returns-then-bytes-size
-returns-then-bytes-size c =
-    next_short _ c.if-bytes-eq0.false (subst (λ (n : ℕ). length c.args.bytes.now < n + 1) c.body_size-size.ensures c.if-bytes-size.true)
+pub returns-then-body-body_size : goal.returns-then-body-body_size
+returns-then-body-body_size c =
+    next_short _ c.in-Some.body.now c.in-Some.first.now c.in-Some.ensures.cases.0
+    (subst (λ (n : ℕ). length c.in-Some.body.now < n) (c.body_size.ensures ∙ ap body_size c.in_ok-kind.ensures) c.if-body-body_size.true)
 
 pub returns : goal.returns
 returns c =
+    let e = c.in_ok-kind.ensures in
     c.read_body.ensures
-    ∙ next_whole c.args.bytes.now c.if-bytes-eq0.false (λ z. c.if-size-eq0.false (c.body_size-size.ensures ∙ z)) (subst (λ (n : ℕ). n + 1 ≤ length c.args.bytes.now) c.body_size-size.ensures c.if-bytes-size.false)
+    ∙ next_whole _ c.in-Some.body.now c.in_ok-kind.kind (c.in-Some.ensures.cases.0 ∙ ap (λ (k : ℕ). k ∷ c.in-Some.body.now) (sym e))
+    (subst (λ (n : ℕ). n ≤ length c.in-Some.body.now) c.body_size.ensures c.if-body-body_size.false)
