@@ -6,7 +6,10 @@ use borrow.Author.Tests.{eqb-true, ne_eqb}
 use Rattle.answer.specs.declared.Refusal.{Refusal}
 use Rattle.answer.specs.declared.Refusal.TheVariants.{SizeZero, Unaligned, TooLarge, HugeUnaligned, ReservedBit, InvalidAddress, InstructionFetch, ProtectionViolation, BrokenRecord}
 use Rattle.answer.specs.declared.Refusal.TheVariants.{NoFreeFrame, AlreadyMapped, MapPageFailed, NotMapped, NoRegion, RegionNotFound, WriteToReadOnly, PageTableError, TableOutside, ListFull}
-use Rattle.answer.specs.Numbers.{number_of, same_refusal}
+use Rattle.answer.specs.declared.TheConstants.{SIZE_ZERO, UNALIGNED, TOO_LARGE, HUGE_UNALIGNED, RESERVED_BIT, INVALID_ADDRESS, INSTRUCTION_FETCH, PROTECTION_VIOLATION, BROKEN_RECORD}
+use Rattle.answer.specs.declared.TheConstants.{NO_FREE_FRAME, ALREADY_MAPPED, MAP_PAGE_FAILED, NOT_MAPPED, NO_REGION, REGION_NOT_FOUND, WRITE_TO_READ_ONLY, PAGE_TABLE_ERROR, OUTSIDE, LIST_FULL}
+use Rattle.answer.specs.Numbers.{number_of, same_refusal, size_zero, unaligned, too_large, huge_unaligned, reserved_bit, invalid_address, instruction_fetch, protection_violation, broken_record}
+use Rattle.answer.specs.Numbers.{no_free_frame, already_mapped, map_page_failed, not_mapped, no_region, region_not_found, write_to_read_only, page_table_error, outside, list_full}
 
 -- by its number; at 0 and 9 some refusal
 abbrev by_number : List Refusal
@@ -66,3 +69,10 @@ same_yes a b h = same_number (eqb-true (number_of a) (number_of b) h)
 
 pub same_no : (a b : Refusal) → (a ≡ b → ⊥) → same_refusal a b ≡ false
 same_no a b h = ne_eqb (number_of a) (number_of b) (λ e. h (same_number e))
+
+-- code and definitions have the same numbers by the same names
+pub named : (SIZE_ZERO ∷ UNALIGNED ∷ TOO_LARGE ∷ HUGE_UNALIGNED ∷ RESERVED_BIT ∷ INVALID_ADDRESS ∷ INSTRUCTION_FETCH ∷ PROTECTION_VIOLATION ∷ BROKEN_RECORD ∷ NO_FREE_FRAME
+    ∷ ALREADY_MAPPED ∷ MAP_PAGE_FAILED ∷ NOT_MAPPED ∷ NO_REGION ∷ REGION_NOT_FOUND ∷ WRITE_TO_READ_ONLY ∷ PAGE_TABLE_ERROR ∷ OUTSIDE ∷ LIST_FULL ∷ [])
+    ≡ (size_zero ∷ unaligned ∷ too_large ∷ huge_unaligned ∷ reserved_bit ∷ invalid_address ∷ instruction_fetch ∷ protection_violation ∷ broken_record ∷ no_free_frame
+    ∷ already_mapped ∷ map_page_failed ∷ not_mapped ∷ no_region ∷ region_not_found ∷ write_to_read_only ∷ page_table_error ∷ outside ∷ list_full ∷ [])
+named = refl

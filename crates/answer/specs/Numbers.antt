@@ -49,6 +49,64 @@ number_of TableOutside = 19
 -- 'the 256 mmap regions or marked pages are full and the key is not among them'
 number_of ListFull = 20
 
+-- .. by the names of docs/NUMBERS.md
+abbrev pub size_zero : ℕ
+size_zero = number_of SizeZero
+
+abbrev pub unaligned : ℕ
+unaligned = number_of Unaligned
+
+abbrev pub too_large : ℕ
+too_large = number_of TooLarge
+
+abbrev pub huge_unaligned : ℕ
+huge_unaligned = number_of HugeUnaligned
+
+abbrev pub reserved_bit : ℕ
+reserved_bit = number_of ReservedBit
+
+abbrev pub invalid_address : ℕ
+invalid_address = number_of InvalidAddress
+
+abbrev pub instruction_fetch : ℕ
+instruction_fetch = number_of InstructionFetch
+
+abbrev pub protection_violation : ℕ
+protection_violation = number_of ProtectionViolation
+
+abbrev pub broken_record : ℕ
+broken_record = number_of BrokenRecord
+
+abbrev pub no_free_frame : ℕ
+no_free_frame = number_of NoFreeFrame
+
+abbrev pub already_mapped : ℕ
+already_mapped = number_of AlreadyMapped
+
+abbrev pub map_page_failed : ℕ
+map_page_failed = number_of MapPageFailed
+
+abbrev pub not_mapped : ℕ
+not_mapped = number_of NotMapped
+
+abbrev pub no_region : ℕ
+no_region = number_of NoRegion
+
+abbrev pub region_not_found : ℕ
+region_not_found = number_of RegionNotFound
+
+abbrev pub write_to_read_only : ℕ
+write_to_read_only = number_of WriteToReadOnly
+
+abbrev pub page_table_error : ℕ
+page_table_error = number_of PageTableError
+
+abbrev pub outside : ℕ
+outside = number_of TableOutside
+
+abbrev pub list_full : ℕ
+list_full = number_of ListFull
+
 -- whether two refusals are the same
 abbrev pub same_refusal : Refusal → Refusal → Bool
 same_refusal a b = eqb (number_of a) (number_of b)

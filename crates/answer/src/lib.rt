@@ -29,6 +29,45 @@ pub enum Refusal {
     ListFull = 20,
 }
 
+// The numbers by the names of docs/NUMBERS.md.
+pub const SIZE_ZERO: u64 = Refusal::SizeZero as u64;
+
+pub const UNALIGNED: u64 = Refusal::Unaligned as u64;
+
+pub const TOO_LARGE: u64 = Refusal::TooLarge as u64;
+
+pub const HUGE_UNALIGNED: u64 = Refusal::HugeUnaligned as u64;
+
+pub const RESERVED_BIT: u64 = Refusal::ReservedBit as u64;
+
+pub const INVALID_ADDRESS: u64 = Refusal::InvalidAddress as u64;
+
+pub const INSTRUCTION_FETCH: u64 = Refusal::InstructionFetch as u64;
+
+pub const PROTECTION_VIOLATION: u64 = Refusal::ProtectionViolation as u64;
+
+pub const BROKEN_RECORD: u64 = Refusal::BrokenRecord as u64;
+
+pub const NO_FREE_FRAME: u64 = Refusal::NoFreeFrame as u64;
+
+pub const ALREADY_MAPPED: u64 = Refusal::AlreadyMapped as u64;
+
+pub const MAP_PAGE_FAILED: u64 = Refusal::MapPageFailed as u64;
+
+pub const NOT_MAPPED: u64 = Refusal::NotMapped as u64;
+
+pub const NO_REGION: u64 = Refusal::NoRegion as u64;
+
+pub const REGION_NOT_FOUND: u64 = Refusal::RegionNotFound as u64;
+
+pub const WRITE_TO_READ_ONLY: u64 = Refusal::WriteToReadOnly as u64;
+
+pub const PAGE_TABLE_ERROR: u64 = Refusal::PageTableError as u64;
+
+pub const OUTSIDE: u64 = Refusal::TableOutside as u64;
+
+pub const LIST_FULL: u64 = Refusal::ListFull as u64;
+
 impl From<Refusal> for u64 {
     ghost from_gives = { λ refusal n. n ≡ number_of refusal };
 

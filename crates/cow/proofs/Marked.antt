@@ -18,7 +18,7 @@ use Rattle.slots.specs.Slots.{Slots, listed}
 use Rattle.slots.specs.Shifts.{put_in, taken_out}
 use Rattle.slots.specs.Sorted.{rising_from, has_key, insert, remove, place_of, found}
 use Rattle.slots.proofs.Search.{found_tells}
-use Rattle.slots.proofs.Sorted.{place_le, place_under, key_at, insert_there, insert_new, remove_none, remove_there}
+use Rattle.slots.proofs.Sorted.{place_le, place_under, key_past, key_at, insert_there, insert_new, remove_none, remove_there}
 use Rattle.slots.proofs.Stored.{stored_again}
 use Rattle.cow.specs.Marked.{page_of, page_key, sound_marked, store_pages, MarkedDid, marked_did, mark_cow, unmark_cow, is_cow}
 use Rattle.cow.specs.Packed.{marked_size, marked_in, marked_out, marked_fit, marked_bytes, on_marked, MarkedReads}
@@ -177,6 +177,10 @@ module _ (bs : List ℕ) (h : both (marked_fit bs) (sound_marked (marked_in bs))
 
   long : length (listed s) ≡ s.count
   long = omega (arith, length-take s.count s.slots, room)
+
+  -- of none no page is listed
+  pub none_listed : (page : ℕ) → s.count ≡ 0 → has_key page_key page (listed s) ≡ false
+  none_listed page none = key_past page_key page (listed s) (omega (arith, long, none))
 
   module _ (v : ℕ) where
     -- page v is found in slot k

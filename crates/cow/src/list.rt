@@ -114,7 +114,7 @@ fn pages_rise(list: &[u8], n: usize) -> bool
     rest_rises(list, i, n, last)
 }
 
-// Whether the bytes stand for a list that is not broken.
+// Whether the bytes stand for a list that is not broken. `n <= MAX_COW_PAGES && ..` at its end made is_cow of few pages take half as long again (docs/LOOK-BACK.md).
 pub fn is_sound(list: &[u8]) -> bool
     ensures { result ≡ both (marked_fit list.now) (sound_marked (marked_in list.now)) }
 {
@@ -122,7 +122,10 @@ pub fn is_sound(list: &[u8]) -> bool
         return false;
     }
     let n = Marked::count(list);
-    n <= MAX_COW_PAGES && pages_rise(list, n)
+    if n > MAX_COW_PAGES {
+        return false;
+    }
+    pages_rise(list, n)
 }
 
 // Where a page is listed, or where it would be put in.
@@ -133,12 +136,12 @@ pub fn find(list: &[u8], page: u64) -> Result<usize, usize>
     slots::find::<Marked>(list, page)
 }
 
-// Whether a page is listed.
+// Whether a page is listed. In an empty list none is, which is told without a search (docs/LOOK-BACK.md).
 pub fn is_listed(list: &[u8], page: u64) -> bool
     requires { both (marked_fit list.now) (sound_marked (marked_in list.now)) ≡ true }
     ensures { result ≡ has_key page_key page (listed (marked_in list.now)) }
 {
-    find(list, page).is_ok()
+    Marked::count(list) > 0 && find(list, page).is_ok()
 }
 
 // The list without a page, which need not be listed.

@@ -1,2 +1,3 @@
 pub mod Frames
 pub mod Found
+pub mod Results

@@ -16,6 +16,7 @@ ghost use Rattle.runner.specs.Ends.{stage_of_turn, stage_of_run};
 use address::Frame;
 use board::Records;
 use frame::{FrameAllocator, Marks};
+use std::fmt::{InlineText, Write as _};
 use std::io::{Read, Write};
 use std::ops::ControlFlow;
 use std::process::ExitCode;
@@ -199,6 +200,13 @@ fn write_key<R: Read, W: Write>(reader: &mut R, writer: &mut W) -> Result<(), Ru
     }
 }
 
+// The line that tells of an error, which has less than 64 bytes, whole in one write: other programs may write to the same place.
+fn complain<M: Write>(messages: &mut M, error: RunError) {
+    let mut line = InlineText::<64>::new();
+    let _ = writeln!(line, "key: {error}");
+    writing::complain(messages, line.as_str().as_bytes());
+}
+
 // The tape of a reader on a fresh board, and its key to a writer. If the whole key is not written, `messages` is told why.
 pub fn run_tape<R: Read, W: Write, M: Write>(
     reader: &mut R,
@@ -209,7 +217,7 @@ pub fn run_tape<R: Read, W: Write, M: Write>(
 {
     let end = write_key(reader, writer);
     if let Err(error) = end {
-        writing::complain(messages, &error);
+        complain(messages, error);
     }
     end
 }

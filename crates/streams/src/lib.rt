@@ -12,3 +12,12 @@ pub enum Source {
     Closed,
     Failed,
 }
+
+// Where the reading of a tape stands in its buffer: bytes `at` up to `filled` are read and not taken yet; `offset` is the place of byte `at` on the tape.
+#[derive(Clone, Copy)]
+pub struct Input {
+    pub at: usize,
+    pub filled: usize,
+    pub offset: u64,
+    pub source: Source,
+}

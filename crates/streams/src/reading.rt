@@ -4,7 +4,7 @@ ghost use Rattle.std.specs.Io.KnownBytes.{Keeps, IsAtEnd, prepend_known};
 ghost use Rattle.tape.specs.Tape.{next};
 ghost use Rattle.streams.specs.Streams.{Refilled, bytes_of, readable, taken};
 
-use crate::Source;
+use crate::{Input as Place, Source};
 use std::io;
 use std::io::Read;
 use std::marker::Model;
@@ -20,14 +20,11 @@ const LONGEST: usize = 26;
 #[derive(Clone, Copy, Debug, PartialEq, Eq)]
 pub struct Unread;
 
-// Bytes `at` up to `filled` are read and not taken yet; `offset` is the place of byte `at` on the tape.
+// A tape's buffer, and where its reading stands in it.
 #[derive(Drop)]
 pub struct Input {
     bytes: [u8; SIZE],
-    at: usize,
-    filled: usize,
-    offset: u64,
-    source: Source,
+    place: Place,
 }
 
 impl Model for Input {
@@ -36,9 +33,9 @@ impl Model for Input {
 
     ghost Value = { Left };
 
-    ghost view = { λ i. record { bytes = take (i.filled - i.at) (drop i.at i.bytes); offset = i.offset; source = i.source } };
+    ghost view = { λ i. record { bytes = take (i.place.filled - i.place.at) (drop i.place.at i.bytes); offset = i.place.offset; source = i.place.source } };
 
-    ghost invariant = { λ i. (i.at ≤ i.filled) × (i.filled ≤ 65536) };
+    ghost invariant = { λ i. (i.place.at ≤ i.place.filled) × (i.place.filled ≤ 65536) };
 }
 
 // One read, behind the first n bytes. What it brought, the reader has no longer; and where it brought nothing the reader is at its end.
@@ -84,17 +81,19 @@ impl Input {
     {
         Input {
             bytes: [0; SIZE],
-            at: 0,
-            filled: 0,
-            offset: 0,
-            source: Source::Open,
+            place: Place {
+                at: 0,
+                filled: 0,
+                offset: 0,
+                source: Source::Open,
+            },
         }
     }
 
     pub fn offset(&self) -> u64
         ensures { result ≡ self.now.offset }
     {
-        self.offset
+        self.place.offset
     }
 
     // A whole call, or all that is left of the tape, stands in the buffer. No byte is lost or told twice: what is left in the buffer, and what the reader has behind it,
@@ -107,15 +106,15 @@ impl Input {
             → self.new.source ≡ Source.Closed → IsAtEnd (R.remaining reader.new) }
         ensures variant { IsOk result ↔ (readable self.new.source ≡ true) }
     {
-        let n = self.filled - self.at;
-        if n < LONGEST && self.source == Source::Open {
-            self.bytes.copy_within(self.at..self.filled, 0);
+        let n = self.place.filled - self.place.at;
+        if n < LONGEST && self.place.source == Source::Open {
+            self.bytes.copy_within(self.place.at..self.place.filled, 0);
             let (filled, source) = fill(reader, &mut self.bytes, n);
-            self.at = 0;
-            self.filled = filled;
-            self.source = source;
+            self.place.at = 0;
+            self.place.filled = filled;
+            self.place.source = source;
         }
-        if self.source == Source::Failed {
+        if self.place.source == Source::Failed {
             return Err(Unread);
         }
         Ok(())
@@ -125,7 +124,7 @@ impl Input {
     pub fn next(&self) -> Result<Option<Call>, Malformed>
         ensures { result ≡ next self.now.bytes }
     {
-        tape::read::read_call(&self.bytes[self.at..self.filled])
+        tape::read::read_call(&self.bytes[self.place.at..self.place.filled])
     }
 
     // A call's bytes are taken.
@@ -134,7 +133,7 @@ impl Input {
         requires offset_bound { self.old.offset + size < 2 ^ 64 }
         ensures { self.new ≡ taken size self.old }
     {
-        self.at += size;
-        self.offset += size as u64;
+        self.place.at += size;
+        self.place.offset += size as u64;
     }
 }

@@ -1,10 +1,8 @@
 // The key's lines, put behind one another into a text of fixed room.
 ghost use Rattle.std.specs.Prelude.{◌≡◌, ℕ, [], ◌∷◌, ◌++◌, ◌+◌, ◌≤◌, length};
 ghost use Rattle.io.specs.Digits.{last_digits};
-ghost use Rattle.tape.specs.Kinds.{number_of};
 ghost use Rattle.tape.specs.Text.{decimal, line_text, count_text};
 
-use crate::Kind;
 use answer::Line;
 use std::marker::Model;
 
@@ -87,13 +85,13 @@ impl<const N: usize> Text<N> {
         self.put(&text[..k]);
     }
 
-    // The line of a call.
-    pub fn put_line(&mut self, kind: Kind, line: Line)
+    // The line of a call of a kind.
+    pub fn put_line(&mut self, kind: u64, line: Line)
         requires { length self.old + 64 ≤ N }
-        ensures text { self.new ≡ self.old ++ line_text (number_of kind) line }
+        ensures text { self.new ≡ self.old ++ line_text kind line }
         ensures upper_bound { length self.new ≤ length self.old + 64 }
     {
-        self.put_decimal(u64::from(kind.number()));
+        self.put_decimal(kind);
         self.put_byte(b' ');
         self.put_decimal(line.number);
         self.put_byte(b' ');

@@ -50,7 +50,7 @@ pub fn play_next(
             let played = player::play(words, bitmap, kernel, user, marked, *records, call);
             *records = played.records;
             input.take(call.size());
-            out.put_line(played.kind, played.line);
+            out.put_line(u64::from(played.kind.number()), played.line);
             ControlFlow::Continue(())
         }
     }

@@ -296,7 +296,7 @@ pub fn translate(
     phys_at(leaf_below(words, start, total, 4, Frame(t), virt), virt)
 }
 
-// Whether user code may read an address, or write it. Where there are four levels the loop's length is written out, for the compiler.
+// Whether user code may read an address, or write it. The loop's length, four or five, is written out, for the compiler.
 pub fn user_may(
     words: &[u64],
     start: u64,
@@ -314,5 +314,5 @@ pub fn user_may(
     if levels == frame::LEVELS {
         return Ok(user_below(words, start, total, frame::LEVELS, root, virt, write));
     }
-    Ok(user_below(words, start, total, levels, root, virt, write))
+    Ok(user_below(words, start, total, frame::MOST_LEVELS, root, virt, write))
 }

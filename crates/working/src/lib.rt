@@ -64,20 +64,17 @@ fn verdict_number(verdict: Verdict) -> u64
     verdict as u64
 }
 
-// The numbers of row k.
+// The numbers of row k. One by one: an array of them that is copied over the five places costs a quarter more instructions a walk (docs/LOOK-BACK.md).
 fn put_row(out: &mut [u64; SHOWN_NUMBERS], k: usize, row: Row)
     requires { k < 5 }
     ensures { out.new ≡ sets out.old (1 + k * 5) (row_numbers row) }
 {
     let at = 1 + k * 5;
-    let numbers = [
-        row.level,
-        row.frame.0,
-        row.index as u64,
-        row.word,
-        verdict_number(row.verdict),
-    ];
-    out[at..at + 5].copy_from_slice(&numbers);
+    out[at] = row.level;
+    out[at + 1] = row.frame.0;
+    out[at + 2] = row.index as u64;
+    out[at + 3] = row.word;
+    out[at + 4] = verdict_number(row.verdict);
 }
 
 // The rows from the root on, and the result. No walk comes past the last level: no entry there is followed.

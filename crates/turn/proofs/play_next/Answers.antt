@@ -5,7 +5,7 @@ use Rattle.board.specs.Packed.{board_of}
 use Rattle.player.specs.Play.{turn}
 use Rattle.streams.specs.Streams.{Left, taken}
 use Rattle.tape.specs.Kinds.{number_of}
-use Rattle.tape.specs.Text.{count_text}
+use Rattle.tape.specs.Text.{count_text, line_text}
 use Rattle.tape.proofs.Sizes.{call_there}
 use Rattle.turn.specs.Run.{Going, run, run_of, tape_word}
 use Rattle.turn.proofs.Steps.{step_finished, step_malformed, step_read}
@@ -34,4 +34,4 @@ returns-in-Ok-Some-clause-result_after c = λ s.
     let board = board_of p.new.words p.new.bitmap p.new.kernel p.new.user p.new.marked p.result.records in
     let text = c.put_line.new.self in
     ap (λ (l : Left). run l.bytes l.offset board text Going) (c.take.ensures ∙ ap (λ (n : ℕ). taken n a.input.now) c.size.ensures)
-    ∙ step_read from c.in-Ok-Some.call (turn (number_of p.result.kind) p.result.line board) text (sym c.in-Ok-Some.ensures ∙ ap Ok c.in-Ok-Some.field-0-is) p.ensures.records_after c.put_line.ensures.text
+    ∙ step_read from c.in-Ok-Some.call (turn (number_of p.result.kind) p.result.line board) text (sym c.in-Ok-Some.ensures ∙ ap Ok c.in-Ok-Some.field-0-is) p.ensures.records_after (c.put_line.ensures.text ∙ ap (λ (n : ℕ). a.out.now ++ line_text n p.result.line) (c.from.ensures ∙ c.number.ensures))

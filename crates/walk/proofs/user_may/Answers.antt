@@ -1,4 +1,4 @@
--- `user_may`: 10, or what the entries of the walk let user code do; the loop of four turns, or of as many as there are levels.
+-- `user_may`: 10, or what the entries of the walk let user code do; the loop of four turns, or of five.
 use Rattle.std.specs.Prelude.{Ok}
 use Rattle.std.proofs.Common.{◌≡◌, true, length}
 use Rattle.entry.specs.Entry.{indices as indices_of}
@@ -9,7 +9,8 @@ use mathlib.Core.Path.{sym, ◌∙◌, ap}
 use Rattle.paging.proofs.Walk.{lent_words, lent_root}
 use Rattle.paging.proofs.Calls.{walk_levels, walk_lent}
 use Rattle.paging.proofs.User.{may_broken, may_is}
-use Rattle.frame.proofs.Laws.{passed, failed, levels_most}
+use Rattle.frame.proofs.Laws.{passed, failed, levels_least, levels_most}
+use native.Mathlib.Omega.{arith}
 use Rattle.walk.proofs.user_may.Goals as goal
 
 pub returns-then-not-may_walk : goal.returns-then-not-may_walk
@@ -35,10 +36,6 @@ pub user_below-requires-2-clause-words_lent : goal.user_below-requires-2-clause-
 user_below-requires-2-clause-words_lent c =
     let good : lent_walk c.args.levels (length c.args.words.now) c.args.start c.args.total c.args.root.0 ≡ true = passed c.may_walk.ensures c.if-not-may_walk.false in let l = walk_lent _ _ _ _ _ (good) in lent_words _ _ _ _ l
 
-pub user_below-requires-2-clause-levels_le_most_levels : goal.user_below-requires-2-clause-levels_le_most_levels
-user_below-requires-2-clause-levels_le_most_levels c =
-    let good : lent_walk c.args.levels (length c.args.words.now) c.args.start c.args.total c.args.root.0 ≡ true = passed c.may_walk.ensures c.if-not-may_walk.false in let l = walk_lent _ _ _ _ _ (good) in levels_most c.args.levels (walk_levels _ _ _ _ _ (good))
-
 pub user_below-requires-2-clause-root_value : goal.user_below-requires-2-clause-root_value
 user_below-requires-2-clause-root_value c =
     let good : lent_walk c.args.levels (length c.args.words.now) c.args.start c.args.total c.args.root.0 ≡ true = passed c.may_walk.ensures c.if-not-may_walk.false in let l = walk_lent _ _ _ _ _ (good) in lent_root _ _ _ _ l
@@ -46,4 +43,8 @@ user_below-requires-2-clause-root_value c =
 pub returns : goal.returns
 returns c =
     let good : lent_walk c.args.levels (length c.args.words.now) c.args.start c.args.total c.args.root.0 ≡ true = passed c.may_walk.ensures c.if-not-may_walk.false in
-    ap Ok c.user_below-2.ensures ∙ sym (may_is _ _ _ _ _ _ _ (good))
+    let n = walk_levels _ _ _ _ _ (good) in
+    let five : 5 ≡ c.args.levels = omega (arith, levels_least c.args.levels n, levels_most c.args.levels n, c.if-levels-eq-LEVELS.false) in
+    ap Ok (c.user_below-2.ensures
+    ∙ ap (λ n. user_rows c.args.write (rows_below c.args.words.now c.args.start c.args.total c.args.root.0 (indices_of n c.args.virt.0))) five)
+    ∙ sym (may_is _ _ _ _ _ _ _ (good))

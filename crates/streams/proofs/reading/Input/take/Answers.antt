@@ -10,5 +10,5 @@ returns c =
     let i = c.self.inside in
     let k = c.args.size in
     let there = ap (λ (l : Left). length l.bytes) c.self.view_is in
-    let h : k ≤ i.filled - i.at = omega (arith, there, c.requires.size_bound, length-take (i.filled - i.at) (drop i.at i.bytes)) in
-    ap (λ (b : List ℕ). record { bytes = b; offset = i.offset + k; source = i.source }) (left_behind i.bytes i.at i.filled k h) ∙ ap (taken k) c.self.view_is
+    let h : k ≤ i.place.filled - i.place.at = omega (arith, there, c.requires.size_bound, length-take (i.place.filled - i.place.at) (drop i.place.at i.bytes)) in
+    ap (λ (b : List ℕ). record { bytes = b; offset = i.place.offset + k; source = i.place.source }) (left_behind i.bytes i.place.at i.place.filled k h) ∙ ap (taken k) c.self.view_is
