@@ -114,7 +114,7 @@ fn pages_rise(list: &[u8], n: usize) -> bool
     rest_rises(list, i, n, last)
 }
 
-// Whether the bytes stand for a list that is not broken. `n <= MAX_COW_PAGES && ..` at its end made is_cow of few pages take half as long again (docs/LOOK-BACK.md).
+// Whether the bytes stand for a list that is not broken. With `n <= MAX_COW_PAGES && ..` at its end is_cow of few pages is slower (docs/LOOK-BACK.md).
 pub fn is_sound(list: &[u8]) -> bool
     ensures { result ≡ both (marked_fit list.now) (sound_marked (marked_in list.now)) }
 {

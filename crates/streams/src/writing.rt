@@ -4,7 +4,6 @@ ghost use Rattle.std.specs.Io.KnownBytes.{Keeps, Appends, append_known};
 ghost use Rattle.tape.specs.Text.{count_text};
 ghost use Rattle.streams.specs.Streams.{kept, frames_word, last_text};
 
-use std::fmt::{Display, InlineText, Write as _};
 use std::io::Write;
 use tape::text::Text;
 
@@ -57,7 +56,7 @@ pub fn write_last<W: Write>(
     write(writer, out)
 }
 
-// What stands in the way of a key, in one write. Where this cannot be written either, nothing is left to be told.
+// What stands in the way of a key, handed to one `write_all`. Where this cannot be written either, nothing is left to be told.
 pub fn complain<W: Write>(writer: &mut W, text: &[u8]) {
     let _ = writer.write_all(text);
 }
