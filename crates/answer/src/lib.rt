@@ -105,7 +105,7 @@ impl Shown for u64 {
     ghost shown = { λ n. n };
 
     fn value(self) -> u64 {
-        self
+        self // a count, as it is
     }
 }
 

@@ -2,7 +2,7 @@
 // writer and the last line is left out.
 #![tactic(auto)]
 
-ghost use Rattle.std.specs.Prelude.{◌≡◌, [], true, ◌++◌, OnOk};
+ghost use Rattle.std.specs.Prelude.{◌≡◌, ◌≤◌, [], true, ◌++◌, OnOk};
 ghost use Rattle.std.specs.Io.KnownBytes.{Appends};
 ghost use Rattle.board.specs.Packed.{board_of, lists_fit};
 ghost use Rattle.tape.specs.Text.{count_text};
@@ -11,7 +11,8 @@ ghost use Rattle.streams.specs.Streams.{frames_word};
 ghost use Rattle.turn.specs.Run.{Going, run_of};
 ghost use Rattle.runner.specs.Key.{WritesKey, first_board};
 ghost use Rattle.runner.specs.Loop.{TurnedBy, Ran, LoopEndBy};
-ghost use Rattle.runner.specs.Ends.{stage_of_turn, stage_of_run};
+ghost use Rattle.std.specs.Process.{exit_status};
+ghost use Rattle.runner.specs.Ends.{stage_of_turn, stage_of_run, status_of};
 
 use address::Frame;
 use board::Records;
@@ -204,7 +205,8 @@ fn write_key<R: Read, W: Write>(reader: &mut R, writer: &mut W) -> Result<(), Ru
 fn complain<M: Write>(messages: &mut M, error: RunError) {
     let mut line = InlineText::<64>::new();
     let _ = writeln!(line, "key: {error}");
-    writing::complain(messages, line.as_str().as_bytes());
+    // Where this cannot be written either, nothing is left to be told.
+    let _ = writing::complain(messages, line.as_str().as_bytes());
 }
 
 // The tape of a reader on a fresh board, and its key to a writer. If the whole key is not written, `messages` is told why.
@@ -222,12 +224,21 @@ pub fn run_tape<R: Read, W: Write, M: Write>(
     end
 }
 
-// The key program: the tape is standard input, the key goes to standard output, and why there is no whole key to standard error. It promises what `run_tape` promises of
-// any streams: no clause can name the bytes of the process's own.
-pub fn run(rt: HostRuntime) -> ExitCode {
-    let end = run_tape(&mut rt.stdin(), &mut rt.stdout(), &mut rt.stderr());
+// What a program ends with: 0 where the whole key is written, else 1.
+fn status(end: Result<(), RunError>) -> ExitCode
+    ensures { exit_status result ≡ status_of end }
+{
     match end {
         Ok(()) => ExitCode::SUCCESS,
         Err(_) => ExitCode::FAILURE,
     }
+}
+
+// The key program: the tape is standard input, the key goes to standard output, and why there is no whole key to standard error. Its status is 0 or 1, by `status` of how
+// `run_tape` ended, which promises of any streams that `Ok` means a whole key: no clause can name the bytes of the process's own.
+pub fn run(rt: HostRuntime) -> ExitCode
+    ensures { exit_status result ≤ 1 }
+{
+    let end = run_tape(&mut rt.stdin(), &mut rt.stdout(), &mut rt.stderr());
+    status(end)
 }

@@ -56,7 +56,9 @@ pub fn write_last<W: Write>(
     write(writer, out)
 }
 
-// What stands in the way of a key, handed to one `write_all`. Where this cannot be written either, nothing is left to be told.
-pub fn complain<W: Write>(writer: &mut W, text: &[u8]) {
-    let _ = writer.write_all(text);
+// What stands in the way of a key, handed to one `write_all`.
+pub fn complain<W: Write>(writer: &mut W, text: &[u8]) -> Result<(), Unwritten>
+    ensures { OnOk result (Appends (W.contents writer.old) (W.contents writer.new) text.now) }
+{
+    writer.write_all(text).map_err(|_| Unwritten)
 }
